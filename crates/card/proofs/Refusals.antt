@@ -1,0 +1,183 @@
+-- The lowest refusal, one test at a time; and what the tests of a card look at.
+use Prim.Native.Nat.{ℕ, _+_, _*_, _≤_, _<_}
+use mathlib.Core.Path.{_≡_, refl, sym, _∙_, ap}
+use mathlib.Core.Bool.{Bool, true, false, not, _&&_, _||_, or-true, false≢true}
+use mathlib.Core.List.{List, [], _∷_, _++_}
+use mathlib.Core.Logic.{⊎-elim}
+use native.Mathlib.Nat.{not-suc-le-zero}
+use native.Mathlib.Omega.{arith}
+use lib.ListN.{length, getD, take}
+use lib.Dec.{eqb, leb, ltb}
+use borrow.Author.Tests.{lt-ltb, le-ltb, ltb-false, le-leb, lt-leb, leb-true, eq-eqb, ne-eqb, eqb-true, not-false}
+use Rattle.lists.specs.Numbers.{true-or-false}
+use Rattle.lists.specs.Lists.{sameList}
+use Rattle.lists.specs.Tests.{every, and-both, and-left, and-right}
+use Rattle.model.specs.declared.Refusal.{Refusal}
+use Rattle.model.specs.declared.Refusal.the-variants.{NotACard, Version, RackSize, SlotCount, CardLength, PriceRange, NotConvex, LoadRange}
+use Rattle.model.specs.declared.Answer.{Answer}
+use Rattle.model.specs.declared.Answer.the-variants.{Cost, Refused}
+use Rattle.model.specs.Instance.{Instance, instanceOf, markOf, cardMark, versionOf, cardLength, convex, tableInRange, pricesInRange, loadsInRange}
+use Rattle.model.specs.Calls.{Call, checkCard, applies, requestOf, lowest, rackNumber, answer, cardRefusals, refusals, successCost}
+use Rattle.card.specs.declared.Header.{Header}
+use Rattle.card.specs.Checking.{HeaderOf, Sized, found, frontRefusals, sizeRefusals, bodyRefusals}
+
+module _ (test : Refusal → Bool) where
+  pub lowest-hit : {x : Refusal} (xs : List Refusal) (a : Answer) → test x ≡ true → lowest test (x ∷ xs) a ≡ Refused x
+  unfolding lowest
+  lowest-hit xs a e = rw e
+
+  pub lowest-skip : {x : Refusal} (xs : List Refusal) (a : Answer) → test x ≡ false → lowest test (x ∷ xs) a ≡ lowest test xs a
+  unfolding lowest
+  lowest-skip xs a e = rw e
+
+  pub lowest-append : (xs ys : List Refusal) (a : Answer) → lowest test (xs ++ ys) a ≡ lowest test xs (lowest test ys a)
+  unfolding lowest
+  lowest-append [] ys a = refl
+  lowest-append (x ∷ xs) ys a = rw (lowest-append xs ys a)
+
+  -- where some of the refusals already give one, what follows does not matter
+  pub lowest-refused : (xs : List Refusal) (a : Answer) {b : Answer} {x : Refusal} {n : ℕ} → b ≡ Cost n → lowest test xs b ≡ Refused x → lowest test xs a ≡ Refused x
+  unfolding lowest
+  lowest-refused [] a {b} {x} {n} h e = cc
+  lowest-refused (y ∷ ys) a {b} h e =
+      ⊎-elim
+      (λ (t : test y ≡ true). rw t (sym (lowest-hit ys b t) ∙ e))
+      (λ (t : test y ≡ false). rw t (lowest-refused ys a h (sym (lowest-skip ys b t) ∙ e)))
+      (true-or-false (test y))
+
+  -- where the answer is a cost, the first refusal does not apply, and so on with the rest
+  pub lowest-passed : {x : Refusal} (xs : List Refusal) (a : Answer) {n : ℕ} → lowest test (x ∷ xs) a ≡ Cost n → (test x ≡ false) × (lowest test xs a ≡ Cost n)
+  lowest-passed {x} xs a {n} e = ⊎-elim hit skip (true-or-false (test x))
+    where
+      hit : test x ≡ true → (test x ≡ false) × (lowest test xs a ≡ Cost n)
+      hit t = let h = lowest-hit xs a t in (cc, cc)
+      skip : test x ≡ false → (test x ≡ false) × (lowest test xs a ≡ Cost n)
+      skip t = (t, sym (lowest-skip xs a t) ∙ e)
+
+-- Each lemma below is one way through the code: the tests passed and the one that failed.
+module _ (s : List ℕ) where
+  abbrev req : Call
+  req = checkCard s
+
+  mark-applies : {b : Bool} → sameList (markOf s) cardMark ≡ b → 17 ≤ length s → applies (requestOf req) NotACard ≡ not b
+  unfolding applies requestOf
+  mark-applies e h = rw (le-ltb _ _ h, e)
+
+  version-applies : {b : Bool} → eqb (versionOf s) 1 ≡ b → applies (requestOf req) Version ≡ not b
+  unfolding applies requestOf
+  version-applies e = rw e
+
+  pub front-short : length s < 17 → Refused NotACard ≡ found s frontRefusals
+  unfolding found lowest applies requestOf
+  front-short h = rw (lt-ltb _ _ h)
+
+  pub front-unmarked : 17 ≤ length s → sameList (markOf s) cardMark ≡ false → Refused NotACard ≡ found s frontRefusals
+  unfolding found lowest
+  front-unmarked h e = rw (mark-applies e h)
+
+  pub front-version : 17 ≤ length s → sameList (markOf s) cardMark ≡ true → (versionOf s ≡ 1 → ⊥) → Refused Version ≡ found s frontRefusals
+  unfolding found lowest
+  front-version h e n = rw (mark-applies e h, version-applies (ne-eqb _ _ n))
+
+  pub front-passed : 17 ≤ length s → sameList (markOf s) cardMark ≡ true → versionOf s ≡ 1 → Cost 0 ≡ found s frontRefusals
+  unfolding found lowest
+  front-passed h e v = rw (mark-applies e h, version-applies (eq-eqb _ _ v))
+
+  -- a card that passes has its first 17 bytes
+  pub front-length : {n : ℕ} → found s frontRefusals ≡ Cost n → 17 ≤ length s
+  unfolding found applies requestOf
+  front-length e = ltb-false _ _ (or-left _ _ (lowest-passed _ _ _ e .0))
+    where
+      or-left : (a b : Bool) → (a || b) ≡ false → a ≡ false
+      or-left true b f = f
+      or-left false b f = refl
+
+  module _ (h : Header) (given : HeaderOf s h) where
+    rack-applies : {a b : Bool} → rackNumber (h .modules) ≡ a → rackNumber (h .top) ≡ b → applies (requestOf req) RackSize ≡ (not a || not b)
+    unfolding applies requestOf
+    rack-applies e f = rw (← given .modules-is, ← given .top-is, e, f)
+
+    slots-applies : {b : Bool} → ltb 1024 (h .slots) ≡ b → applies (requestOf req) SlotCount ≡ b
+    unfolding applies requestOf
+    slots-applies e = rw (← given .slots-is, e)
+
+    size-applies : {b : Bool} → eqb (length s) (17 + 4 * (h .top + 1) + 2 * h .slots) ≡ b → applies (requestOf req) CardLength ≡ not b
+    unfolding applies requestOf cardLength
+    size-applies e = rw (← given .top-is, ← given .slots-is, e)
+
+    pub size-modules : rackNumber (h .modules) ≡ false → Refused RackSize ≡ found s sizeRefusals
+    unfolding found lowest
+    size-modules e = rw (rack-applies e refl)
+
+    module _ (m-ok : rackNumber (h .modules) ≡ true) where
+      pub size-top : rackNumber (h .top) ≡ false → Refused RackSize ≡ found s sizeRefusals
+      unfolding found lowest
+      size-top f = rw (rack-applies m-ok f)
+
+      module _ (top-ok : rackNumber (h .top) ≡ true) where
+        pub size-slots : 1024 < h .slots → Refused SlotCount ≡ found s sizeRefusals
+        unfolding found lowest
+        size-slots g = rw (rack-applies m-ok top-ok, slots-applies (lt-ltb _ _ g))
+
+        module _ (slots-ok : h .slots ≤ 1024) where
+          pub size-length : (length s ≡ 17 + 4 * (h .top + 1) + 2 * h .slots → ⊥) → Refused CardLength ≡ found s sizeRefusals
+          unfolding found lowest
+          size-length n = rw (rack-applies m-ok top-ok, slots-applies (le-ltb _ _ slots-ok), size-applies (ne-eqb _ _ n))
+
+          pub size-passed : length s ≡ 17 + 4 * (h .top + 1) + 2 * h .slots → Cost 0 ≡ found s sizeRefusals
+          unfolding found lowest
+          size-passed n = rw (rack-applies m-ok top-ok, slots-applies (le-ltb _ _ slots-ok), size-applies (eq-eqb _ _ n))
+
+    -- a card that passes has the length its header says
+    pub size-of : {n : ℕ} → found s sizeRefusals ≡ Cost n → Sized s h
+    unfolding found
+    size-of e =
+        let rack = lowest-passed _ _ _ e in
+        let slots = lowest-passed _ _ _ (rack .1) in
+        let size = lowest-passed _ _ _ (slots .1) .0 in
+        record { header = given; size = eqb-true _ _ (not-false _ (sym (size-applies refl) ∙ size)) }
+
+    price-applies :
+        {a b d : Bool} → leb (h .up) 500000000 ≡ a → leb (h .down) 500000000 ≡ b → tableInRange (h .top) (instanceOf s .table) ≡ d →
+        applies (requestOf req) PriceRange ≡ not (a && (b && d))
+    unfolding applies requestOf pricesInRange
+    price-applies e f g = rw (← given .up-is, ← given .down-is, ← given .top-is, e, f, g)
+
+    convex-applies : {b : Bool} → convex (h .top) (instanceOf s .table) ≡ b → applies (requestOf req) NotConvex ≡ not b
+    unfolding applies requestOf
+    convex-applies e = rw (← given .top-is, e)
+
+    load-applies : {b : Bool} → loadsInRange (instanceOf s) ≡ b → applies (requestOf req) LoadRange ≡ not b
+    unfolding applies requestOf
+    load-applies e = rw e
+
+    pub body-up : 500000000 < h .up → Refused PriceRange ≡ found s bodyRefusals
+    unfolding found lowest
+    body-up e = rw (price-applies (lt-leb _ _ e) refl refl)
+
+    module _ (up-ok : h .up ≤ 500000000) where
+      pub body-down : 500000000 < h .down → Refused PriceRange ≡ found s bodyRefusals
+      unfolding found lowest
+      body-down e = rw (price-applies (le-leb _ _ up-ok) (lt-leb _ _ e) refl)
+
+      module _ (down-ok : h .down ≤ 500000000) where
+        pub body-table : tableInRange (h .top) (instanceOf s .table) ≡ false → Refused PriceRange ≡ found s bodyRefusals
+        unfolding found lowest
+        body-table e = rw (price-applies (le-leb _ _ up-ok) (le-leb _ _ down-ok) e)
+
+        module _ (table-ok : tableInRange (h .top) (instanceOf s .table) ≡ true) where
+          prices : applies (requestOf req) PriceRange ≡ false
+          prices = price-applies (le-leb _ _ up-ok) (le-leb _ _ down-ok) table-ok
+
+          pub body-bent : convex (h .top) (instanceOf s .table) ≡ false → Refused NotConvex ≡ found s bodyRefusals
+          unfolding found lowest
+          body-bent e = rw (prices, convex-applies e)
+
+          module _ (convex-ok : convex (h .top) (instanceOf s .table) ≡ true) where
+            pub body-load : loadsInRange (instanceOf s) ≡ false → Refused LoadRange ≡ found s bodyRefusals
+            unfolding found lowest
+            body-load e = rw (prices, convex-applies convex-ok, load-applies e)
+
+            pub body-passed : loadsInRange (instanceOf s) ≡ true → Cost 0 ≡ found s bodyRefusals
+            unfolding found lowest
+            body-passed e = rw (prices, convex-applies convex-ok, load-applies e)

@@ -1,0 +1,1 @@
+// What one slot's column of the search and its selections are. Definitions only: see specs/.

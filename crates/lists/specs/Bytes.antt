@@ -1,0 +1,35 @@
+-- Little-endian numbers over the width: the definition, and one law for every width.
+use Prim.Native.Nat.{ℕ, zero, suc, _+_, _*_, _^_, _<_}
+use mathlib.Core.Path.{_≡_, refl, sym, _∙_, ap}
+use mathlib.Core.List.{List}
+use native.Mathlib.Nat.{zero-add, one-mul, suc-add, add-suc, pow-zero, pow-suc, add-zero}
+use native.Mathlib.Omega.{arith}
+use lib.ListN.{getD}
+
+-- the number in the w bytes of s from place p on, least byte first
+unfoldable pub littleEndian : ℕ → List ℕ → ℕ → ℕ
+littleEndian zero s p = 0
+littleEndian (suc w) s p = getD s p 0 + 256 * littleEndian w s (p + 1)
+
+-- one byte
+pub little-one : (s : List ℕ) (p : ℕ) → littleEndian 1 s p ≡ getD s p 0
+unfolding littleEndian
+little-one s p = omega arith
+
+-- a number of v + w bytes is one of v bytes and then one of w
+pub little-join : (v w : ℕ) (s : List ℕ) (p : ℕ) → littleEndian (v + w) s p ≡ littleEndian v s p + 256 ^ v * littleEndian w s (p + v)
+unfolding littleEndian
+little-join zero w s p = simp (zero-add, pow-zero, one-mul, add-zero)
+little-join (suc v) w s p =
+    let e = little-join v w s (p + 1) in
+    let at : p + suc v ≡ p + 1 + v = omega arith in
+    rw (suc-add v w, e, at, pow-suc) (omega arith)
+
+-- a number of w bytes is below 256 to the w
+pub little-bound : (w : ℕ) (s : List ℕ) (p : ℕ) → ((k : ℕ) → getD s k 0 < 256) → littleEndian w s p < 256 ^ w
+unfolding littleEndian
+little-bound zero s p h = simp pow-zero (omega arith)
+little-bound (suc w) s p h =
+    let e = little-bound w s (p + 1) h in
+    let b = h p in
+    rw pow-suc (omega arith)

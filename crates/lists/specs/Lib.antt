@@ -1,0 +1,6 @@
+-- General definitions and laws that know nothing of lamps. A module a subject.
+pub mod Numbers
+pub mod Tests
+pub mod Sums
+pub mod Lists
+pub mod Bytes

@@ -1,0 +1,66 @@
+-- Lists made from functions of an index.
+use Prim.Native.Nat.{ℕ, zero, suc}
+use mathlib.Core.Path.{_≡_, refl}
+use mathlib.Core.List.{List, [], _∷_, _++_}
+use mathlib.Core.Bool.{Bool, true, false, cond, _&&_, false≢true}
+use lib.Dec.{eqb}
+use borrow.Author.Tests.{eq-eqb, eqb-true}
+use Rattle.lists.specs.Tests.{and-left, and-right}
+
+-- the list f 0, .., f (n - 1)
+unfoldable pub tabulate : ℕ → (ℕ → ℕ) → List ℕ
+tabulate zero f = []
+tabulate (suc n) f = f 0 ∷ tabulate n (λ k. f (suc k))
+
+-- the lists f 0, .., f (n - 1) one after the other
+unfoldable pub rows : ℕ → (ℕ → List ℕ) → List ℕ
+rows zero f = []
+rows (suc n) f = rows n f ++ f n
+
+-- the elements at which the test holds, in their order
+unfoldable pub keep {ℓ} : {A : Type ℓ} → (A → Bool) → List A → List A
+keep f [] = []
+keep f (x ∷ xs) = cond (f x) (x ∷ keep f xs) (keep f xs)
+
+-- two lists of numbers are the same
+unfoldable pub sameList : List ℕ → List ℕ → Bool
+sameList [] [] = true
+sameList [] (y ∷ ys) = false
+sameList (x ∷ xs) [] = false
+sameList (x ∷ xs) (y ∷ ys) = eqb x y && sameList xs ys
+
+unfoldable pub sameLists : List (List ℕ) → List (List ℕ) → Bool
+sameLists [] [] = true
+sameLists [] (y ∷ ys) = false
+sameLists (x ∷ xs) [] = false
+sameLists (x ∷ xs) (y ∷ ys) = sameList x y && sameLists xs ys
+
+pub same-self : (xs : List ℕ) → sameList xs xs ≡ true
+unfolding sameList
+same-self [] = refl
+same-self (x ∷ xs) = rw (eq-eqb x x refl, same-self xs)
+
+pub same-selves : (xs : List (List ℕ)) → sameLists xs xs ≡ true
+unfolding sameLists
+same-selves [] = refl
+same-selves (x ∷ xs) = rw (same-self x, same-selves xs)
+
+pub same-list-equal : (xs ys : List ℕ) → sameList xs ys ≡ true → xs ≡ ys
+unfolding sameList
+same-list-equal [] [] e = refl
+same-list-equal [] (y ∷ ys) e = absurd (false≢true e)
+same-list-equal (x ∷ xs) [] e = absurd (false≢true e)
+same-list-equal (x ∷ xs) (y ∷ ys) e =
+    let h : x ≡ y = eqb-true x y (and-left (eqb x y) (sameList xs ys) e) in
+    let t : xs ≡ ys = same-list-equal xs ys (and-right (eqb x y) (sameList xs ys) e) in
+    cc
+
+pub same-lists-equal : (xs ys : List (List ℕ)) → sameLists xs ys ≡ true → xs ≡ ys
+unfolding sameLists
+same-lists-equal [] [] e = refl
+same-lists-equal [] (y ∷ ys) e = absurd (false≢true e)
+same-lists-equal (x ∷ xs) [] e = absurd (false≢true e)
+same-lists-equal (x ∷ xs) (y ∷ ys) e =
+    let h : x ≡ y = same-list-equal x y (and-left (sameList x y) (sameLists xs ys) e) in
+    let t : xs ≡ ys = same-lists-equal xs ys (and-right (sameList x y) (sameLists xs ys) e) in
+    cc

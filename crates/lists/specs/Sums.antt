@@ -1,0 +1,7 @@
+-- Sums of a function over the indices below a bound.
+use Prim.Native.Nat.{ℕ, zero, suc, _+_}
+
+-- f 0 + .. + f (n - 1)
+unfoldable pub sum : ℕ → (ℕ → ℕ) → ℕ
+sum zero f = 0
+sum (suc n) f = sum n f + f n

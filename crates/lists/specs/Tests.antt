@@ -1,0 +1,66 @@
+-- A test at every index below a bound.
+use Prim.Native.Nat.{ℕ, zero, suc, _+_, _≤_, _<_}
+use mathlib.Core.Path.{_≡_, refl, sym, _∙_}
+use mathlib.Core.Bool.{Bool, true, false, not, _&&_, true≢false}
+use mathlib.Core.Logic.{⊎-elim}
+use native.Mathlib.Nat.{not-suc-le-zero}
+use native.Mathlib.Numerals.{add-one}
+use native.Mathlib.Omega.{arith}
+use Rattle.lists.specs.Numbers.{le-or-lt, true-or-false}
+
+-- f holds at each of 0 to n - 1
+unfoldable pub every : ℕ → (ℕ → Bool) → Bool
+every zero f = true
+every (suc n) f = every n f && f n
+
+pub and-left : (a b : Bool) → (a && b) ≡ true → a ≡ true
+and-left true b e = refl
+and-left false b e = e
+
+pub and-right : (a b : Bool) → (a && b) ≡ true → b ≡ true
+and-right true b e = e
+and-right false b e = let z : _≡_ {A = Bool} b true = cc in z
+
+pub and-both : {a b : Bool} → a ≡ true → b ≡ true → (a && b) ≡ true
+and-both {a} {b} p q = rw (p, q)
+
+pub every-none : (f : ℕ → Bool) → every 0 f ≡ true
+unfolding every
+every-none f = refl
+
+pub every-more : (n : ℕ) (f : ℕ → Bool) → every n f ≡ true → f n ≡ true → every (n + 1) f ≡ true
+unfolding every
+every-more n f e h = rw (add-one n) (and-both e h)
+
+-- what holds at every index holds at each
+pub every-at : (n : ℕ) (f : ℕ → Bool) → every n f ≡ true → (k : ℕ) → k < n → f k ≡ true
+unfolding every
+every-at zero f e k h = absurd (not-suc-le-zero h)
+every-at (suc n) f e k h =
+    ⊎-elim
+    (λ (g : n ≤ k). let same : k ≡ n = omega arith in rw same (and-right (every n f) (f n) e))
+    (every-at n f (and-left (every n f) (f n) e) k)
+    (le-or-lt n k)
+
+-- what holds at each index holds at every index
+pub every-all : (n : ℕ) (f : ℕ → Bool) → ((k : ℕ) → k < n → f k ≡ true) → every n f ≡ true
+unfolding every
+every-all zero f h = refl
+every-all (suc n) f h = and-both (every-all n f (λ k g. h k (omega arith))) (h n (omega arith))
+
+-- one index at which it fails
+pub every-fails : (n : ℕ) (f : ℕ → Bool) (k : ℕ) → k < n → f k ≡ false → every n f ≡ false
+every-fails n f k h e =
+    ⊎-elim
+    (λ (t : every n f ≡ true). absurd (true≢false (sym (every-at n f t k h) ∙ e)))
+    (λ (t : every n f ≡ false). t)
+    (true-or-false (every n f))
+
+-- What a branch on `!flag` says of the test that the flag stands for.
+pub test-failed : {flag test : Bool} → flag ≡ test → not flag ≡ true → test ≡ false
+test-failed {flag = true} e f = absurd (true≢false (sym f))
+test-failed {flag = false} e f = sym e
+
+pub test-passed : {flag test : Bool} → flag ≡ test → not flag ≡ false → test ≡ true
+test-passed {flag = true} e f = sym e
+test-passed {flag = false} e f = absurd (true≢false f)

@@ -1,0 +1,32 @@
+-- The number and the cost of an answer (document 01, 'Refused').
+use Prim.Native.Nat.{ℕ}
+use Rattle.model.specs.declared.Refusal.{Refusal}
+use Rattle.model.specs.declared.Refusal.the-variants.{NotACard, Version, RackSize, SlotCount, CardLength, PriceRange, NotConvex, LoadRange, NotMonotone, BufferTooShort, WrongLength, EntryRange, LoadNotServed}
+use Rattle.model.specs.declared.Answer.{Answer}
+use Rattle.model.specs.declared.Answer.the-variants.{Cost, Refused}
+
+-- the table's column 'no.'
+abbrev pub refusalNumber : Refusal → ℕ
+refusalNumber NotACard = 1
+refusalNumber Version = 2
+refusalNumber RackSize = 3
+refusalNumber SlotCount = 4
+refusalNumber CardLength = 5
+refusalNumber PriceRange = 6
+refusalNumber NotConvex = 7
+refusalNumber LoadRange = 8
+refusalNumber NotMonotone = 9
+refusalNumber BufferTooShort = 10
+refusalNumber WrongLength = 11
+refusalNumber EntryRange = 12
+refusalNumber LoadNotServed = 13
+
+-- 'A success gives number 0 and the cost'
+abbrev pub numberOf : Answer → ℕ
+numberOf (Cost c) = 0
+numberOf (Refused r) = refusalNumber r
+
+-- 'A refusal gives its number and cost 0'
+abbrev pub costOf : Answer → ℕ
+costOf (Cost c) = c
+costOf (Refused r) = 0

@@ -1,0 +1,35 @@
+-- Counts of active modules: their running cost, and which counts are allowed (document 01, 'Running cost of a count', 'The plans').
+use Prim.Native.Nat.{ℕ, _+_, _-_, _*_, _/_, _%_, _^_}
+use mathlib.Core.Bool.{Bool, true, false, cond, not, _||_}
+use mathlib.Core.List.{List, headD}
+use lib.Dec.{leb, eqb}
+use Rattle.lists.specs.Tests.{every}
+use Rattle.lists.specs.Lists.{tabulate, keep}
+use Rattle.model.specs.Instance.{Instance}
+
+-- A count n can serve a load L if L ≤ n × Q.
+unfoldable pub canServe : Instance → ℕ → ℕ → Bool
+canServe i n l = leb l (n * i .topStep)
+
+-- 'Running cost of a count': (n − r)F(q) + rF(q+1) with q = L div n and r = L mod n; with r = 0 the second term is 0; count 0
+-- costs 0. Of a count that cannot serve the load the result means nothing.
+unfoldable pub operatingCost : Instance → ℕ → ℕ → ℕ
+operatingCost i n l =
+    cond (eqb n 0) 0
+    ((n - l % n) * i .table (l / n) + cond (eqb (l % n) 0) 0 (l % n * i .table (l / n + 1)))
+
+-- 'all from 0 to m'
+unfoldable pub allCounts : ℕ → List ℕ
+allCounts m = tabulate (m + 1) (λ n. n)
+
+-- n is 2 to some power; that power is below n
+unfoldable pub powerOfTwo : ℕ → Bool
+powerOfTwo n = not (every n (λ j. not (eqb n (2 ^ j))))
+
+-- 'Coarse: the allowed counts 0, each power of two up to m, and m', ascending
+unfoldable pub coarseCounts : ℕ → List ℕ
+coarseCounts m = keep (λ n. eqb n 0 || (eqb n m || powerOfTwo n)) (allCounts m)
+
+-- 'Rounded count of n in a rack of m: the smallest allowed count not below n.' For n above m it means nothing.
+unfoldable pub roundedCount : ℕ → ℕ → ℕ
+roundedCount m n = headD (keep (λ a. leb n a) (coarseCounts m)) 0

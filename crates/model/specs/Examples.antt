@@ -1,0 +1,162 @@
+-- Document 01's starred examples, A to J: one table, one proof. Beside it, the answers of wrong programs, which differ.
+use Prim.Native.Nat.{ℕ, zero, suc, _-_, _/_, _%_}
+use Prim.Native.String.{String}
+use mathlib.Core.Path.{_≡_, refl, ap, sym, _∙_}
+use mathlib.Core.Bool.{Bool, true, false, not, false≢true}
+use mathlib.Core.List.{List, [], _∷_, _++_, map, flatMap, headD}
+use lib.ListN.{length, getD, take, replicate}
+use native.Mathlib.Omega.{arith}
+use Rattle.lists.specs.Tests.{every}
+use Rattle.lists.specs.Sums.{sum}
+use Rattle.lists.specs.Lists.{tabulate, rows, keep, sameList, sameLists, same-selves, same-lists-equal}
+use Rattle.lists.specs.Bytes.{littleEndian}
+use Rattle.model.specs.declared.Answer.{Answer}
+use Rattle.model.specs.declared.Answer.the-variants.{Cost, Refused}
+use Rattle.model.specs.declared.Refusal.the-variants.{LoadRange, BufferTooShort}
+use Rattle.model.specs.Answers.{numberOf, costOf}
+use Rattle.model.specs.Instance.{instanceOf, cardMark, cardLength, bendsUp, convex, neverFalls, tableInRange, pricesInRange, loadsInRange}
+use Rattle.model.specs.Counts.{canServe, operatingCost, allCounts, powerOfTwo, coarseCounts, roundedCount}
+use Rattle.model.specs.Sheets.{stateAt, sheetLength, sheetEntries, lightAt, sheetLight, stepCost, changeCost, sheetCost}
+use Rattle.model.specs.Plans.{moduleByte, slotRow, sheetOf, planCost, planServes, plansInOrder, cheapest, cheapestOf, leastPlan}
+use Rattle.model.specs.Calls.{Call, checkCard, runningCost, planExact, planCoarse, makeSheet, markSheet, roundCount}
+use Rattle.model.specs.Calls.{rightLength, entriesInRange, loadsServed, anyShort, requestOf, applies, refusals, lowest, successCost}
+use Rattle.model.specs.Calls.{answer, atExit, exactPlanAtExit, exactWorkAtExit, coarsePlanAtExit, coarseWorkAtExit, sheetAtExit, buffersAtExit, outcome}
+
+-- a number in w bytes, least byte first
+abbrev bytesOf : ℕ → ℕ → List ℕ
+bytesOf zero n = []
+bytesOf (suc w) n = (n % 256) ∷ bytesOf w (n / 256)
+
+-- a card's bytes: modules, top step, prices, table, loads
+abbrev cardOf : ℕ → ℕ → ℕ → ℕ → List ℕ → List ℕ → List ℕ
+cardOf m q up down f loads =
+    cardMark ++
+    (bytesOf 2 1 ++
+    (bytesOf 1 m ++
+    (bytesOf 1 q ++ (bytesOf 2 (length loads) ++ (bytesOf 4 up ++ (bytesOf 4 down ++ (flatMap (bytesOf 4) f ++ flatMap (bytesOf 2) loads)))))))
+
+-- card A, as document 01 prints it
+abbrev cardA : List ℕ
+cardA =
+    0x44 ∷ 0x4C ∷ 0x53 ∷ 0x01 ∷ 0x00 ∷ 0x03 ∷ 0x02 ∷ 0x03 ∷ 0x00 ∷ 0x03 ∷ 0x00 ∷ 0x00 ∷ 0x00 ∷ 0x02 ∷ 0x00 ∷ 0x00 ∷ 0x00 ∷
+    0x01 ∷ 0x00 ∷ 0x00 ∷ 0x00 ∷ 0x02 ∷ 0x00 ∷ 0x00 ∷ 0x00 ∷ 0x04 ∷ 0x00 ∷ 0x00 ∷ 0x00 ∷ 0x06 ∷ 0x00 ∷ 0x00 ∷ 0x00 ∷ 0x02 ∷ 0x00 ∷ []
+
+abbrev cardE : List ℕ
+cardE = cardOf 8 1 1 0 (0 ∷ 0 ∷ []) (5 ∷ 3 ∷ 5 ∷ [])
+
+abbrev cardF : List ℕ
+cardF = cardOf 2 1 1 0 (0 ∷ 0 ∷ []) (1 ∷ 0 ∷ [])
+
+abbrev cardG : List ℕ
+cardG = cardOf 2 2 0 0 (5 ∷ 1 ∷ 9 ∷ []) (2 ∷ [])
+
+abbrev cardI : List ℕ
+cardI = cardOf 3 2 3 2 (1 ∷ 2 ∷ 4 ∷ []) []
+
+-- the card of 01's plausible error of rounding each exact count up
+abbrev cardUp : List ℕ
+cardUp = cardOf 4 2 1 0 (1 ∷ 1 ∷ 4 ∷ []) (3 ∷ [])
+
+-- a lent buffer of n bytes, full of 7
+abbrev lent : ℕ → List ℕ
+lent n = replicate n 7
+
+-- the first bytes of a buffer of n bytes are written, the rest still 7
+abbrev over : ℕ → List ℕ → List ℕ
+over n written = written ++ replicate (n - length written) 7
+
+pub record Example : Type 0 where
+  pub name : String
+  pub found : List (List ℕ)
+  pub expected : List (List ℕ)
+
+-- a call and its expected number, cost and buffers at exit
+abbrev row : String → Call → ℕ → ℕ → List (List ℕ) → Example
+row n c number cost buffers = record { name = n; found = outcome c; expected = (number ∷ cost ∷ []) ∷ buffers }
+
+abbrev counts : String → ℕ → List ℕ → Example
+counts n m list = record { name = n; found = coarseCounts m ∷ []; expected = list ∷ [] }
+
+starred : List Example
+starred =
+    row "A exact" (planExact cardA (lent 5) (lent 14)) 0 32 (over 5 (3 ∷ 1 ∷ 1 ∷ []) ∷ over 14 (replicate 12 0) ∷ []) ∷
+    row "A sheet" (makeSheet cardA (3 ∷ 1 ∷ 1 ∷ []) (lent 11)) 0 32 (over 11 (2 ∷ 2 ∷ 2 ∷ 0 ∷ 255 ∷ 255 ∷ 2 ∷ 255 ∷ 255 ∷ []) ∷ []) ∷
+    row "B" (runningCost cardA 3 4) 0 8 [] ∷
+    row "C cannot serve" (runningCost cardA 2 5) 13 0 [] ∷
+    row "C none" (runningCost cardA 0 0) 0 0 [] ∷
+    row "D" (markSheet cardA (2 ∷ 2 ∷ 2 ∷ 255 ∷ 0 ∷ 255 ∷ 2 ∷ 255 ∷ 255 ∷ [])) 0 37 [] ∷
+    row "D last byte 0" (markSheet cardA (2 ∷ 2 ∷ 2 ∷ 255 ∷ 0 ∷ 255 ∷ 2 ∷ 255 ∷ 0 ∷ [])) 0 43 [] ∷
+    row "E exact" (planExact cardE (lent 4) (lent 28)) 0 5 (over 4 (5 ∷ 5 ∷ 5 ∷ []) ∷ over 28 (replicate 27 0) ∷ []) ∷
+    row "E coarse" (planCoarse cardE (lent 4) (lent 31)) 0 8 (over 4 (8 ∷ 8 ∷ 8 ∷ []) ∷ over 31 (replicate 30 0) ∷ []) ∷
+    row "F" (planExact cardF (lent 3) (lent 7)) 0 1 (over 3 (1 ∷ 0 ∷ []) ∷ over 7 (replicate 6 0) ∷ []) ∷
+    row "G exact" (planExact cardG (lent 2) (lent 4)) 0 2 (over 2 (2 ∷ []) ∷ over 4 (replicate 3 0) ∷ []) ∷
+    row "G coarse" (planCoarse cardG (lent 2) (lent 11)) 9 0 (lent 2 ∷ lent 11 ∷ []) ∷
+    row "H refused" (checkCard (cardOf 3 2 3 2 (0 ∷ 2 ∷ 3 ∷ []) (1 ∷ []))) 7 0 [] ∷
+    row "H accepted" (checkCard (cardOf 3 2 3 2 (0 ∷ 2 ∷ 4 ∷ []) (1 ∷ []))) 0 0 [] ∷
+    row "I exact" (planExact cardI (lent 2) (lent 2)) 0 0 (lent 2 ∷ lent 2 ∷ []) ∷
+    row "I coarse" (planCoarse cardI (lent 2) (lent 2)) 0 0 (lent 2 ∷ lent 2 ∷ []) ∷
+    counts "J rack of 1" 1 (0 ∷ 1 ∷ []) ∷
+    counts "J rack of 128" 128 (0 ∷ 1 ∷ 2 ∷ 4 ∷ 8 ∷ 16 ∷ 32 ∷ 64 ∷ 128 ∷ []) ∷
+    counts "J rack of 200" 200 (0 ∷ 1 ∷ 2 ∷ 4 ∷ 8 ∷ 16 ∷ 32 ∷ 64 ∷ 128 ∷ 200 ∷ []) ∷
+    row "plausible error: rounding up" (planCoarse cardUp (lent 1) (lent 10)) 0 7 ((2 ∷ []) ∷ replicate 10 0 ∷ []) ∷
+    []
+
+-- Nothing proves it: where a row does not hold, the check names it by this.
+data Failed (name : String) : Type 0 where
+
+abbrev verdict : String → Bool → Type 0
+verdict n true = Unit {0}
+verdict n false = Failed n
+
+-- every row holds
+abbrev AllHold : List Example → Type 0
+AllHold [] = Unit {0}
+AllHold (e ∷ es) = verdict (e .name) (sameLists (e .found) (e .expected)) × AllHold es
+
+-- what a row that holds says
+holds-equal : (n : String) (x y : List (List ℕ)) → verdict n (sameLists x y) → x ≡ y
+holds-equal n x y v = same-lists-equal x y (go (sameLists x y) v)
+  where
+    go : (b : Bool) → verdict n b → b ≡ true
+    go true w = refl
+    go false w = elim w [ ]
+
+abbrev numbers : Call → List (List ℕ)
+numbers c = (numberOf (answer c) ∷ []) ∷ []
+
+abbrev costs : Call → List (List ℕ)
+costs c = (costOf (answer c) ∷ []) ∷ []
+
+-- Wrong programs of document 01's last section, and two plausible errors: `expected` is what the program would answer.
+wrong : List Example
+wrong =
+    record { name = "full rack always (A)"; found = exactPlanAtExit cardA (lent 5) (lent 14) ∷ []; expected = over 5 (3 ∷ 3 ∷ 3 ∷ []) ∷ [] } ∷
+    record { name = "slot 1's count repeated (F)"; found = exactPlanAtExit cardF (lent 3) (lent 7) ∷ []; expected = over 3 (1 ∷ 1 ∷ []) ∷ [] } ∷
+    record { name = "no plan written (A)"; found = exactPlanAtExit cardA (replicate 5 255) (lent 14) ∷ []; expected = replicate 5 255 ∷ [] } ∷
+    record { name = "8 in every card (A)"; found = numbers (checkCard cardA); expected = (8 ∷ []) ∷ [] } ∷
+    record { name = "10 in every card (A)"; found = numbers (planExact cardA (lent 5) (lent 14)); expected = (10 ∷ []) ∷ [] } ∷
+    record { name = "invented cost: the least (D)"; found = costs (markSheet cardA (2 ∷ 2 ∷ 2 ∷ 255 ∷ 0 ∷ 255 ∷ 2 ∷ 255 ∷ 255 ∷ [])); expected = (32 ∷ []) ∷ [] } ∷
+    record { name = "rounding exact counts up"; found = coarsePlanAtExit cardUp (lent 1) (lent 10) ∷ []; expected = (4 ∷ []) ∷ [] } ∷
+    []
+
+-- no row holds
+abbrev NoneHold : List Example → Type 0
+NoneHold [] = Unit {0}
+NoneHold (e ∷ es) = verdict (e .name) (not (sameLists (e .found) (e .expected))) × NoneHold es
+
+-- what a row that does not hold says
+fails-differ : (n : String) (x y : List (List ℕ)) → verdict n (not (sameLists x y)) → x ≡ y → ⊥
+fails-differ n x y v e = go (sameLists x y) v (ap (sameLists x) (sym e) ∙ same-selves x)
+  where
+    go : (b : Bool) → verdict n (not b) → b ≡ true → ⊥
+    go true w t = elim w [ ]
+    go false w t = false≢true t
+
+-- Both tables, by one computation.
+tables-hold : AllHold starred × NoneHold wrong
+unfolding starred wrong sameLists sameList every sum tabulate rows keep littleEndian instanceOf cardLength bendsUp convex neverFalls tableInRange pricesInRange
+    loadsInRange canServe operatingCost allCounts powerOfTwo coarseCounts roundedCount stateAt sheetLength sheetEntries lightAt sheetLight
+    stepCost changeCost sheetCost moduleByte slotRow sheetOf planCost planServes plansInOrder cheapest cheapestOf leastPlan
+    rightLength entriesInRange loadsServed anyShort requestOf applies refusals lowest successCost answer atExit exactPlanAtExit
+    exactWorkAtExit coarsePlanAtExit coarseWorkAtExit sheetAtExit buffersAtExit outcome flatMap headD
+tables-hold = omega arith

@@ -1,0 +1,10 @@
+-- What a reader must believe: document 01's terms and the outcome of every call, as definitions. No theorem stands here but
+-- the starred examples. Read in this order.
+pub mod Answers
+pub mod Instance
+pub mod Counts
+pub mod Sheets
+pub mod Thesis
+pub mod Plans
+pub mod Calls
+pub mod Examples

@@ -1,0 +1,58 @@
+-- Sheets: when one serves a show, and what it costs (document 01, 'Terms').
+use Prim.Native.Nat.{ℕ, zero, suc, _+_, _*_}
+use mathlib.Core.Bool.{Bool, cond, _&&_, _||_}
+use mathlib.Core.List.{List}
+use lib.ListN.{length, getD}
+use lib.Dec.{leb, ltb, eqb}
+use Rattle.lists.specs.Tests.{every}
+use Rattle.lists.specs.Sums.{sum}
+use Rattle.model.specs.Instance.{Instance}
+
+-- 'the step, or 255 for off'
+abbrev pub off : ℕ
+off = 255
+
+abbrev pub isOff : ℕ → Bool
+isOff b = eqb b off
+
+-- The step or off of module k (from 0) in slot t, where slots are 1 to T: 'one byte for each slot and module, slot by slot,
+-- module 1 first'; 'All are off before slot 1 and after the last slot.'
+unfoldable pub stateAt : Instance → List ℕ → ℕ → ℕ → ℕ
+stateAt i s zero k = off
+stateAt i s (suc t) k = cond (ltb t (i .slots)) (getD s (t * i .modules + k) off) off
+
+-- 'A sheet serves it if it has m × T bytes,'
+unfoldable pub sheetLength : Instance → List ℕ → Bool
+sheetLength i s = eqb (length s) (i .modules * i .slots)
+
+-- 'each 0 to Q or 255,'
+unfoldable pub sheetEntries : Instance → List ℕ → Bool
+sheetEntries i s = every (length s) (λ k. leb (getD s k off) (i .topStep) || isOff (getD s k off))
+
+-- 'and in every slot the steps of the burning modules sum to the load.'
+abbrev pub stepOf : ℕ → ℕ
+stepOf b = cond (isOff b) 0 b
+
+unfoldable pub lightAt : Instance → List ℕ → ℕ → ℕ
+lightAt i s t = sum (i .modules) (λ k. stepOf (stateAt i s t k))
+
+unfoldable pub sheetLight : Instance → List ℕ → Bool
+sheetLight i s = every (i .slots) (λ t. eqb (lightAt i s (suc t)) (i .load t))
+
+unfoldable pub serves : Instance → List ℕ → Bool
+serves i s = sheetLength i s && (sheetEntries i s && sheetLight i s)
+
+-- 'A module at step 0 burns and costs F(0); one that is off costs nothing.'
+unfoldable pub stepCost : Instance → ℕ → ℕ
+stepCost i b = cond (isOff b) 0 (i .table b)
+
+-- 'Each change from off to burning costs the warm-up price, each change to off the cool-down price'
+unfoldable pub changeCost : Instance → ℕ → ℕ → ℕ
+changeCost i a b = cond (isOff a) (cond (isOff b) 0 (i .powerUp)) (cond (isOff b) (i .powerDown) 0)
+
+-- 'F(step) summed over all slots and burning modules, plus the prices of all changes, module by module'; the changes into
+-- slots 1 to T and the one after the last slot
+unfoldable pub sheetCost : Instance → List ℕ → ℕ
+sheetCost i s =
+    sum (i .slots) (λ t. sum (i .modules) (λ k. stepCost i (stateAt i s (suc t) k))) +
+    sum (i .slots + 1) (λ t. sum (i .modules) (λ k. changeCost i (stateAt i s t k) (stateAt i s (suc t) k)))

@@ -1,0 +1,75 @@
+-- The hypotheses that the theorems share, as propositions.
+use Prim.Native.Nat.{ℕ, _+_, _-_, _*_, _≤_, _<_}
+use mathlib.Core.Path.{_≡_}
+use mathlib.Core.Bool.{true, cond, _||_}
+use mathlib.Core.List.{List}
+use lib.ListN.{length, getD}
+use lib.Dec.{leb}
+use Rattle.lists.specs.Sums.{sum}
+use Rattle.model.specs.Instance.{Instance}
+use Rattle.model.specs.Counts.{canServe, operatingCost}
+use Rattle.model.specs.Sheets.{isOff, stepOf, stepCost, off}
+use Rattle.model.specs.Thesis.{switchingPrice, countsCost}
+use Rattle.model.specs.Plans.{Allowed, NotAfter, planServes}
+use Rattle.columns.specs.Column.{countAtPlace, lastPlace}
+
+-- Tables.
+abbrev pub Convex : ℕ → (ℕ → ℕ) → Type 0
+Convex q f = (k : ℕ) → k + 1 < q → 2 * f (k + 1) ≤ f k + f (k + 2)
+
+abbrev pub NeverFalls : ℕ → (ℕ → ℕ) → Type 0
+NeverFalls q f = (k : ℕ) → k < q → f k ≤ f (k + 1)
+
+-- the full rack serves every load
+abbrev pub LoadsFit : Instance → Type 0
+LoadsFit i = (t : ℕ) → t < i .slots → i .load t ≤ i .modules * i .topStep
+
+-- Rows of bytes, one for each of m modules.
+abbrev pub Entry : Instance → ℕ → Type 0
+Entry i b = (leb b (i .topStep) || isOff b) ≡ true
+
+unfoldable pub activeIn : ℕ → (ℕ → ℕ) → ℕ
+activeIn m b = sum m (λ k. cond (isOff (b k)) 0 1)
+
+unfoldable pub lightIn : ℕ → (ℕ → ℕ) → ℕ
+lightIn m b = sum m (λ k. stepOf (b k))
+
+unfoldable pub costIn : Instance → ℕ → (ℕ → ℕ) → ℕ
+costIn i m b = sum m (λ k. stepCost i (b k))
+
+-- Plans whose sheet can be written: each count is in the rack and serves its load, and no step is the byte for off.
+pub record PlanFits (i : Instance) (p : List ℕ) : Type 0 where
+  pub steps : i .topStep < off
+  pub slotwise : length p ≡ i .slots
+  pub in-rack : (t : ℕ) → t < i .slots → getD p t 0 ≤ i .modules
+  pub served : planServes i p ≡ true
+
+-- A list of allowed counts: strictly ascending from 0 to m, with at least one count after 0.
+pub record Ascending (counts : List ℕ) (m : ℕ) : Type 0 where
+  pub two : 2 ≤ length counts
+  pub first : countAtPlace counts 0 ≡ 0
+  pub last : countAtPlace counts (lastPlace counts) ≡ m
+  pub rises : (j : ℕ) → j + 1 < length counts → countAtPlace counts j < countAtPlace counts (j + 1)
+
+-- What one slot with load l makes of a column: the least over all places that serve, and the smallest place that attains it.
+pub record SlotStep (i : Instance) (counts : List ℕ) (l : ℕ) (before after chosen : ℕ → ℕ) : Type 0 where
+  pub at-most :
+    (j k : ℕ) → j < length counts → k < length counts → canServe i (countAtPlace counts k) l ≡ true →
+    after j ≤ before k + operatingCost i (countAtPlace counts k) l + switchingPrice i * (countAtPlace counts j - countAtPlace counts k)
+  pub chosen-in : (j : ℕ) → j < length counts → chosen j < length counts
+  pub chosen-serves : (j : ℕ) → j < length counts → canServe i (countAtPlace counts (chosen j)) l ≡ true
+  pub attained :
+    (j : ℕ) → j < length counts →
+    after j ≡
+    before (chosen j) + operatingCost i (countAtPlace counts (chosen j)) l +
+    switchingPrice i * (countAtPlace counts j - countAtPlace counts (chosen j))
+  pub smallest :
+    (j k : ℕ) → j < length counts → k < length counts → canServe i (countAtPlace counts k) l ≡ true →
+    after j ≡ before k + operatingCost i (countAtPlace counts k) l + switchingPrice i * (countAtPlace counts j - countAtPlace counts k) →
+    chosen j ≤ k
+
+-- The least plan by counts from a start count, with the tie rule.
+pub record LeastByCounts (i : Instance) (counts : List ℕ) (start : ℕ) (p : List ℕ) : Type 0 where
+  pub allowed : Allowed i counts p
+  pub least : (r : List ℕ) → Allowed i counts r → countsCost i start p ≤ countsCost i start r
+  pub first : (r : List ℕ) → Allowed i counts r → countsCost i start r ≡ countsCost i start p → NotAfter i p r
