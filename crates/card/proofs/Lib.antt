@@ -1,3 +1,4 @@
 pub mod Reading
 pub mod Mark
 pub mod Refusals
+pub mod Groups

@@ -54,6 +54,14 @@ module _ (test : Refusal → Bool) where
       skip : test x ≡ false → (test x ≡ false) × (lowest test xs a ≡ Cost n)
       skip t = (t, sym (lowest-skip xs a t) ∙ e)
 
+  -- where some of the refusals pass, the answer is that of the rest
+  pub lowest-through : (xs : List Refusal) (a b : Answer) {n : ℕ} → lowest test xs b ≡ Cost n → lowest test xs a ≡ a
+  unfolding lowest
+  lowest-through [] a b e = refl
+  lowest-through (x ∷ xs) a b e =
+      let p = lowest-passed xs b e in
+      rw (p .0) (lowest-through xs a b (p .1))
+
 -- Each lemma below is one way through the code: the tests passed and the one that failed.
 module _ (s : List ℕ) where
   abbrev req : Call

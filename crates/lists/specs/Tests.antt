@@ -64,3 +64,20 @@ test-failed {flag = false} e f = sym e
 pub test-passed : {flag test : Bool} → flag ≡ test → not flag ≡ false → test ≡ true
 test-passed {flag = true} e f = sym e
 test-passed {flag = false} e f = absurd (true≢false f)
+
+-- A loop that tests one index after the other: k of n have passed.
+pub record Passed (n : ℕ) (f : ℕ → Bool) (k : ℕ) : Type 0 where
+  pub within : k ≤ n
+  pub so-far : every k f ≡ true
+
+pub passed-none : (n : ℕ) (f : ℕ → Bool) → Passed n f 0
+passed-none n f = record { within = omega arith; so-far = every-none f }
+
+pub passed-more : {n k : ℕ} {f : ℕ → Bool} → Passed n f k → k < n → f k ≡ true → Passed n f (k + 1)
+passed-more {n} {k} {f} p h e = record { within = omega arith; so-far = every-more k f (p .so-far) e }
+
+pub passed-all : {n k : ℕ} {f : ℕ → Bool} → Passed n f k → n ≤ k → true ≡ every n f
+passed-all {n} {k} {f} p h = let same : n ≡ k = omega arith in rw same (sym (p .so-far))
+
+pub passed-not : {n k : ℕ} {f : ℕ → Bool} → Passed n f k → k < n → f k ≡ false → false ≡ every n f
+passed-not {n} {k} {f} p h e = sym (every-fails n f k h e)

@@ -1,3 +1,4 @@
+use Rattle.model.specs.Instance.{bendsUp}
 use borrow.Author.Needs.{needs}
 use Rattle.card.proofs.bends_up.Statement.{statement}
 use Rattle.card.proofs.bends_up.Tie as tie
@@ -35,7 +36,8 @@ add-result c = search needs
 
 -- src/lib.rt:230:1
 returns : tie.Need-returns
-returns c = ?
+unfolding bendsUp
+returns c = rw (← (c .before .before .entry .ensures .is), ← (c .before .entry2 .ensures .is), ← (c .entry3 .ensures .is))
 
 pub bends-up-spec : {M : Type 1} → statement M
 bends-up-spec =

@@ -1,3 +1,9 @@
+use Prim.Native.Nat.{_+_, _-_}
+use native.Mathlib.Omega.{arith}
+use lib.Dec.{leb}
+use borrow.Author.Tests.{le-leb, lt-leb}
+use Rattle.lists.specs.Tests.{Passed, passed-none, passed-more, passed-all, passed-not}
+use Rattle.model.specs.Instance.{instanceOf, tableInRange}
 use Rattle.card.proofs.table_in_range.Statement.{statement}
 use Rattle.card.proofs.table_in_range.Tie as tie
 use Rattle.card.proofs.table_in_range.Reads as reads
@@ -5,38 +11,40 @@ use Rattle.card.proofs.table_in_range.Lts as lts
 use Rattle.card.proofs.entry.Reads as entry-reads
 
 abbrev Inv-loop : tie.InvT-loop
-Inv-loop card top k₀ k = ?
+Inv-loop card top k₀ k = Passed (top + 1) (λ j. leb (instanceOf card .table j) 1000000) k
 
 abbrev μ-loop : tie.MeasureT-loop
-μ-loop card top k₀ k = ?
+μ-loop card top k₀ k = top + 1 - k
 
 -- src/lib.rt:220:5
 loop-holds : tie.Need-loop-holds Inv-loop μ-loop
-loop-holds c = ?
+loop-holds c = passed-none _ _
 
 -- src/lib.rt:221:22
 entry-requires : tie.Need-entry-requires Inv-loop μ-loop
-entry-requires c κs = ?
+entry-requires c κs = omega arith
 
 -- src/lib.rt:222:13
 returns : tie.Need-returns Inv-loop μ-loop
-returns c = ?
+unfolding tableInRange
+returns c = passed-not (c .before .before .before .loop .inv) (omega (arith, c .before .before .loop-test .taken)) (rw (← (c .before .entry .ensures .is)) (lt-leb _ _ (c .if1 .taken)))
 
 -- src/lib.rt:224:9
 add-k : tie.Need-add-k Inv-loop μ-loop
-add-k c = ?
+add-k c = omega (arith, c .before .before .before .before .before .good .0, c .before .before .before .before .before .pre .room)
 
 -- src/lib.rt:220:5
 loop-less : tie.Need-loop-less Inv-loop μ-loop
-loop-less c = ?
+loop-less c = omega arith
 
 -- src/lib.rt:220:5
 loop-again : tie.Need-loop-again Inv-loop μ-loop
-loop-again c = ?
+loop-again c = passed-more (c .before .before .before .loop .inv) (omega (arith, c .before .before .loop-test .taken)) (rw (← (c .before .entry .ensures .is)) (le-leb _ _ (c .if1 .left)))
 
 -- src/lib.rt:215:1
 returns-2 : tie.Need-returns-2 Inv-loop μ-loop
-returns-2 c = ?
+unfolding tableInRange
+returns-2 c = passed-all (c .before .loop .inv) (omega (arith, c .loop-test .left))
 
 pub table-in-range-spec : {M : Type 1} → statement M
 table-in-range-spec =

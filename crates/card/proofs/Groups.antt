@@ -1,0 +1,61 @@
+-- The card's answer from its three groups of refusals.
+use Prim.Native.Nat.{ℕ}
+use mathlib.Core.Path.{_≡_, refl, sym, _∙_, ap}
+use mathlib.Core.List.{List}
+use Rattle.model.specs.declared.Refusal.{Refusal}
+use Rattle.model.specs.declared.Answer.the-variants.{Cost, Refused}
+use Rattle.model.specs.Instance.{instanceOf}
+use Rattle.model.specs.Calls.{checkCard, applies, requestOf, lowest, answer, refusals, successCost}
+use Rattle.card.specs.declared.Header.{Header}
+use Rattle.card.specs.declared.Checked.the-variants.{Accepted, NotAccepted}
+use Rattle.card.specs.Checking.{HeaderOf, found, frontRefusals, sizeRefusals, bodyRefusals, headerOf, checkedAs, checkedOf}
+use Rattle.card.proofs.Refusals.{lowest-refused, lowest-through}
+
+module _ (s : List ℕ) where
+  by-groups :
+      answer (checkCard s) ≡
+      lowest (applies (requestOf (checkCard s))) frontRefusals
+      (lowest (applies (requestOf (checkCard s))) sizeRefusals (lowest (applies (requestOf (checkCard s))) bodyRefusals (Cost 0)))
+  unfolding answer refusals successCost lowest
+  by-groups = refl
+
+  refused : {x : Refusal} → answer (checkCard s) ≡ Refused x → NotAccepted x ≡ checkedOf s
+  unfolding checkedOf
+  refused e = rw e
+
+  pub front-refused : {x : Refusal} → found s frontRefusals ≡ Refused x → NotAccepted x ≡ checkedOf s
+  unfolding found
+  front-refused e = refused (by-groups ∙ lowest-refused _ _ _ refl e)
+
+  module _ {k : ℕ} (front : found s frontRefusals ≡ Cost k) where
+    after-front :
+        answer (checkCard s) ≡
+        lowest (applies (requestOf (checkCard s))) sizeRefusals (lowest (applies (requestOf (checkCard s))) bodyRefusals (Cost 0))
+    unfolding found
+    after-front = by-groups ∙ lowest-through _ _ _ _ front
+
+    pub size-refused : {x : Refusal} → found s sizeRefusals ≡ Refused x → NotAccepted x ≡ checkedOf s
+    unfolding found
+    size-refused e = refused (after-front ∙ lowest-refused _ _ _ refl e)
+
+    module _ {l : ℕ} (size : found s sizeRefusals ≡ Cost l) where
+      after-size : answer (checkCard s) ≡ found s bodyRefusals
+      unfolding found
+      after-size = after-front ∙ lowest-through _ _ _ _ size
+
+      pub body-refused : {x : Refusal} → found s bodyRefusals ≡ Refused x → NotAccepted x ≡ checkedOf s
+      body-refused e = refused (after-size ∙ e)
+
+      pub all-passed : {n : ℕ} (h : Header) → HeaderOf s h → found s bodyRefusals ≡ Cost n → Accepted h ≡ checkedOf s
+      unfolding checkedOf
+      all-passed h given e =
+          rw (after-size, e)
+          (ap Accepted
+          (λ i.
+          record {
+            modules = given .modules-is i;
+            top = given .top-is i;
+            slots = given .slots-is i;
+            up = given .up-is i;
+            down = given .down-is i
+          }))
