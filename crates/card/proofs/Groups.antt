@@ -3,6 +3,7 @@ use Prim.Native.Nat.{ℕ}
 use mathlib.Core.Path.{_≡_, refl, sym, _∙_, ap}
 use mathlib.Core.List.{List}
 use Rattle.model.specs.declared.Refusal.{Refusal}
+use Rattle.model.specs.declared.Answer.{Answer}
 use Rattle.model.specs.declared.Answer.the-variants.{Cost, Refused}
 use Rattle.model.specs.Instance.{instanceOf}
 use Rattle.model.specs.Calls.{checkCard, applies, requestOf, lowest, answer, refusals, successCost}
@@ -59,3 +60,21 @@ module _ (s : List ℕ) where
             up = given .up-is i;
             down = given .down-is i
           }))
+
+-- The answer behind a check's result.
+module _ (s : List ℕ) where
+  pub refused-answer : {x : Refusal} → checkedOf s ≡ NotAccepted x → answer (checkCard s) ≡ Refused x
+  unfolding checkedOf
+  refused-answer {x} e = go (answer (checkCard s)) e
+    where
+      go : (a : Answer) → checkedAs a (headerOf s) ≡ NotAccepted x → a ≡ Refused x
+      go (Cost n) f = cc
+      go (Refused y) f = cc
+
+  pub accepted-answer : {h : Header} → checkedOf s ≡ Accepted h → (answer (checkCard s) ≡ Cost 0) × (headerOf s ≡ h)
+  unfolding checkedOf answer successCost
+  accepted-answer {h} e = go (answer (checkCard s)) refl e
+    where
+      go : (a : Answer) → answer (checkCard s) ≡ a → checkedAs a (headerOf s) ≡ Accepted h → (answer (checkCard s) ≡ Cost 0) × (headerOf s ≡ h)
+      go (Cost n) g f = (lowest-through _ _ _ _ g, cc)
+      go (Refused y) g f = (cc, cc)
