@@ -58,7 +58,7 @@ module _ (s : List ℕ) where
             top = given .top-is i;
             slots = given .slots-is i;
             up = given .up-is i;
-            down = given .down-is i
+            down = given .down-is i;
           }))
 
 -- The answer behind a check's result.

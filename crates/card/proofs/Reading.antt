@@ -17,10 +17,10 @@ pub read-join : (w : ℕ) {s : List ℕ} {p q z x y : ℕ} → ReadAt s p w x q 
 read-join w {s} {p} {q} {z} {x} {y} a b =
     record {
       number =
-        let e : littleEndian w s (p + w) ≡ y = ap (littleEndian w s) (sym (a .position)) ∙ sym (b .number) in
-        rw (little-join w w s p, e, a .number);
+          let e : littleEndian w s (p + w) ≡ y = ap (littleEndian w s) (sym (a .position)) ∙ sym (b .number) in
+          rw (little-join w w s p, e, a .number);
       bound = rw (pow-add 256 w w) (omega (arith, mul-le-mul-left (256 ^ w) (b .bound)));
-      position = omega arith
+      position = omega arith;
     }
 
 -- the number read at a place that is known by another name

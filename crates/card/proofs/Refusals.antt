@@ -17,9 +17,9 @@ use Rattle.model.specs.declared.Refusal.the-variants.{NotACard, Version, RackSi
 use Rattle.model.specs.declared.Answer.{Answer}
 use Rattle.model.specs.declared.Answer.the-variants.{Cost, Refused}
 use Rattle.model.specs.Instance.{Instance, instanceOf, markOf, cardMark, versionOf, cardLength, convex, tableInRange, pricesInRange, loadsInRange}
-use Rattle.model.specs.Calls.{Call, checkCard, applies, requestOf, lowest, rackNumber, answer, cardRefusals, refusals, successCost}
+use Rattle.model.specs.Calls.{Call, checkCard, applies, requestOf, lowest, answer, cardRefusals, refusals, successCost}
 use Rattle.card.specs.declared.Header.{Header}
-use Rattle.card.specs.Checking.{HeaderOf, Sized, found, frontRefusals, sizeRefusals, bodyRefusals}
+use Rattle.card.specs.Checking.{HeaderOf, Sized, rackInRange, found, frontRefusals, sizeRefusals, bodyRefusals}
 
 module _ (test : Refusal → Bool) where
   pub lowest-hit : {x : Refusal} (xs : List Refusal) (a : Answer) → test x ≡ true → lowest test (x ∷ xs) a ≡ Refused x
@@ -51,6 +51,7 @@ module _ (test : Refusal → Bool) where
     where
       hit : test x ≡ true → (test x ≡ false) × (lowest test xs a ≡ Cost n)
       hit t = let h = lowest-hit xs a t in (cc, cc)
+
       skip : test x ≡ false → (test x ≡ false) × (lowest test xs a ≡ Cost n)
       skip t = (t, sym (lowest-skip xs a t) ∙ e)
 
@@ -101,9 +102,9 @@ module _ (s : List ℕ) where
       or-left false b f = refl
 
   module _ (h : Header) (given : HeaderOf s h) where
-    rack-applies : {a b : Bool} → rackNumber (h .modules) ≡ a → rackNumber (h .top) ≡ b → applies (requestOf req) RackSize ≡ (not a || not b)
+    rack-applies : {b : Bool} → rackInRange (h .modules) (h .top) ≡ b → applies (requestOf req) RackSize ≡ not b
     unfolding applies requestOf
-    rack-applies e f = rw (← given .modules-is, ← given .top-is, e, f)
+    rack-applies e = rw (← given .modules-is, ← given .top-is, e)
 
     slots-applies : {b : Bool} → ltb 1024 (h .slots) ≡ b → applies (requestOf req) SlotCount ≡ b
     unfolding applies requestOf
@@ -113,28 +114,23 @@ module _ (s : List ℕ) where
     unfolding applies requestOf cardLength
     size-applies e = rw (← given .top-is, ← given .slots-is, e)
 
-    pub size-modules : rackNumber (h .modules) ≡ false → Refused RackSize ≡ found s sizeRefusals
+    pub size-rack : rackInRange (h .modules) (h .top) ≡ false → Refused RackSize ≡ found s sizeRefusals
     unfolding found lowest
-    size-modules e = rw (rack-applies e refl)
+    size-rack e = rw (rack-applies e)
 
-    module _ (m-ok : rackNumber (h .modules) ≡ true) where
-      pub size-top : rackNumber (h .top) ≡ false → Refused RackSize ≡ found s sizeRefusals
+    module _ (rack-ok : rackInRange (h .modules) (h .top) ≡ true) where
+      pub size-slots : 1024 < h .slots → Refused SlotCount ≡ found s sizeRefusals
       unfolding found lowest
-      size-top f = rw (rack-applies m-ok f)
+      size-slots g = rw (rack-applies rack-ok, slots-applies (lt-ltb _ _ g))
 
-      module _ (top-ok : rackNumber (h .top) ≡ true) where
-        pub size-slots : 1024 < h .slots → Refused SlotCount ≡ found s sizeRefusals
+      module _ (slots-ok : h .slots ≤ 1024) where
+        pub size-length : (length s ≡ 17 + 4 * (h .top + 1) + 2 * h .slots → ⊥) → Refused CardLength ≡ found s sizeRefusals
         unfolding found lowest
-        size-slots g = rw (rack-applies m-ok top-ok, slots-applies (lt-ltb _ _ g))
+        size-length n = rw (rack-applies rack-ok, slots-applies (le-ltb _ _ slots-ok), size-applies (ne-eqb _ _ n))
 
-        module _ (slots-ok : h .slots ≤ 1024) where
-          pub size-length : (length s ≡ 17 + 4 * (h .top + 1) + 2 * h .slots → ⊥) → Refused CardLength ≡ found s sizeRefusals
-          unfolding found lowest
-          size-length n = rw (rack-applies m-ok top-ok, slots-applies (le-ltb _ _ slots-ok), size-applies (ne-eqb _ _ n))
-
-          pub size-passed : length s ≡ 17 + 4 * (h .top + 1) + 2 * h .slots → Cost 0 ≡ found s sizeRefusals
-          unfolding found lowest
-          size-passed n = rw (rack-applies m-ok top-ok, slots-applies (le-ltb _ _ slots-ok), size-applies (eq-eqb _ _ n))
+        pub size-passed : length s ≡ 17 + 4 * (h .top + 1) + 2 * h .slots → Cost 0 ≡ found s sizeRefusals
+        unfolding found lowest
+        size-passed n = rw (rack-applies rack-ok, slots-applies (le-ltb _ _ slots-ok), size-applies (eq-eqb _ _ n))
 
     -- a card that passes has the length its header says
     pub size-of : {n : ℕ} → found s sizeRefusals ≡ Cost n → Sized s h

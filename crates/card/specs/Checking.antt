@@ -1,6 +1,7 @@
 -- What reading and checking a card gives.
 use Prim.Native.Nat.{ℕ, _+_, _*_, _≤_, _<_, _^_}
 use mathlib.Core.Path.{_≡_}
+use mathlib.Core.Bool.{Bool, _&&_}
 use mathlib.Core.List.{List, [], _∷_}
 use lib.ListN.{length}
 use Rattle.model.specs.declared.Refusal.{Refusal}
@@ -8,7 +9,7 @@ use Rattle.model.specs.declared.Refusal.the-variants.{NotACard, Version, RackSi
 use Rattle.model.specs.declared.Answer.{Answer}
 use Rattle.model.specs.declared.Answer.the-variants.{Cost, Refused}
 use Rattle.model.specs.Instance.{instanceOf, cardLength}
-use Rattle.model.specs.Calls.{checkCard, answer, applies, requestOf, lowest}
+use Rattle.model.specs.Calls.{checkCard, answer, applies, requestOf, lowest, rackNumber}
 use Rattle.card.specs.declared.Header.{Header}
 use Rattle.card.specs.declared.Checked.{Checked}
 use Rattle.card.specs.declared.Checked.the-variants.{Accepted, NotAccepted}
@@ -35,7 +36,7 @@ headerOf s =
       top = instanceOf s .topStep;
       slots = instanceOf s .slots;
       up = instanceOf s .powerUp;
-      down = instanceOf s .powerDown
+      down = instanceOf s .powerDown;
     }
 
 pub record HeaderOf (s : List ℕ) (h : Header) : Type 0 where
@@ -52,6 +53,9 @@ pub record HeaderOf (s : List ℕ) (h : Header) : Type 0 where
 pub record Sized (s : List ℕ) (h : Header) : Type 0 where
   pub header : HeaderOf s h
   pub size : length s ≡ 17 + 4 * (h .top + 1) + 2 * h .slots
+
+abbrev pub rackInRange : ℕ → ℕ → Bool
+rackInRange m q = rackNumber m && rackNumber q
 
 -- the lowest of some refusals that applies to a card, or the cost 0
 unfoldable pub found : List ℕ → List Refusal → Answer

@@ -1,16 +1,14 @@
 // The show card: a cursor that takes numbers from its bytes, and the checks behind refusals 1 to 8.
 use model::Answer;
 use model::Refusal;
-
 ghost use mathlib.Core.Path.{_≡_};
 ghost use Prim.Native.Nat.{ℕ, _+_, _*_, _≤_};
 ghost use mathlib.Core.Bool.{Bool};
 ghost use lib.ListN.{length};
 ghost use Rattle.lists.specs.Lists.{sameList};
 ghost use Rattle.model.specs.Instance.{instanceOf, entryPlace, loadPlace, markOf, cardMark, versionOf, bendsUp, convex, tableInRange, loadsInRange};
-ghost use Rattle.model.specs.Calls.{rackNumber};
 ghost use Rattle.card.specs.Reading.{Within, ReadAt};
-ghost use Rattle.card.specs.Checking.{TableEntry, SlotLoad, TableWithin, HeaderOf, Sized, found, frontRefusals, sizeRefusals, bodyRefusals, checkedOf};
+ghost use Rattle.card.specs.Checking.{TableEntry, SlotLoad, TableWithin, HeaderOf, Sized, rackInRange, found, frontRefusals, sizeRefusals, bodyRefusals, checkedOf};
 
 // A place in a card.
 pub struct Cursor {
@@ -165,13 +163,20 @@ fn read_header(card: &[u8]) -> Header
     }
 }
 
-fn rack_number(n: u64) -> bool
-    ensures { λ r. ⌜ r ≡ rackNumber n ⌝ }
+// Both numbers are from 1 to 200.
+fn rack_in_range(modules: u64, top: u64) -> bool
+    ensures { λ r. ⌜ r ≡ rackInRange modules top ⌝ }
 {
-    if n < 1 {
+    if modules < 1 {
         return false;
     }
-    n <= 200
+    if 200 < modules {
+        return false;
+    }
+    if top < 1 {
+        return false;
+    }
+    top <= 200
 }
 
 // Refusals 1 and 2.
@@ -195,10 +200,7 @@ fn check_size(card: &[u8], h: Header) -> Answer
     requires { ⌜ HeaderOf (now card) h ⌝ }
     ensures { λ r. ⌜ r ≡ found (now (card .entry)) sizeRefusals ⌝ }
 {
-    if !rack_number(h.modules) {
-        return Answer::Refused(Refusal::RackSize);
-    }
-    if !rack_number(h.top) {
+    if !rack_in_range(h.modules, h.top) {
         return Answer::Refused(Refusal::RackSize);
     }
     if 1024 < h.slots {

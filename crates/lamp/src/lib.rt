@@ -1,7 +1,6 @@
 // The public calls: numbers and byte slices over the C boundary. Each answers every input.
 use card::Checked;
 use model::Refusal;
-
 ghost use mathlib.Core.Path.{_≡_};
 ghost use Rattle.model.specs.Answers.{refusalNumber};
 ghost use Rattle.model.specs.declared.Answer.the-variants.{Refused};

@@ -75,7 +75,13 @@ pub record Request : Type 0 where
 abbrev pub bareRack : ℕ → Instance
 bareRack m =
     record {
-      modules = m; topStep = 1; slots = 0; powerUp = 0; powerDown = 0; table = λ _. 0; load = λ _. 0
+      modules = m;
+      topStep = 1;
+      slots = 0;
+      powerUp = 0;
+      powerDown = 0;
+      table = λ _. 0;
+      load = λ _. 0;
     }
 
 -- 'Lent areas: a plan area of at least T bytes; a work area of at least (m + 1)T bytes for exact, 10T for coarse; a sheet area
@@ -112,7 +118,7 @@ rackNumber n = leb 1 n && leb n 200
 unfoldable pub applies : Request → Refusal → Bool
 applies r NotACard = ltb (length (r .card)) 17 || not (sameList (markOf (r .card)) cardMark)
 applies r Version = not (eqb (versionOf (r .card)) 1)
-applies r RackSize = not (rackNumber (r .shown .modules)) || not (rackNumber (r .shown .topStep))
+applies r RackSize = not (rackNumber (r .shown .modules) && rackNumber (r .shown .topStep))
 applies r SlotCount = ltb 1024 (r .shown .slots)
 applies r CardLength = not (eqb (length (r .card)) (cardLength (r .shown)))
 applies r PriceRange = not (pricesInRange (r .shown))

@@ -4,7 +4,7 @@ use Prim.Native.String.{String}
 use mathlib.Core.Path.{_≡_, refl, ap, sym, _∙_}
 use mathlib.Core.Bool.{Bool, true, false, not, false≢true}
 use mathlib.Core.List.{List, [], _∷_, _++_, map, flatMap, headD}
-use lib.ListN.{length, getD, take, replicate}
+use lib.ListN.{length, take, set, replicate}
 use native.Mathlib.Omega.{arith}
 use Rattle.lists.specs.Tests.{every}
 use Rattle.lists.specs.Sums.{sum}
@@ -98,6 +98,10 @@ starred =
     counts "J rack of 1" 1 (0 ∷ 1 ∷ []) ∷
     counts "J rack of 128" 128 (0 ∷ 1 ∷ 2 ∷ 4 ∷ 8 ∷ 16 ∷ 32 ∷ 64 ∷ 128 ∷ []) ∷
     counts "J rack of 200" 200 (0 ∷ 1 ∷ 2 ∷ 4 ∷ 8 ∷ 16 ∷ 32 ∷ 64 ∷ 128 ∷ 200 ∷ []) ∷
+    row "L cut to 34" (checkCard (take 34 cardA)) 5 0 [] ∷
+    row "L cut to 16" (checkCard (take 16 cardA)) 1 0 [] ∷
+    row "L version before rack" (checkCard (set (set cardA 3 2) 5 0)) 2 0 [] ∷
+    row "rack before slots" (checkCard (set (set cardA 8 9) 5 0)) 3 0 [] ∷
     row "plausible error: rounding up" (planCoarse cardUp (lent 1) (lent 10)) 0 7 ((2 ∷ []) ∷ replicate 10 0 ∷ []) ∷
     []
 

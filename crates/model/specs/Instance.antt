@@ -35,7 +35,7 @@ instanceOf card =
       powerUp = littleEndian 4 card 9;
       powerDown = littleEndian 4 card 13;
       table = λ k. littleEndian 4 card (entryPlace k);
-      load = λ k. littleEndian 2 card (loadPlace (littleEndian 1 card 6) k)
+      load = λ k. littleEndian 2 card (loadPlace (littleEndian 1 card 6) k);
     }
 
 -- 'mark, hex 44 4C 53 ("DLS")'

@@ -54,19 +54,19 @@ pub record Ascending (counts : List ℕ) (m : ℕ) : Type 0 where
 -- What one slot with load l makes of a column: the least over all places that serve, and the smallest place that attains it.
 pub record SlotStep (i : Instance) (counts : List ℕ) (l : ℕ) (before after chosen : ℕ → ℕ) : Type 0 where
   pub at-most :
-    (j k : ℕ) → j < length counts → k < length counts → canServe i (countAtPlace counts k) l ≡ true →
-    after j ≤ before k + operatingCost i (countAtPlace counts k) l + switchingPrice i * (countAtPlace counts j - countAtPlace counts k)
+      (j k : ℕ) → j < length counts → k < length counts → canServe i (countAtPlace counts k) l ≡ true →
+      after j ≤ before k + operatingCost i (countAtPlace counts k) l + switchingPrice i * (countAtPlace counts j - countAtPlace counts k)
   pub chosen-in : (j : ℕ) → j < length counts → chosen j < length counts
   pub chosen-serves : (j : ℕ) → j < length counts → canServe i (countAtPlace counts (chosen j)) l ≡ true
   pub attained :
-    (j : ℕ) → j < length counts →
-    after j ≡
-    before (chosen j) + operatingCost i (countAtPlace counts (chosen j)) l +
-    switchingPrice i * (countAtPlace counts j - countAtPlace counts (chosen j))
+      (j : ℕ) → j < length counts →
+      after j ≡
+      before (chosen j) + operatingCost i (countAtPlace counts (chosen j)) l +
+      switchingPrice i * (countAtPlace counts j - countAtPlace counts (chosen j))
   pub smallest :
-    (j k : ℕ) → j < length counts → k < length counts → canServe i (countAtPlace counts k) l ≡ true →
-    after j ≡ before k + operatingCost i (countAtPlace counts k) l + switchingPrice i * (countAtPlace counts j - countAtPlace counts k) →
-    chosen j ≤ k
+      (j k : ℕ) → j < length counts → k < length counts → canServe i (countAtPlace counts k) l ≡ true →
+      after j ≡ before k + operatingCost i (countAtPlace counts k) l + switchingPrice i * (countAtPlace counts j - countAtPlace counts k) →
+      chosen j ≤ k
 
 -- The least plan by counts from a start count, with the tie rule.
 pub record LeastByCounts (i : Instance) (counts : List ℕ) (start : ℕ) (p : List ℕ) : Type 0 where

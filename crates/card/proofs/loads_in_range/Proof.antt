@@ -21,7 +21,7 @@ abbrev μ-loop : tie.MeasureT-loop
 mul-most : tie.Need-mul-most Inv-loop μ-loop
 mul-most c =
     record {
-      fits = omega (arith, mul-le-mul (c .before .before .pre .header .modules-bound) (c .before .before .pre .header .top-bound))
+      fits = omega (arith, mul-le-mul (c .before .before .pre .header .modules-bound) (c .before .before .pre .header .top-bound));
     }
 
 -- src/lib.rt:262:5

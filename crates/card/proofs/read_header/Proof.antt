@@ -48,7 +48,7 @@ returns c =
       down-is = read-at d (omega arith);
       modules-bound = m .bound;
       top-bound = q .bound;
-      slots-bound = t .bound
+      slots-bound = t .bound;
     }
 
 pub read-header-spec : {M : Type 1} → statement M
