@@ -9,16 +9,16 @@ unfoldable pub sum : ℕ → (ℕ → ℕ) → ℕ
 sum zero f = 0
 sum (suc n) f = sum n f + f n
 
--- functions that agree below n have the same sum
-pub sum-ext : (n : ℕ) (f g : ℕ → ℕ) → ((k : ℕ) → k < n → f k ≡ g k) → sum n f ≡ sum n g
+-- terms that agree, or are ordered, below n
+pub sum-ext : (n : ℕ) {f g : ℕ → ℕ} → ((k : ℕ) → k < n → f k ≡ g k) → sum n f ≡ sum n g
 unfolding sum
-sum-ext zero f g h = refl
-sum-ext (suc n) f g h = omega (arith, sum-ext n f g (λ k l. h k (omega arith)), h n (omega arith))
+sum-ext zero h = refl
+sum-ext (suc n) h = omega (arith, sum-ext n (λ k l. h k (omega arith)), h n (omega arith))
 
-pub sum-mono : (n : ℕ) (f g : ℕ → ℕ) → ((k : ℕ) → k < n → f k ≤ g k) → sum n f ≤ sum n g
+pub sum-mono : (n : ℕ) {f g : ℕ → ℕ} → ((k : ℕ) → k < n → f k ≤ g k) → sum n f ≤ sum n g
 unfolding sum
-sum-mono zero f g h = le-refl 0
-sum-mono (suc n) f g h = omega (arith, sum-mono n f g (λ k l. h k (omega arith)), h n (omega arith))
+sum-mono zero h = le-refl 0
+sum-mono (suc n) h = omega (arith, sum-mono n (λ k l. h k (omega arith)), h n (omega arith))
 
 pub sum-add : (n : ℕ) (f g : ℕ → ℕ) → sum n (λ k. f k + g k) ≡ sum n f + sum n g
 unfolding sum
@@ -30,14 +30,14 @@ unfolding sum
 sum-scale zero c f = omega arith
 sum-scale (suc n) c f = omega (arith, sum-scale n c f)
 
--- the terms from a to b are the constant c
-pub sum-from : (f : ℕ → ℕ) (a d b c : ℕ) → a + d ≡ b → ((k : ℕ) → a ≤ k → k < b → f k ≡ c) → sum b f ≡ sum a f + d * c
+-- the d terms from a to b are all c
+pub sum-from : (a d b : ℕ) {f : ℕ → ℕ} {c : ℕ} → a + d ≡ b → ((k : ℕ) → a ≤ k → k < b → f k ≡ c) → sum b f ≡ sum a f + d * c
 unfolding sum
-sum-from f a zero b c e h = rw (← e, add-zero a) (omega arith)
-sum-from f a (suc d) b c e h =
-    let rest = sum-from f a d (a + d) c refl (λ k g l. h k g (omega arith)) in
+sum-from a zero b e h = rw (← e, add-zero a) (omega arith)
+sum-from a (suc d) b e h =
+    let rest = sum-from a d (a + d) refl (λ k g l. h k g (omega arith)) in
     rw (← e, add-suc a d) (omega (arith, h (a + d) (omega arith) (omega arith)))
 
-pub sum-const : (n c : ℕ) (f : ℕ → ℕ) → ((k : ℕ) → k < n → f k ≡ c) → sum n f ≡ n * c
+pub sum-const : (n : ℕ) {f : ℕ → ℕ} {c : ℕ} → ((k : ℕ) → k < n → f k ≡ c) → sum n f ≡ n * c
 unfolding sum
-sum-const n c f h = omega (arith, sum-from f 0 n n c (zero-add n) (λ k g. h k))
+sum-const n h = omega (arith, sum-from 0 n n (zero-add n) (λ k g. h k))

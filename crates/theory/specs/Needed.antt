@@ -14,7 +14,13 @@ use Rattle.theory.specs.Setting.{Entry, activeIn, lightIn, costIn}
 abbrev pub concaveTable : Instance
 concaveTable =
     record {
-      modules = 2; topStep = 2; slots = 0; powerUp = 0; powerDown = 0; table = λ k. getD (0 ∷ 2 ∷ 3 ∷ []) k 0; load = λ t. 0
+      modules = 2;
+      topStep = 2;
+      slots = 0;
+      powerUp = 0;
+      powerDown = 0;
+      table = λ k. getD (0 ∷ 2 ∷ 3 ∷ []) k 0;
+      load = λ t. 0;
     }
 
 -- one module at step 0 and one at step 2

@@ -54,7 +54,7 @@ module _ (q : ℕ) (f : ℕ → ℕ) (c : Convex q f) where
 
 -- A convex table lies above the line through the entries at j and j + 1: without subtraction, so the table may fall.
 pub supporting-line :
-  (q : ℕ) (f : ℕ → ℕ) → Convex q f → (j k : ℕ) → j < q → k ≤ q → f j + k * f (j + 1) + j * f j ≤ f k + k * f j + j * f (j + 1)
+    (q : ℕ) (f : ℕ → ℕ) → Convex q f → (j k : ℕ) → j < q → k ≤ q → f j + k * f (j + 1) + j * f j ≤ f k + k * f j + j * f (j + 1)
 supporting-line q f c j k h l =
     ⊎-elim
     (λ (g : j ≤ k). up (le-dest g))
