@@ -8,11 +8,11 @@ use borrow.Author.Tests.{leb-true, le-leb}
 use native.Mathlib.Nat.{add-zero, le-dest, le-of-lt}
 use native.Mathlib.Omega.{arith}
 use Rattle.lists.specs.Numbers.{le-or-lt}
-use Rattle.lists.specs.Tests.{every, every-at, every-all}
+use Rattle.lists.specs.Tests.{every-at, every-all}
 use Rattle.model.specs.Instance.{bendsUp, convex, neverFalls}
 use Rattle.theory.specs.Setting.{Convex, NeverFalls}
 
--- The tests decide what they are named after.
+-- A table passes a test exactly if it has the property.
 pub convex-test : (q : ℕ) (f : ℕ → ℕ) → convex q f ≡ true → Convex q f
 unfolding convex bendsUp
 convex-test q f e k h = leb-true _ _ (every-at (q - 1) (bendsUp f) e k (omega arith))
@@ -38,7 +38,7 @@ module _ (q : ℕ) (f : ℕ → ℕ) (c : Convex q f) where
       let next : j + d + 1 + 1 ≡ j + d + 2 = omega arith in
       rw (here, next) (omega (arith, slopes-rise j d (omega arith), c (j + d) (omega arith)))
 
-  -- it lies above the line through two neighbouring entries, d steps up
+  -- it lies above the line through two neighbouring entries: d steps up
   above-line-up : (j d : ℕ) → j + d ≤ q → f j + d * f (j + 1) ≤ f (j + d) + d * f j
   above-line-up j zero h = rw (add-zero j) (omega arith)
   above-line-up j (suc d) h =
