@@ -1,9 +1,14 @@
 -- Lists made from functions of an index.
-use Prim.Native.Nat.{ℕ, zero, suc}
-use mathlib.Core.Path.{_≡_, refl}
+use Prim.Native.Nat.{ℕ, zero, suc, _+_, _*_, _<_}
+use mathlib.Core.Path.{_≡_, refl, ap, _∙_}
+use mathlib.Core.Logic.{⊎-elim}
 use mathlib.Core.List.{List, [], _∷_, _++_}
 use mathlib.Core.Bool.{Bool, true, false, cond, _&&_, false≢true}
 use lib.Dec.{eqb}
+use lib.ListN.{length, getD, length-append, List·getD-append}
+use lib.Seq.{getD-append-add}
+use native.Mathlib.Nat.{not-suc-le-zero, le-of-suc-le-suc, eq-or-lt-of-le, mul-le-mul-right}
+use native.Mathlib.Omega.{arith}
 use borrow.Author.Tests.{eq-eqb, eqb-true}
 use Rattle.lists.specs.Tests.{and-left, and-right}
 
@@ -12,10 +17,46 @@ unfoldable pub tabulate : ℕ → (ℕ → ℕ) → List ℕ
 tabulate zero f = []
 tabulate (suc n) f = f 0 ∷ tabulate n (λ k. f (suc k))
 
+pub length-tabulate : (n : ℕ) (f : ℕ → ℕ) → length (tabulate n f) ≡ n
+unfolding tabulate
+length-tabulate zero f = refl
+length-tabulate (suc n) f = ap suc (length-tabulate n (λ k. f (suc k)))
+
+pub getD-tabulate : (n : ℕ) (f : ℕ → ℕ) (k d : ℕ) → k < n → getD (tabulate n f) k d ≡ f k
+unfolding tabulate
+getD-tabulate zero f k d h = absurd (not-suc-le-zero h)
+getD-tabulate (suc n) f zero d h = refl
+getD-tabulate (suc n) f (suc k) d h = getD-tabulate n (λ j. f (suc j)) k d (omega arith)
+
 -- the lists f 0, .., f (n - 1) one after the other
 unfoldable pub rows : ℕ → (ℕ → List ℕ) → List ℕ
 rows zero f = []
 rows (suc n) f = rows n f ++ f n
+
+-- where each has length m
+pub length-rows : (m n : ℕ) (f : ℕ → List ℕ) → ((t : ℕ) → length (f t) ≡ m) → length (rows n f) ≡ n * m
+unfolding rows
+length-rows m zero f h = omega arith
+length-rows m (suc n) f h = omega (arith, length-append (rows n f) (f n), length-rows m n f h, h n)
+
+-- entry k of row t
+pub getD-rows : (m n : ℕ) (f : ℕ → List ℕ) → ((t : ℕ) → length (f t) ≡ m) → (t k d : ℕ) → t < n → k < m →
+    getD (rows n f) (t * m + k) d ≡ getD (f t) k d
+unfolding rows
+getD-rows m zero f h t k d g l = absurd (not-suc-le-zero g)
+getD-rows m (suc n) f h t k d g l =
+    ⊎-elim
+    last
+    (λ (e : t < n). List·getD-append (rows n f) (f n) d (t * m + k) (before e) ∙ getD-rows m n f h t k d e l)
+    (eq-or-lt-of-le (le-of-suc-le-suc g))
+  where
+    last : t ≡ n → getD (rows n f ++ f n) (t * m + k) d ≡ getD (f t) k d
+    last e =
+        let place : t * m + k ≡ length (rows n f) + k = omega (arith, length-rows m n f h, ap (λ (x : ℕ). x * m) e) in
+        rw (place, getD-append-add (rows n f) (f n) k d, e)
+
+    before : t < n → t * m + k < length (rows n f)
+    before e = omega (arith, length-rows m n f h, mul-le-mul-right m e)
 
 -- the elements at which the test holds, in their order
 unfoldable pub keep {ℓ} : {A : Type ℓ} → (A → Bool) → List A → List A

@@ -1,7 +1,43 @@
 -- Sums of a function over the indices below a bound.
-use Prim.Native.Nat.{ℕ, zero, suc, _+_}
+use Prim.Native.Nat.{ℕ, zero, suc, _+_, _*_, _≤_, _<_}
+use mathlib.Core.Path.{_≡_, refl}
+use native.Mathlib.Nat.{add-suc, add-zero, zero-add, le-refl}
+use native.Mathlib.Omega.{arith}
 
 -- f 0 + .. + f (n - 1)
 unfoldable pub sum : ℕ → (ℕ → ℕ) → ℕ
 sum zero f = 0
 sum (suc n) f = sum n f + f n
+
+-- terms that agree, or are ordered, below n
+pub sum-ext : (n : ℕ) {f g : ℕ → ℕ} → ((k : ℕ) → k < n → f k ≡ g k) → sum n f ≡ sum n g
+unfolding sum
+sum-ext zero h = refl
+sum-ext (suc n) h = omega (arith, sum-ext n (λ k l. h k (omega arith)), h n (omega arith))
+
+pub sum-mono : (n : ℕ) {f g : ℕ → ℕ} → ((k : ℕ) → k < n → f k ≤ g k) → sum n f ≤ sum n g
+unfolding sum
+sum-mono zero h = le-refl 0
+sum-mono (suc n) h = omega (arith, sum-mono n (λ k l. h k (omega arith)), h n (omega arith))
+
+pub sum-add : (n : ℕ) (f g : ℕ → ℕ) → sum n (λ k. f k + g k) ≡ sum n f + sum n g
+unfolding sum
+sum-add zero f g = refl
+sum-add (suc n) f g = omega (arith, sum-add n f g)
+
+pub sum-scale : (n c : ℕ) (f : ℕ → ℕ) → sum n (λ k. c * f k) ≡ c * sum n f
+unfolding sum
+sum-scale zero c f = omega arith
+sum-scale (suc n) c f = omega (arith, sum-scale n c f)
+
+-- the d terms from a to b are all c
+pub sum-from : (a d b : ℕ) {f : ℕ → ℕ} {c : ℕ} → a + d ≡ b → ((k : ℕ) → a ≤ k → k < b → f k ≡ c) → sum b f ≡ sum a f + d * c
+unfolding sum
+sum-from a zero b e h = rw (← e, add-zero a) (omega arith)
+sum-from a (suc d) b e h =
+    let rest = sum-from a d (a + d) refl (λ k g l. h k g (omega arith)) in
+    rw (← e, add-suc a d) (omega (arith, h (a + d) (omega arith) (omega arith)))
+
+pub sum-const : (n : ℕ) {f : ℕ → ℕ} {c : ℕ} → ((k : ℕ) → k < n → f k ≡ c) → sum n f ≡ n * c
+unfolding sum
+sum-const n h = omega (arith, sum-from 0 n n (zero-add n) (λ k g. h k))

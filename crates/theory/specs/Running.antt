@@ -1,0 +1,224 @@
+-- The running cost of a count: one formula, the least cost of a row of bytes, and the row that attains it.
+use Prim.Native.Nat.{ℕ, zero, suc, _+_, _-_, _*_, _/_, _%_, _≤_, _<_}
+use mathlib.Core.Path.{_≡_, refl, ap, sym, _∙_}
+use mathlib.Core.Bool.{Bool, true, false, cond, _||_, or-true}
+use mathlib.Core.Logic.{_⊎_, inl, inr, ⊎-elim}
+use lib.Dec.{leb, eqb, eqb·suc-zero}
+use borrow.Author.Tests.{leb-true, le-leb, lt-ltb, le-ltb, ne-eqb}
+use native.Mathlib.Nat.{zero-mul, add-mul, sub-add-cancel, add-sub-of-le, mod-zero, mod-lt, div-add-mod, div-le-of-le-mul}
+use native.Mathlib.Nat.{le-of-lt, eq-or-lt-of-le, eq-zero-or-pos, mul-le-mul-left, mul-le-mul-right}
+use native.Mathlib.Omega.{arith}
+use Rattle.lists.specs.Numbers.{le-or-lt, true-or-false}
+use Rattle.lists.specs.Sums.{sum, sum-const, sum-from}
+use Rattle.model.specs.Instance.{Instance}
+use Rattle.model.specs.Counts.{operatingCost}
+use Rattle.model.specs.Sheets.{off, isOff, stepOf, stepCost}
+use Rattle.model.specs.Plans.{moduleByte}
+use Rattle.theory.specs.Setting.{Convex, Entry, activeIn, lightIn, costIn}
+use Rattle.theory.specs.Tables.{supporting-line}
+
+-- Quotient and remainder of a load that n modules can serve: q is at most the top step, and below it where some is left over.
+remainder-le : (n l q : ℕ) → l ≤ n * q → l % n ≤ n
+remainder-le zero l q h = omega (arith, mod-zero l)
+remainder-le (suc n) l q h = le-of-lt (mod-lt l (omega arith))
+
+quotient-le : (n l q : ℕ) → l ≤ n * q → l / n ≤ q
+quotient-le n l q h = div-le-of-le-mul n h
+
+quotient-lt : (n l q : ℕ) → l ≤ n * q → 0 < l % n → l / n < q
+quotient-lt n l q h p =
+    ⊎-elim
+    (λ (g : q ≤ l / n). absurd (omega (arith, mul-le-mul-left n g, div-add-mod l n)))
+    (λ (g : l / n < q). g)
+    (le-or-lt q (l / n))
+
+part-and-rest : (n r x : ℕ) → r ≤ n → (n - r) * x + r * x ≡ n * x
+part-and-rest n r x h = sym (add-mul (n - r) r x) ∙ ap (λ (y : ℕ). y * x) (sub-add-cancel h)
+
+-- The three cases of the running cost are one formula.
+pub running-formula : (i : Instance) (n l : ℕ) → l ≤ n * i .topStep →
+    operatingCost i n l ≡ (n - l % n) * i .table (l / n) + l % n * i .table (l / n + 1)
+unfolding operatingCost
+running-formula i zero l h = let none : l % 0 ≡ 0 = omega (arith, mod-zero l) in rw none (omega arith)
+running-formula i (suc n) l h = rw (eqb·suc-zero n, second-term (l % suc n) (i .table (l / suc n + 1)))
+  where
+    second-term : (r x : ℕ) → cond (eqb r 0) 0 (r * x) ≡ r * x
+    second-term zero x = sym (zero-mul x)
+    second-term (suc r) x = rw (eqb·suc-zero r)
+
+-- n times the straight line between F(q) and F(q + 1) at l / n, without division.
+pub straight-line : (i : Instance) (n l : ℕ) → 0 < n → l ≤ n * i .topStep →
+    operatingCost i n l + l % n * i .table (l / n) ≡ n * i .table (l / n) + l % n * i .table (l / n + 1)
+straight-line i n l p h = omega (arith, running-formula i n l h, part-and-rest n (l % n) (i .table (l / n)) (le-of-lt (mod-lt l p)))
+
+-- The table lies above the line u + k x - k y - z, stated without subtraction.
+abbrev AboveLine : Instance → ℕ → ℕ → ℕ → ℕ → Type 0
+AboveLine i u x y z = (k : ℕ) → k ≤ i .topStep → u + k * x ≤ i .table k + k * y + z
+
+-- a steep line through the last entry
+line-at-top : (i : Instance) → AboveLine i (i .table (i .topStep)) (i .table (i .topStep)) 0 (i .topStep * i .table (i .topStep))
+line-at-top i k h =
+    ⊎-elim
+    (λ (e : k ≡ i .topStep). rw e (omega arith))
+    (λ (g : k < i .topStep). omega (arith, mul-le-mul-right (i .table (i .topStep)) g))
+    (eq-or-lt-of-le h)
+
+-- A cost that is n times above each such line at l / n is at least the running cost.
+module _ (i : Instance) (n l cost : ℕ) (fits : l ≤ n * i .topStep)
+    (above : (u x y z : ℕ) → AboveLine i u x y z → n * u + l * x ≤ cost + l * y + n * z) where
+  -- all at the top step
+  at-top : 0 < n → i .topStep ≤ l / n → operatingCost i n l ≤ cost
+  at-top p h =
+      let top : l / n ≡ i .topStep = omega (arith, quotient-le n l (i .topStep) fits) in
+      let none : l % n ≡ 0 = omega (arith, mul-le-mul-left n h, div-add-mod l n) in
+      let full : l ≡ n * i .topStep = omega (arith, mul-le-mul-left n h, div-add-mod l n) in
+      let line = above _ _ _ _ (line-at-top i) in
+      omega (arith, rw (top, none) at (straight-line i n l p fits), ap (λ (x : ℕ). x * i .table (i .topStep)) full)
+
+  below-top : Convex (i .topStep) (i .table) → 0 < n → l / n < i .topStep → operatingCost i n l ≤ cost
+  below-top c p h =
+      let q : ℕ = l / n in
+      let low : ℕ = i .table q in
+      let high : ℕ = i .table (q + 1) in
+      let line = above (low + q * low) high low (q * high) (λ k g. omega (arith, supporting-line (i .topStep) (i .table) c q k h g)) in
+      let at-low = ap (λ (x : ℕ). x * low) (div-add-mod l n) in
+      let at-high = ap (λ (x : ℕ). x * high) (div-add-mod l n) in
+      omega (arith, straight-line i n l p fits)
+
+  above-lines : Convex (i .topStep) (i .table) → operatingCost i n l ≤ cost
+  unfolding operatingCost
+  above-lines c =
+      ⊎-elim
+      (λ (e : n ≡ 0). rw e (omega arith))
+      (λ (p : 0 < n). ⊎-elim (at-top p) (below-top c p) (le-or-lt (i .topStep) (l / n)))
+      (eq-zero-or-pos n)
+
+-- an entry is off or a step
+entry-cases : (i : Instance) (b : ℕ) → Entry i b → (isOff b ≡ true) ⊎ ((isOff b ≡ false) × (b ≤ i .topStep))
+entry-cases i b e = ⊎-elim inl (λ (g : isOff b ≡ false). inr (g, leb-true b (i .topStep) (step _ g e))) (true-or-false (isOff b))
+  where
+    step : (t : Bool) → isOff b ≡ false → (t || isOff b) ≡ true → t ≡ true
+    step true g h = refl
+    step false g h = sym g ∙ h
+
+-- no more modules are active than there are
+pub active-le : (m : ℕ) (b : ℕ → ℕ) → activeIn m b ≤ m
+unfolding sum activeIn
+active-le zero b = omega arith
+active-le (suc m) b = omega (arith, active-le m b, at-most-one (isOff (b m)))
+  where
+    at-most-one : (x : Bool) → cond x 0 1 ≤ 1
+    at-most-one true = omega arith
+    at-most-one false = omega arith
+
+-- Rows of entries.
+module _ (i : Instance) where
+  byte-above-line : (u x y z : ℕ) → AboveLine i u x y z → (b : ℕ) → Entry i b →
+      cond (isOff b) 0 1 * u + stepOf b * x ≤ stepCost i b + stepOf b * y + cond (isOff b) 0 1 * z
+  unfolding stepCost
+  byte-above-line u x y z h b e =
+      ⊎-elim
+      (λ (g : isOff b ≡ true). rw g (omega arith))
+      (λ (g : (isOff b ≡ false) × (b ≤ i .topStep)). rw (g .0) (omega (arith, h b (g .1))))
+      (entry-cases i b e)
+
+  -- where the table lies above a line, so does the cost of a row
+  row-above-line : (m : ℕ) (b : ℕ → ℕ) → ((k : ℕ) → k < m → Entry i (b k)) → (u x y z : ℕ) → AboveLine i u x y z →
+      activeIn m b * u + lightIn m b * x ≤ costIn i m b + lightIn m b * y + activeIn m b * z
+  unfolding sum activeIn lightIn costIn
+  row-above-line zero b e u x y z h = omega arith
+  row-above-line (suc m) b e u x y z h =
+      omega (arith, row-above-line m b (λ k l. e k (omega arith)) u x y z h, byte-above-line u x y z h (b m) (e m (omega arith)))
+
+  byte-fits : (b : ℕ) → Entry i b → stepOf b ≤ cond (isOff b) 0 1 * i .topStep
+  byte-fits b e =
+      ⊎-elim
+      (λ (g : isOff b ≡ true). rw g (omega arith))
+      (λ (g : (isOff b ≡ false) × (b ≤ i .topStep)). rw (g .0) (omega arith))
+      (entry-cases i b e)
+
+  -- A row's light is at most the top step for each active module.
+  pub row-fits : (m : ℕ) (b : ℕ → ℕ) → ((k : ℕ) → k < m → Entry i (b k)) → lightIn m b ≤ activeIn m b * i .topStep
+  unfolding sum activeIn lightIn
+  row-fits zero b e = omega arith
+  row-fits (suc m) b e = omega (arith, row-fits m b (λ k l. e k (omega arith)), byte-fits (b m) (e m (omega arith)))
+
+  -- Any row of entries costs at least the running cost of its active modules and its light.
+  pub row-at-least : Convex (i .topStep) (i .table) → (m : ℕ) (b : ℕ → ℕ) → ((k : ℕ) → k < m → Entry i (b k)) →
+      operatingCost i (activeIn m b) (lightIn m b) ≤ costIn i m b
+  row-at-least c m b e = above-lines i (activeIn m b) (lightIn m b) (costIn i m b) (row-fits m b e) (row-above-line m b e) c
+
+-- The row of a plan: the first l % n modules at the step above, the others up to n at the step, the rest off.
+module _ (n l : ℕ) where
+  byte-above : (k : ℕ) → k < l % n → k < n → moduleByte n l k ≡ l / n + 1
+  unfolding moduleByte
+  byte-above k g h = rw (lt-ltb k n h, lt-ltb k (l % n) g)
+
+  byte-at : (k : ℕ) → l % n ≤ k → k < n → moduleByte n l k ≡ l / n
+  unfolding moduleByte
+  byte-at k g h = rw (lt-ltb k n h, le-ltb k (l % n) g)
+
+  pub byte-off : (k : ℕ) → n ≤ k → moduleByte n l k ≡ off
+  unfolding moduleByte
+  byte-off k h = rw (le-ltb k n h)
+
+step-active : (b : ℕ) → b < off → isOff b ≡ false
+step-active b h = ne-eqb b off (λ e. omega arith)
+
+module _ (i : Instance) (n l : ℕ) (fits : l ≤ n * i .topStep) where
+  above-step : 0 < l % n → l / n + 1 ≤ i .topStep
+  above-step h = omega (arith, quotient-lt n l (i .topStep) fits h)
+
+  byte-step : (k : ℕ) → k < n → moduleByte n l k ≤ i .topStep
+  byte-step k h =
+      ⊎-elim
+      (λ (g : l % n ≤ k). rw (byte-at n l k g h) (quotient-le n l (i .topStep) fits))
+      (λ (g : k < l % n). rw (byte-above n l k g h) (above-step (omega arith)))
+      (le-or-lt (l % n) k)
+
+  pub byte-active : i .topStep < off → (k : ℕ) → k < n → isOff (moduleByte n l k) ≡ false
+  byte-active steps k h = step-active (moduleByte n l k) (omega (arith, byte-step k h))
+
+  -- Each byte of the row of a plan is an entry.
+  pub plan-row-entry : (k : ℕ) → Entry i (moduleByte n l k)
+  plan-row-entry k =
+      ⊎-elim
+      (λ (g : n ≤ k). rw (byte-off n l k g) (or-true (leb off (i .topStep))))
+      (λ (g : k < n). rw (le-leb (moduleByte n l k) (i .topStep) (byte-step k g)))
+      (le-or-lt n k)
+
+  -- the sum over the row of a function of the byte, 0 at off and h at the steps
+  plan-row-sum : (g h : ℕ → ℕ) → g off ≡ 0 → ((b : ℕ) → b ≤ i .topStep → g b ≡ h b) → (m : ℕ) → n ≤ m →
+      sum m (λ k. g (moduleByte n l k)) ≡ (n - l % n) * h (l / n) + l % n * h (l / n + 1)
+  plan-row-sum g h e steps m rack =
+      let some = remainder-le n l (i .topStep) fits in
+      let first = sum-const (l % n) (λ k a. above k a (omega arith)) in
+      let others = sum-from (l % n) (n - l % n) n (add-sub-of-le some) at-step in
+      let rest = sum-from n (m - n) m (add-sub-of-le rack) (λ k a c. ap g (byte-off n l k a) ∙ e) in
+      omega arith
+    where
+      above : (k : ℕ) → k < l % n → k < n → g (moduleByte n l k) ≡ h (l / n + 1)
+      above k a c = ap g (byte-above n l k a c) ∙ steps (l / n + 1) (above-step (omega arith))
+
+      at-step : (k : ℕ) → l % n ≤ k → k < n → g (moduleByte n l k) ≡ h (l / n)
+      at-step k a c = ap g (byte-at n l k a c) ∙ steps (l / n) (quotient-le n l (i .topStep) fits)
+
+-- In a rack of m, where no step is the byte for off, it has n active modules, its light is l and its cost the running cost.
+module _ (i : Instance) (m n l : ℕ) (steps : i .topStep < off) (rack : n ≤ m) (fits : l ≤ n * i .topStep) where
+  pub plan-row-active : activeIn m (moduleByte n l) ≡ n
+  unfolding activeIn
+  plan-row-active =
+      let counted = plan-row-sum i n l fits (λ b. cond (isOff b) 0 1) (λ b. 1) refl (λ b h. rw (step-active b (omega arith))) m rack in
+      omega (arith, remainder-le n l (i .topStep) fits)
+
+  pub plan-row-light : lightIn m (moduleByte n l) ≡ l
+  unfolding lightIn
+  plan-row-light =
+      let summed = plan-row-sum i n l fits stepOf (λ b. b) refl (λ b h. rw (step-active b (omega arith))) m rack in
+      omega (arith, part-and-rest n (l % n) (l / n) (remainder-le n l (i .topStep) fits), div-add-mod l n)
+
+  pub plan-row-cost : costIn i m (moduleByte n l) ≡ operatingCost i n l
+  unfolding costIn stepCost
+  plan-row-cost =
+      plan-row-sum i n l fits (stepCost i) (i .table) refl (λ b h. rw (step-active b (omega arith))) m rack ∙
+      sym (running-formula i n l fits)

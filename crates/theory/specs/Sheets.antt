@@ -1,0 +1,291 @@
+-- Sheets: their cost by the modules that go on, the thesis's 2.2 and 2.3, the counts of a sheet, and the sheet of a plan.
+use Prim.Native.Nat.{ℕ, zero, suc, _+_, _-_, _*_, _/_, _%_, _≤_, _<_}
+use mathlib.Core.Path.{_≡_, refl, ap, ap₂, sym, _∙_, subst}
+use mathlib.Core.Bool.{Bool, true, false, cond}
+use mathlib.Core.Logic.{_↔_, ⊎-elim}
+use mathlib.Core.List.{List}
+use lib.ListN.{length, getD}
+use lib.Arith.{digits-lt}
+use borrow.Author.Tests.{eqb-true, eq-eqb, leb-true, le-leb, lt-ltb, le-ltb}
+use native.Mathlib.Nat.{le-refl, le-of-lt, add-le-add, mul-le-mul-left, mul-zero, mul-comm}
+use native.Mathlib.Nat.{eq-zero-or-pos, mod-lt, div-lt-iff-lt-mul, div-add-mod'}
+use native.Mathlib.Numerals.{add-one}
+use native.Mathlib.Omega.{arith}
+use Rattle.lists.specs.Tests.{every-at, every-all, and-left, and-right, and-both}
+use Rattle.lists.specs.Sums.{sum, sum-ext, sum-mono, sum-add, sum-scale, sum-const}
+use Rattle.lists.specs.Lists.{tabulate, length-tabulate, getD-tabulate, length-rows, getD-rows}
+use Rattle.model.specs.Instance.{Instance}
+use Rattle.model.specs.Counts.{canServe, operatingCost}
+use Rattle.model.specs.Sheets.{off, isOff, stepOf, stateAt, sheetLength, sheetEntries, lightAt, sheetLight, serves}
+use Rattle.model.specs.Sheets.{stepCost, changeCost, sheetCost}
+use Rattle.model.specs.Thesis.{switchingPrice, scheduleCost, scheduleOf, Feasible, countAt, stepUp, countsCost}
+use Rattle.model.specs.Plans.{moduleByte, slotRow, sheetOf, planCost, planServes}
+use Rattle.theory.specs.Setting.{Convex, Entry, activeIn, lightIn, costIn, PlanFits}
+use Rattle.theory.specs.Running.{active-le, row-fits, row-at-least, byte-off, plan-row-entry, plan-row-light, plan-row-cost}
+use Rattle.theory.specs.Switching.{started, startedIn, stoppedIn, change-cost, switches-balance}
+use Rattle.theory.specs.Switching.{started-at-least, started-at-most, plan-started}
+
+off-row-active : (m : ℕ) (b : ℕ → ℕ) → ((k : ℕ) → b k ≡ off) → activeIn m b ≡ 0
+unfolding activeIn
+off-row-active m b e = sum-const m (λ k h. rw (e k)) ∙ mul-zero m
+
+module _ (i : Instance) (s : List ℕ) where
+  -- all are off before slot 1 and after the last
+  off-before : activeIn (i .modules) (stateAt i s 0) ≡ 0
+  unfolding stateAt
+  off-before = off-row-active (i .modules) (stateAt i s 0) (λ k. refl)
+
+  off-after : activeIn (i .modules) (stateAt i s (suc (i .slots))) ≡ 0
+  unfolding stateAt
+  off-after = off-row-active (i .modules) (stateAt i s (suc (i .slots))) (λ k. rw (le-ltb (i .slots) (i .slots) (le-refl (i .slots))))
+
+  -- the modules that go on and off after time t
+  abbrev startedAt : ℕ → ℕ
+  startedAt t = startedIn (i .modules) (stateAt i s t) (stateAt i s (suc t))
+
+  abbrev stoppedAt : ℕ → ℕ
+  stoppedAt t = stoppedIn (i .modules) (stateAt i s t) (stateAt i s (suc t))
+
+  -- each goes off as often as on
+  stopped-as-started : sum (i .slots + 1) stoppedAt ≡ sum (i .slots + 1) startedAt
+  stopped-as-started = rw add-one (omega (arith, switches-balance (i .modules) (stateAt i s) (suc (i .slots)), off-before, off-after))
+
+  -- none goes on after the last slot
+  started-in-slots : sum (i .slots + 1) startedAt ≡ sum (i .slots) startedAt
+  unfolding sum
+  started-in-slots =
+      rw add-one (omega (arith, started-at-most (i .modules) (stateAt i s (i .slots)) (stateAt i s (suc (i .slots))), off-after))
+
+  changes-cost : sum (i .slots + 1) (λ t. sum (i .modules) (λ k. changeCost i (stateAt i s t k) (stateAt i s (suc t) k))) ≡
+      switchingPrice i * sum (i .slots) startedAt
+  changes-cost =
+      let n : ℕ = i .slots + 1 in
+      let priced = sum-ext n (λ t h. change-cost i (i .modules) (stateAt i s t) (stateAt i s (suc t))) in
+      let apart = sum-add n (λ t. i .powerUp * startedAt t) (λ t. i .powerDown * stoppedAt t) in
+      let up = sum-scale n (i .powerUp) startedAt ∙ ap (λ (x : ℕ). i .powerUp * x) started-in-slots in
+      let down = sum-scale n (i .powerDown) stoppedAt ∙ ap (λ (x : ℕ). i .powerDown * x) (stopped-as-started ∙ started-in-slots) in
+      omega arith
+
+  -- A sheet costs what its rows cost and the switching price for each module that goes on,
+  pub sheet-cost-starts : sheetCost i s ≡
+      sum (i .slots) (λ t. costIn i (i .modules) (stateAt i s (suc t))) +
+      switchingPrice i * sum (i .slots) (λ t. startedIn (i .modules) (stateAt i s t) (stateAt i s (suc t)))
+  unfolding sheetCost costIn
+  sheet-cost-starts = omega (arith, changes-cost)
+
+  -- slot by slot.
+  sheet-cost-slots : sheetCost i s ≡ sum (i .slots) (λ t. costIn i (i .modules) (stateAt i s (suc t)) + switchingPrice i * startedAt t)
+  sheet-cost-slots =
+      let apart = sum-add (i .slots) (λ t. costIn i (i .modules) (stateAt i s (suc t))) (λ t. switchingPrice i * startedAt t) in
+      omega (arith, sheet-cost-starts, sum-scale (i .slots) (switchingPrice i) startedAt)
+
+-- In a schedule a byte's step times its state is its step, F of its step times its state is its cost,
+assigned-active : (b : ℕ) → stepOf b * cond (isOff b) 0 1 ≡ stepOf b
+assigned-active b = go (isOff b)
+  where
+    go : (x : Bool) → cond x 0 b * cond x 0 1 ≡ cond x 0 b
+    go true = refl
+    go false = omega arith
+
+cost-active : (i : Instance) (b : ℕ) → i .table (stepOf b) * cond (isOff b) 0 1 ≡ stepCost i b
+unfolding stepCost
+cost-active i b = go (isOff b)
+  where
+    go : (x : Bool) → i .table (cond x 0 b) * cond x 0 1 ≡ cond x 0 (i .table b)
+    go true = omega arith
+    go false = omega arith
+
+-- and the truncated difference of two states says whether it goes on.
+state-difference : (a b : Bool) → cond b 0 1 - cond a 0 1 ≡ started a b
+state-difference true true = refl
+state-difference true false = refl
+state-difference false true = refl
+state-difference false false = refl
+
+module _ (i : Instance) (s : List ℕ) where
+  -- the three parts of `serves`
+  serves-length : serves i s ≡ true → sheetLength i s ≡ true
+  unfolding serves
+  serves-length e = and-left (sheetLength i s) _ e
+
+  serves-entries : serves i s ≡ true → sheetEntries i s ≡ true
+  unfolding serves
+  serves-entries e = and-left (sheetEntries i s) _ (and-right (sheetLength i s) _ e)
+
+  serves-light : serves i s ≡ true → sheetLight i s ≡ true
+  unfolding serves
+  serves-light e = and-right (sheetEntries i s) _ (and-right (sheetLength i s) _ e)
+
+  -- The cost of any list of bytes is 2.2 of its states and steps.
+  pub thesis-cost : sheetCost i s ≡ scheduleCost i (scheduleOf i s)
+  unfolding scheduleCost scheduleOf costIn startedIn
+  thesis-cost = rw sheet-cost-starts (simp (cost-active, state-difference))
+
+  schedule-light : (t : ℕ) → sum (i .modules) (λ k. scheduleOf i s .assigned t k * scheduleOf i s .active t k) ≡ lightAt i s t
+  unfolding scheduleOf lightAt
+  schedule-light t = simp assigned-active
+
+  -- Its steps sum to the loads exactly if 2.3 holds.
+  pub thesis-feasible : sheetLight i s ≡ true → Feasible i (scheduleOf i s)
+  unfolding sheetLight
+  thesis-feasible e t h = schedule-light (suc t) ∙ eqb-true _ _ (every-at (i .slots) _ e t h)
+
+  pub feasible-light : Feasible i (scheduleOf i s) → sheetLight i s ≡ true
+  unfolding sheetLight
+  feasible-light f = every-all (i .slots) _ (λ t h. eq-eqb _ _ (sym (schedule-light (suc t)) ∙ f t h))
+
+  -- A list of m × T bytes, each a step or off, serves exactly if its states and steps satisfy 2.3.
+  pub serves-feasible : sheetLength i s ≡ true → sheetEntries i s ≡ true → serves i s ≡ true ↔ Feasible i (scheduleOf i s)
+  unfolding serves
+  serves-feasible size entries =
+      (λ e. thesis-feasible (serves-light e), λ f. and-both size (and-both entries (feasible-light f)))
+
+-- The counts of a sheet: its active modules, slot by slot.
+unfoldable pub countsOf : Instance → List ℕ → List ℕ
+countsOf i s = tabulate (i .slots) (λ t. activeIn (i .modules) (stateAt i s (suc t)))
+
+module _ (i : Instance) (s : List ℕ) where
+  counts-at : (t : ℕ) → t ≤ i .slots → countAt 0 (countsOf i s) t ≡ activeIn (i .modules) (stateAt i s t)
+  unfolding countAt countsOf
+  counts-at zero h = sym (off-before i s)
+  counts-at (suc t) h = getD-tabulate (i .slots) _ t 0 h
+
+  -- each slot of a sheet that serves is a row of entries whose light is the load
+  row-entries : serves i s ≡ true → (t : ℕ) → t < i .slots → (k : ℕ) → k < i .modules → Entry i (stateAt i s (suc t) k)
+  unfolding stateAt sheetLength sheetEntries
+  row-entries e t h k g =
+      let size : length s ≡ i .modules * i .slots = eqb-true _ _ (serves-length i s e) in
+      rw (lt-ltb t (i .slots) h) (every-at (length s) _ (serves-entries i s e) (t * i .modules + k) (omega (arith, digits-lt h g)))
+
+  row-light : serves i s ≡ true → (t : ℕ) → t < i .slots → lightIn (i .modules) (stateAt i s (suc t)) ≡ i .load t
+  unfolding lightIn sheetLight lightAt
+  row-light e t h = eqb-true _ _ (every-at (i .slots) _ (serves-light i s e) t h)
+
+-- A sheet that serves costs at least its counts.
+pub sheet-at-least : (i : Instance) → Convex (i .topStep) (i .table) → (s : List ℕ) → serves i s ≡ true →
+    countsCost i 0 (countsOf i s) ≤ sheetCost i s
+unfolding countsCost stepUp
+sheet-at-least i c s e = rw sheet-cost-slots (sum-mono (i .slots) slot)
+  where
+    slot : (t : ℕ) → t < i .slots →
+        stepUp i (countAt 0 (countsOf i s) t) (countAt 0 (countsOf i s) (suc t)) (i .load t) ≤
+        costIn i (i .modules) (stateAt i s (suc t)) + switchingPrice i * startedAt i s t
+    slot t h =
+        let running = row-at-least i c (i .modules) (stateAt i s (suc t)) (row-entries i s e t h) in
+        let switching = started-at-least (i .modules) (stateAt i s t) (stateAt i s (suc t)) in
+        rw (counts-at i s t (omega arith), counts-at i s (suc t) h, ← row-light i s e t h)
+        (add-le-add running (mul-le-mul-left (switchingPrice i) switching))
+
+-- Its counts are a plan whose sheet can be written.
+pub counts-fit : (i : Instance) (s : List ℕ) → i .topStep < off → serves i s ≡ true → PlanFits i (countsOf i s)
+unfolding countsOf countAt planServes canServe
+counts-fit i s steps e =
+    record {
+      steps = steps;
+      slotwise = length-tabulate (i .slots) _;
+      in-rack = λ t h. rw (counts-at i s (suc t) h) (active-le (i .modules) (stateAt i s (suc t)));
+      served = every-all (i .slots) _ (λ t h. le-leb _ _ (fits t h));
+    }
+  where
+    fits : (t : ℕ) → t < i .slots → i .load t ≤ countAt 0 (countsOf i s) (suc t) * i .topStep
+    fits t h =
+        let row = row-fits i (i .modules) (stateAt i s (suc t)) (row-entries i s e t h) in
+        rw (counts-at i s (suc t) h, ← row-light i s e t h) row
+
+-- the load at time t, none at time 0
+abbrev loadAt : Instance → ℕ → ℕ
+loadAt i zero = 0
+loadAt i (suc t) = i .load t
+
+-- The sheet of a plan.
+module _ (i : Instance) (p : List ℕ) where
+  row-length : (t : ℕ) → length (slotRow i (getD p t 0) (i .load t)) ≡ i .modules
+  unfolding slotRow
+  row-length t = length-tabulate (i .modules) _
+
+  pub sheet-length : length (sheetOf i p) ≡ i .modules * i .slots
+  unfolding sheetOf
+  sheet-length = length-rows (i .modules) (i .slots) _ row-length ∙ mul-comm (i .slots) (i .modules)
+
+  -- its byte for slot t and module k
+  sheet-entry : (t k : ℕ) → t < i .slots → k < i .modules →
+      getD (sheetOf i p) (t * i .modules + k) off ≡ moduleByte (getD p t 0) (i .load t) k
+  unfolding sheetOf slotRow
+  sheet-entry t k h g = getD-rows (i .modules) (i .slots) _ row-length t k off h g ∙ getD-tabulate (i .modules) _ k off g
+
+  -- a place in it is that of a slot and a module
+  place-slot : (j : ℕ) → j < length (sheetOf i p) → (j / i .modules < i .slots) × (j % i .modules < i .modules)
+  place-slot j h = ⊎-elim none some (eq-zero-or-pos (i .modules))
+    where
+      none : i .modules ≡ 0 → (j / i .modules < i .slots) × (j % i .modules < i .modules)
+      none e = absurd (omega (arith, sheet-length, ap (λ (x : ℕ). x * i .slots) e))
+
+      some : 0 < i .modules → (j / i .modules < i .slots) × (j % i .modules < i .modules)
+      some g = (div-lt-iff-lt-mul g .1 (omega (arith, sheet-length)), mod-lt j g)
+
+  -- at time t it has the row of the count and the load
+  state-row : (t : ℕ) → t ≤ i .slots → (k : ℕ) → k < i .modules →
+      stateAt i (sheetOf i p) t k ≡ moduleByte (countAt 0 p t) (loadAt i t) k
+  unfolding stateAt countAt
+  state-row zero h k g = sym (byte-off 0 0 k (omega arith))
+  state-row (suc t) h k g = rw (lt-ltb t (i .slots) h) (sheet-entry t k h g)
+
+module _ (i : Instance) (p : List ℕ) (fit : PlanFits i p) where
+  fits-at : (t : ℕ) → t ≤ i .slots → loadAt i t ≤ countAt 0 p t * i .topStep
+  unfolding countAt planServes canServe
+  fits-at zero h = omega arith
+  fits-at (suc t) h = leb-true _ _ (every-at (i .slots) _ (fit .served) t h)
+
+  rack-at : (t : ℕ) → t ≤ i .slots → countAt 0 p t ≤ i .modules
+  unfolding countAt
+  rack-at zero h = omega arith
+  rack-at (suc t) h = fit .in-rack t h
+
+  plan-entries : sheetEntries i (sheetOf i p) ≡ true
+  unfolding sheetEntries countAt
+  plan-entries = every-all (length (sheetOf i p)) _ entry
+    where
+      at-slot : (t k : ℕ) → t < i .slots → k < i .modules → Entry i (getD (sheetOf i p) (t * i .modules + k) off)
+      at-slot t k h g = rw (sheet-entry i p t k h g) (plan-row-entry i (getD p t 0) (i .load t) (fits-at (suc t) h) k)
+
+      entry : (j : ℕ) → j < length (sheetOf i p) → Entry i (getD (sheetOf i p) j off)
+      entry j h =
+          let place = place-slot i p j h in
+          subst (λ (x : ℕ). Entry i (getD (sheetOf i p) x off)) (div-add-mod' j (i .modules)) (at-slot _ _ (place .0) (place .1))
+
+  plan-light : sheetLight i (sheetOf i p) ≡ true
+  unfolding sheetLight lightAt lightIn
+  plan-light = every-all (i .slots) _ (λ t h. eq-eqb _ _ (light t h))
+    where
+      light : (t : ℕ) → t < i .slots → lightAt i (sheetOf i p) (suc t) ≡ i .load t
+      light t h =
+          sum-ext (i .modules) (λ k g. ap stepOf (state-row i p (suc t) h k g)) ∙
+          plan-row-light i (i .modules) (countAt 0 p (suc t)) (i .load t) (fit .steps) (rack-at (suc t) h) (fits-at (suc t) h)
+
+  -- The sheet of a plan serves,
+  pub plan-sheet-serves : serves i (sheetOf i p) ≡ true
+  unfolding serves sheetLength
+  plan-sheet-serves = and-both (eq-eqb _ _ (sheet-length i p)) (and-both plan-entries plan-light)
+
+  plan-running : (t : ℕ) → t < i .slots →
+      costIn i (i .modules) (stateAt i (sheetOf i p) (suc t)) ≡ operatingCost i (countAt 0 p (suc t)) (i .load t)
+  unfolding costIn
+  plan-running t h =
+      sum-ext (i .modules) (λ k g. ap (stepCost i) (state-row i p (suc t) h k g)) ∙
+      plan-row-cost i (i .modules) (countAt 0 p (suc t)) (i .load t) (fit .steps) (rack-at (suc t) h) (fits-at (suc t) h)
+
+  plan-switching : (t : ℕ) → t < i .slots → startedAt i (sheetOf i p) t ≡ countAt 0 p (suc t) - countAt 0 p t
+  unfolding startedIn
+  plan-switching t h =
+      let l = le-of-lt h in
+      sum-ext (i .modules)
+      (λ k g. ap₂ (λ a b. started (isOff a) (isOff b)) (state-row i p t l k g) (state-row i p (suc t) h k g)) ∙
+      plan-started i (i .modules) (countAt 0 p t) (loadAt i t) (countAt 0 p (suc t)) (i .load t)
+      (fit .steps) (rack-at t l) (rack-at (suc t) h) (fits-at t l) (fits-at (suc t) h)
+
+  -- and a plan costs what its counts cost.
+  pub plan-cost-counts : planCost i p ≡ countsCost i 0 p
+  unfolding planCost countsCost stepUp
+  plan-cost-counts =
+      sheet-cost-slots i (sheetOf i p) ∙
+      sum-ext (i .slots) (λ t h. ap₂ (λ a b. a + switchingPrice i * b) (plan-running t h) (plan-switching t h))

@@ -1,0 +1,99 @@
+-- Switching between two rows of bytes: how many modules go on, and what the changes cost.
+use Prim.Native.Nat.{ℕ, zero, suc, _+_, _-_, _*_, _≤_, _<_}
+use mathlib.Core.Path.{_≡_, refl, _∙_}
+use mathlib.Core.Bool.{Bool, true, false, cond}
+use mathlib.Core.Logic.{⊎-elim}
+use native.Mathlib.Nat.{le-refl, le-of-lt, mul-zero}
+use native.Mathlib.Omega.{arith}
+use Rattle.lists.specs.Numbers.{le-or-lt}
+use Rattle.lists.specs.Sums.{sum, sum-mono, sum-const}
+use Rattle.model.specs.Instance.{Instance}
+use Rattle.model.specs.Sheets.{off, isOff, changeCost}
+use Rattle.model.specs.Plans.{moduleByte}
+use Rattle.theory.specs.Setting.{activeIn}
+use Rattle.theory.specs.Running.{byte-off, byte-active, plan-row-active}
+
+-- 1 for a module that was off and is not, else 0
+abbrev pub started : (wasOff nowOff : Bool) → ℕ
+started a b = cond a (cond b 0 1) 0
+
+-- the modules that go on from row a to row b, and those that go off
+unfoldable pub startedIn : ℕ → (ℕ → ℕ) → (ℕ → ℕ) → ℕ
+startedIn m a b = sum m (λ k. started (isOff (a k)) (isOff (b k)))
+
+unfoldable pub stoppedIn : ℕ → (ℕ → ℕ) → (ℕ → ℕ) → ℕ
+stoppedIn m a b = sum m (λ k. started (isOff (b k)) (isOff (a k)))
+
+-- Those active before and those that go on are those active now and those that go off:
+pub switch-balance : (m : ℕ) (a b : ℕ → ℕ) → activeIn m a + startedIn m a b ≡ activeIn m b + stoppedIn m a b
+unfolding sum activeIn startedIn stoppedIn
+switch-balance zero a b = refl
+switch-balance (suc m) a b = omega (arith, switch-balance m a b, byte (isOff (a m)) (isOff (b m)))
+  where
+    byte : (x y : Bool) → cond x 0 1 + started x y ≡ cond y 0 1 + started y x
+    byte true true = refl
+    byte true false = refl
+    byte false true = refl
+    byte false false = refl
+
+-- and so over n changes of rows.
+pub switches-balance : (m : ℕ) (r : ℕ → ℕ → ℕ) (n : ℕ) →
+    activeIn m (r 0) + sum n (λ t. startedIn m (r t) (r (suc t))) ≡ activeIn m (r n) + sum n (λ t. stoppedIn m (r t) (r (suc t)))
+unfolding sum
+switches-balance m r zero = refl
+switches-balance m r (suc n) = omega (arith, switches-balance m r n, switch-balance m (r n) (r (suc n)))
+
+-- The changes cost a price for each module that goes on and one for each that goes off.
+pub change-cost : (i : Instance) (m : ℕ) (a b : ℕ → ℕ) →
+    sum m (λ k. changeCost i (a k) (b k)) ≡ i .powerUp * startedIn m a b + i .powerDown * stoppedIn m a b
+unfolding sum startedIn stoppedIn changeCost
+change-cost i zero a b = omega arith
+change-cost i (suc m) a b = omega (arith, change-cost i m a b, byte (isOff (a m)) (isOff (b m)))
+  where
+    byte : (x y : Bool) →
+        cond x (cond y 0 (i .powerUp)) (cond y (i .powerDown) 0) ≡ i .powerUp * started x y + i .powerDown * started y x
+    byte true true = omega arith
+    byte true false = omega arith
+    byte false true = omega arith
+    byte false false = omega arith
+
+-- At least the difference of the active modules goes on, and at most those active now.
+pub started-at-least : (m : ℕ) (a b : ℕ → ℕ) → activeIn m b - activeIn m a ≤ startedIn m a b
+started-at-least m a b = omega (arith, switch-balance m a b)
+
+pub started-at-most : (m : ℕ) (a b : ℕ → ℕ) → startedIn m a b ≤ activeIn m b
+unfolding startedIn activeIn
+started-at-most m a b = sum-mono m (λ k h. byte (isOff (a k)) (isOff (b k)))
+  where
+    byte : (x y : Bool) → started x y ≤ cond y 0 1
+    byte true y = le-refl (cond y 0 1)
+    byte false y = omega arith
+
+-- Between two rows of plans none goes on where the second has no more active modules,
+plan-none-started : (i : Instance) (m n l n′ l′ : ℕ) → i .topStep < off → l ≤ n * i .topStep → n′ ≤ n →
+    startedIn m (moduleByte n l) (moduleByte n′ l′) ≡ 0
+unfolding startedIn
+plan-none-started i m n l n′ l′ steps fits h = sum-const m (λ k _. byte k) ∙ mul-zero m
+  where
+    byte : (k : ℕ) → started (isOff (moduleByte n l k)) (isOff (moduleByte n′ l′ k)) ≡ 0
+    byte k =
+        ⊎-elim
+        (λ (g : n ≤ k). rw (byte-off n l k g, byte-off n′ l′ k (omega arith)))
+        (λ (g : k < n). rw (byte-active i n l fits steps k g))
+        (le-or-lt n k)
+
+-- and else just the difference.
+pub plan-started : (i : Instance) (m n l n′ l′ : ℕ) →
+    i .topStep < off → n ≤ m → n′ ≤ m → l ≤ n * i .topStep → l′ ≤ n′ * i .topStep →
+    startedIn m (moduleByte n l) (moduleByte n′ l′) ≡ n′ - n
+unfolding startedIn stoppedIn
+plan-started i m n l n′ l′ steps rack rack′ fits fits′ = ⊎-elim fewer more (le-or-lt n′ n)
+  where
+    fewer : n′ ≤ n → startedIn m (moduleByte n l) (moduleByte n′ l′) ≡ n′ - n
+    fewer h = omega (arith, plan-none-started i m n l n′ l′ steps fits h)
+
+    more : n < n′ → startedIn m (moduleByte n l) (moduleByte n′ l′) ≡ n′ - n
+    more h =
+        let none-stopped = plan-none-started i m n′ l′ n l steps fits′ (le-of-lt h) in
+        let balance = switch-balance m (moduleByte n l) (moduleByte n′ l′) in
+        omega (arith, plan-row-active i m n l steps rack fits, plan-row-active i m n′ l′ steps rack′ fits′)
