@@ -3,4 +3,5 @@ pub mod Numbers
 pub mod Tests
 pub mod Sums
 pub mod Lists
+pub mod Members
 pub mod Bytes

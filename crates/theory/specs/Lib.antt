@@ -5,3 +5,10 @@ pub mod Running
 pub mod Switching
 pub mod Sheets
 pub mod Needed
+pub mod Places
+pub mod Ties
+pub mod Choices
+pub mod Steps
+pub mod Least
+pub mod Enumeration
+pub mod Search

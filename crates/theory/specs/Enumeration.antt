@@ -1,0 +1,257 @@
+-- The first of the cheapest plans in an enumeration of all plans in tie order is the least plan.
+use Prim.Native.Nat.{ℕ, zero, suc, _+_, _≤_, _<_}
+use mathlib.Core.Path.{_≡_, refl, sym, ap, _∙_}
+use mathlib.Core.Bool.{Bool, true, false, cond}
+use mathlib.Core.Logic.{⊎-elim}
+use mathlib.Core.List.{List, [], _∷_, _++_, map, List·Memᴰ, List·Memᴰ·head, List·Memᴰ·tail}
+use mathlib.Core.List.{List·Memᴰ·not-nil, List·Memᴰ·cases-cons, List·Memᴰ·eq-of-singleton, Memᴰ·cast, Memᴰ·map}
+use native.Mathlib.Nat.{not-suc-le-zero}
+use native.Mathlib.Omega.{arith}
+use lib.ListN.{length, getD, take, replicate, length-replicate, getD-replicate}
+use lib.Seq.{getD-at, take-all, take-suc, length-take-le, getD-take}
+use lib.Dec.{ltb}
+use borrow.Author.Tests.{ltb-true, ltb-false}
+use Rattle.lists.specs.Numbers.{le-or-lt}
+use Rattle.lists.specs.Lists.{keep}
+use Rattle.lists.specs.Members.{InOrder, none, next, member-at, place-of, snoc-before, snoc-length, rising-in-order}
+use Rattle.lists.specs.Members.{to-keep, from-keep, in-order-keep, from-map, in-order-map, to-flatMap, from-flatMap, in-order-flatMap}
+use Rattle.model.specs.Instance.{Instance}
+use Rattle.model.specs.Plans.{Allowed, Member, LeastPlan, planCost, planServes, plansInOrder, cheapest, cheapestOf, leastPlan}
+use Rattle.columns.specs.Column.{lastPlace}
+use Rattle.theory.specs.Setting.{Ascending, LoadsFit}
+use Rattle.theory.specs.Places.{last-inside, last-serves, allowed-of}
+use Rattle.theory.specs.Ties.{NotAfterIn, not-after-snoc, not-after-equal}
+
+-- What `cheapest` finds in a list whose elements stand in a relation R to those after them.
+module _ (cost : List ℕ → ℕ) (R : List ℕ → List ℕ → Type 0) where
+  -- p is the cheapest of a list, before all others that cost as much
+  record CheapestIn (l : List (List ℕ)) (p : List ℕ) : Type 0 where
+    member : List·Memᴰ p l
+    least : (q : List ℕ) → List·Memᴰ q l → cost p ≤ cost q
+    first : (q : List ℕ) → List·Memᴰ q l → cost q ≡ cost p → R p q
+
+  -- and is the head if that costs as much
+  record CheapestFrom (best : List ℕ) (ps : List (List ℕ)) (p : List ℕ) : Type 0 where
+    cheapest-in : CheapestIn (best ∷ ps) p
+    keeps : cost best ≡ cost p → p ≡ best
+
+  -- a cheaper element takes the place of the best so far
+  replaced : {best q p : List ℕ} {ps : List (List ℕ)} → cost q < cost best → CheapestFrom q ps p → CheapestFrom best (q ∷ ps) p
+  replaced {best} {q} {p} {ps} less C =
+      record {
+        cheapest-in =
+            record {
+              member = List·Memᴰ·tail (C .cheapest-in .member);
+              least =
+                  λ x m.
+                  ⊎-elim
+                  (λ (e : x ≡ best). omega (arith, dearer, ap cost e))
+                  (C .cheapest-in .least x)
+                  (List·Memᴰ·cases-cons m);
+              first =
+                  λ x m same.
+                  ⊎-elim
+                  (λ (e : x ≡ best). absurd (omega (arith, dearer, ap cost e)))
+                  (λ (n : List·Memᴰ x (q ∷ ps)). C .cheapest-in .first x n same)
+                  (List·Memᴰ·cases-cons m);
+            };
+        keeps = λ same. absurd (omega (arith, dearer));
+      }
+    where
+      dearer : cost p < cost best
+      dearer = omega (arith, C .cheapest-in .least q (List·Memᴰ·head refl))
+
+  -- an element that is no cheaper changes nothing
+  kept :
+      {best q p : List ℕ} {ps : List (List ℕ)} → cost best ≤ cost q → R best q → CheapestFrom best ps p →
+      CheapestFrom best (q ∷ ps) p
+  kept {best} {q} {p} {ps} no-less before C =
+      record {
+        cheapest-in =
+            record {
+              member =
+                  ⊎-elim (λ (e : p ≡ best). List·Memᴰ·head e) (λ (m : List·Memᴰ p ps). List·Memᴰ·tail (List·Memᴰ·tail m))
+                  (List·Memᴰ·cases-cons (C .cheapest-in .member));
+              least = λ x m. split x m (cost p ≤ cost x) (C .cheapest-in .least x) (λ e. omega (arith, below, ap cost e));
+              first =
+                  λ x m same.
+                  split x m (R p x)
+                  (λ n. C .cheapest-in .first x n same)
+                  (λ e. rw (C .keeps (omega (arith, below, ap cost e)), e) before);
+            };
+        keeps = C .keeps;
+      }
+    where
+      below : cost p ≤ cost best
+      below = C .cheapest-in .least best (List·Memᴰ·head refl)
+
+      split : (x : List ℕ) → List·Memᴰ x (best ∷ q ∷ ps) → (G : Type 0) → (List·Memᴰ x (best ∷ ps) → G) → (x ≡ q → G) → G
+      split x m G old new =
+          ⊎-elim
+          (λ (e : x ≡ best). old (List·Memᴰ·head e))
+          (λ (n : List·Memᴰ x (q ∷ ps)). ⊎-elim new (λ (k : List·Memᴰ x ps). old (List·Memᴰ·tail k)) (List·Memᴰ·cases-cons n))
+          (List·Memᴰ·cases-cons m)
+
+  cheapest-from :
+      ((p : List ℕ) → R p p) → (best : List ℕ) (ps : List (List ℕ)) → ((q : List ℕ) → List·Memᴰ q ps → R best q) → InOrder R ps →
+      CheapestFrom best ps (cheapest cost best ps)
+  unfolding cheapest
+  cheapest-from self best [] ahead order =
+      record {
+        cheapest-in =
+            record {
+              member = List·Memᴰ·head refl;
+              least = λ q m. rw (List·Memᴰ·eq-of-singleton m) (omega arith);
+              first = λ q m _. rw (List·Memᴰ·eq-of-singleton m) (self best);
+            };
+        keeps = λ _. refl;
+      }
+  cheapest-from self best (q ∷ ps) ahead (next later order) =
+      go (ltb (cost q) (cost best)) refl (cheapest-from self q ps later order)
+      (cheapest-from self best ps (λ y m. ahead y (List·Memᴰ·tail m)) order)
+    where
+      go :
+          (b : Bool) → ltb (cost q) (cost best) ≡ b → CheapestFrom q ps (cheapest cost q ps) →
+          CheapestFrom best ps (cheapest cost best ps) → CheapestFrom best (q ∷ ps) (cheapest cost (cond b q best) ps)
+      go true e new old = replaced (ltb-true (cost q) (cost best) e) new
+      go false e new old = kept (ltb-false (cost q) (cost best) e) (ahead q (List·Memᴰ·head refl)) old
+
+  -- of a list in order that is not empty, `cheapestOf` gives the first of the cheapest
+  cheapest-of :
+      ((p : List ℕ) → R p p) → (l : List (List ℕ)) (r : List ℕ) → List·Memᴰ r l → InOrder R l →
+      CheapestIn l (cheapestOf cost l)
+  unfolding cheapestOf
+  cheapest-of self [] r m order = absurd (List·Memᴰ·not-nil m)
+  cheapest-of self (p ∷ ps) r m (next first order) = cheapest-from self p ps first order .cheapest-in
+
+module _ (counts : List ℕ) where
+  -- a plan of t slots with counts from the list
+  abbrev pub PlanOver : ℕ → List ℕ → Type 0
+  PlanOver t p = (length p ≡ t) × ((u : ℕ) → u < t → Member (getD p u 0) counts)
+
+  -- the enumerated plans of t slots, each with the count n after them
+  abbrev thenCount : ℕ → ℕ → List (List ℕ)
+  thenCount t n = map (λ p. p ++ (n ∷ [])) (plansInOrder counts t)
+
+  -- the enumeration holds such plans only,
+  enumerated : (t : ℕ) (p : List ℕ) → List·Memᴰ p (plansInOrder counts t) → PlanOver t p
+  unfolding plansInOrder
+  enumerated zero p m = (ap length (List·Memᴰ·eq-of-singleton m), λ u h. absurd (not-suc-le-zero h))
+  enumerated (suc t) p m =
+      let (n, of-counts, longer) = from-flatMap (thenCount t) counts m in
+      let (q, shorter, e) = from-map (λ p. p ++ (n ∷ [])) (plansInOrder counts t) longer in
+      let (size, members) = enumerated t q shorter in
+      let member : (u : ℕ) → u < suc t → Member (getD (q ++ (n ∷ [])) u 0) counts =
+      λ u h.
+      ⊎-elim
+      (λ (last : t ≤ u). rw (getD-at q n [] 0 u (omega arith)) (place-of 0 of-counts))
+      (λ (before : u < t). rw (snoc-before q n 0 t u size before) (members u before))
+      (le-or-lt t u) in
+      rw e (snoc-length q n t size, member)
+
+  -- all of them,
+  enumerates : (t : ℕ) (p : List ℕ) → PlanOver t p → List·Memᴰ p (plansInOrder counts t)
+  unfolding plansInOrder
+  enumerates zero [] over = List·Memᴰ·head refl
+  enumerates zero (x ∷ xs) (size, members) = absurd (omega arith)
+  enumerates (suc t) p (size, members) =
+      let (k, inside, here) = members t (omega arith) in
+      let n = getD p t 0 in
+      let whole : p ≡ take t p ++ (n ∷ []) = sym (take-all (suc t) p (omega arith)) ∙ take-suc p t 0 (omega arith) in
+      let front : PlanOver t (take t p) =
+      (length-take-le t p (omega arith), λ u h. rw (getD-take t p u 0 h) (members u (omega arith))) in
+      let longer = Memᴰ·map (λ p. p ++ (n ∷ [])) (enumerates t (take t p) front) in
+      Memᴰ·cast whole (to-flatMap (thenCount t) (rw here at (member-at counts k 0 inside)) longer)
+
+  -- in tie order
+  enumerated-in-order :
+      ((j : ℕ) → j + 1 < length counts → getD counts j 0 < getD counts (j + 1) 0) → (t : ℕ) →
+      InOrder (NotAfterIn t) (plansInOrder counts t)
+  unfolding plansInOrder
+  enumerated-in-order rises zero = next (λ y m. absurd (List·Memᴰ·not-nil m)) none
+  enumerated-in-order rises (suc t) =
+      in-order-flatMap {S = _<_} (thenCount t)
+      (λ n. in-order-map (λ p. p ++ (n ∷ [])) (same-last n) (enumerated-in-order rises t))
+      lower-last
+      (rising-in-order counts rises)
+    where
+      plans : List (List ℕ)
+      plans = plansInOrder counts t
+
+      same-last :
+          (n : ℕ) (p q : List ℕ) → List·Memᴰ p plans → List·Memᴰ q plans → NotAfterIn t p q →
+          NotAfterIn (suc t) (p ++ (n ∷ [])) (q ++ (n ∷ []))
+      same-last n p q m k order =
+          not-after-snoc t p q n n (enumerated t p m .0) (enumerated t q k .0) (omega arith) (λ _. order)
+
+      lower-last :
+          (x y : ℕ) (a b : List ℕ) → x < y → List·Memᴰ a (thenCount t x) → List·Memᴰ b (thenCount t y) → NotAfterIn (suc t) a b
+      lower-last x y a b less m k =
+          let (p, in-p, e) = from-map (λ p. p ++ (x ∷ [])) plans m in
+          let (q, in-q, f) = from-map (λ p. p ++ (y ∷ [])) plans k in
+          rw (e, f)
+          (not-after-snoc t p q x y (enumerated t p in-p .0) (enumerated t q in-q .0) (omega arith) (λ g. absurd (omega arith)))
+
+-- p is the least plan of t slots over the counts among those that pass a test, first in tie order
+pub record LeastOver (cost : List ℕ → ℕ) (test : List ℕ → Bool) (counts : List ℕ) (t : ℕ) (p : List ℕ) : Type 0 where
+  pub over : PlanOver counts t p
+  pub passes : test p ≡ true
+  pub least : (r : List ℕ) → PlanOver counts t r → test r ≡ true → cost p ≤ cost r
+  pub first : (r : List ℕ) → PlanOver counts t r → test r ≡ true → cost r ≡ cost p → NotAfterIn t p r
+
+-- the function of the definition gives it, for any cost and test, where some plan passes
+pub cheapest-plan :
+    (cost : List ℕ → ℕ) (test : List ℕ → Bool) (counts : List ℕ) (t : ℕ) →
+    ((j : ℕ) → j + 1 < length counts → getD counts j 0 < getD counts (j + 1) 0) →
+    (r : List ℕ) → PlanOver counts t r → test r ≡ true →
+    LeastOver cost test counts t (cheapestOf cost (keep test (plansInOrder counts t)))
+cheapest-plan cost test counts t rises r over passes =
+    record {
+      over = enumerated counts t (cheapestOf cost (keep test plans)) (found .0);
+      passes = found .1;
+      least = λ q o e. best .least q (listed q o e);
+      first = λ q o e. best .first q (listed q o e);
+    }
+  where
+    plans : List (List ℕ)
+    plans = plansInOrder counts t
+
+    listed : (q : List ℕ) → PlanOver counts t q → test q ≡ true → List·Memᴰ q (keep test plans)
+    listed q o e = to-keep test (enumerates counts t q o) e
+
+    best : CheapestIn cost (NotAfterIn t) (keep test plans) (cheapestOf cost (keep test plans))
+    best =
+        cheapest-of cost (NotAfterIn t) (λ p u h _. omega arith) (keep test plans) r (listed r over passes)
+        (in-order-keep test (enumerated-in-order counts rises t))
+
+    found : List·Memᴰ (cheapestOf cost (keep test plans)) plans × (test (cheapestOf cost (keep test plans)) ≡ true)
+    found = from-keep test plans (best .member)
+
+-- the full rack in every slot is allowed
+full-rack :
+    (i : Instance) (counts : List ℕ) → Ascending counts (i .modules) → LoadsFit i →
+    Allowed i counts (replicate (i .slots) (i .modules))
+full-rack i counts asc loads =
+    allowed-of i counts _ (length-replicate (i .slots) (i .modules))
+    (λ t h.
+    let here = asc .last ∙ sym (getD-replicate (i .slots) t (i .modules) 0 h) in
+    (lastPlace counts, last-inside asc, here, last-serves asc i (i .load t) (loads t h)))
+
+-- the least plan as a function is the least plan as a predicate
+pub least-plan : (i : Instance) (counts : List ℕ) → Ascending counts (i .modules) → LoadsFit i → LeastPlan i counts (leastPlan i counts)
+unfolding leastPlan
+least-plan i counts asc loads =
+    let full = full-rack i counts asc loads in
+    let L = cheapest-plan (planCost i) (planServes i) counts (i .slots) (asc .rises) _ (full .slotwise, full .member) (full .served) in
+    record {
+      allowed = record { slotwise = L .over .0; member = L .over .1; served = L .passes };
+      least = λ r a. L .least r (a .slotwise, a .member) (a .served);
+      first = λ r a. L .first r (a .slotwise, a .member) (a .served);
+    }
+
+-- and there is only one
+pub least-plan-unique : (i : Instance) (counts p r : List ℕ) → LeastPlan i counts p → LeastPlan i counts r → p ≡ r
+least-plan-unique i counts p r P R =
+    let same : planCost i p ≡ planCost i r = omega (arith, P .least r (R .allowed), R .least p (P .allowed)) in
+    not-after-equal (i .slots) p r (P .allowed .slotwise) (R .allowed .slotwise)
+    (P .first r (R .allowed) (sym same)) (R .first p (P .allowed) same)

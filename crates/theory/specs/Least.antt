@@ -1,0 +1,174 @@
+-- The search over a list of allowed counts gives the least plan by counts, first in tie order.
+use Prim.Native.Nat.{ℕ, zero, suc, _+_, _-_, _*_, _≤_, _<_}
+use mathlib.Core.Path.{_≡_, refl, sym, _∙_}
+use mathlib.Core.List.{List, [], _∷_, _++_}
+use native.Mathlib.Nat.{not-suc-le-zero, zero-sub, mul-zero}
+use native.Mathlib.Omega.{arith}
+use lib.ListN.{length, getD}
+use lib.Seq.{getD-at}
+use Rattle.lists.specs.Sums.{sum}
+use Rattle.lists.specs.Members.{snoc-before, snoc-length}
+use Rattle.model.specs.Instance.{Instance}
+use Rattle.model.specs.Plans.{Allowed}
+use Rattle.model.specs.Thesis.{switchingPrice, countAt, stepUp, countsCost}
+use Rattle.columns.specs.Column.{countAtPlace, column, selection, wayBack, searchedPlan, searchedCost}
+use Rattle.theory.specs.Setting.{Ascending, LoadsFit, LeastByCounts}
+use Rattle.theory.specs.Places.{count-rises, place-below, Placed, placed-snoc, placed-of, allowed-of}
+use Rattle.theory.specs.Steps.{column-step}
+use Rattle.theory.specs.Ties.{NotAfterIn, not-after-suc, not-after-same, not-after-equal}
+
+module _ (i : Instance) (start : ℕ) where
+  -- the cost by counts of a plan's first t slots
+  abbrev costOfFirst : List ℕ → ℕ → ℕ
+  costOfFirst p t = sum t (λ u. stepUp i (countAt start p u) (countAt start p (suc u)) (i .load u))
+
+  -- count and cost of the first t slots depend on those alone
+  count-same : (t : ℕ) (p r : List ℕ) → ((u : ℕ) → u < t → getD p u 0 ≡ getD r u 0) → countAt start p t ≡ countAt start r t
+  unfolding countAt
+  count-same zero p r same = refl
+  count-same (suc t) p r same = same t (omega arith)
+
+  cost-none : (p : List ℕ) → costOfFirst p 0 ≡ 0
+  unfolding sum
+  cost-none p = refl
+
+  cost-same : (t : ℕ) (p r : List ℕ) → ((u : ℕ) → u < t → getD p u 0 ≡ getD r u 0) → costOfFirst p t ≡ costOfFirst r t
+  unfolding sum
+  cost-same zero p r same = refl
+  cost-same (suc t) p r same =
+      rw (cost-same t p r (λ u h. same u (omega arith)), count-same t p r (λ u h. same u (omega arith)), count-same (suc t) p r same)
+
+  -- the cost of one more slot
+  cost-snoc :
+      (t : ℕ) (p : List ℕ) (x : ℕ) → length p ≡ t →
+      costOfFirst (p ++ (x ∷ [])) (suc t) ≡ costOfFirst p t + stepUp i (countAt start p t) x (i .load t)
+  unfolding sum countAt
+  cost-snoc t p x e =
+      let before : (u : ℕ) → u < t → getD (p ++ (x ∷ [])) u 0 ≡ getD p u 0 = λ u h. snoc-before p x 0 t u e h in
+      rw (cost-same t (p ++ (x ∷ [])) p before, count-same t (p ++ (x ∷ [])) p before, getD-at p x [] 0 t e)
+
+module _ (i : Instance) (counts : List ℕ) (start : ℕ) (asc : Ascending counts (i .modules)) (loads : LoadsFit i) where
+  -- a plan's cost, and the price of switching on from its last count up to place j
+  abbrev costTo : List ℕ → ℕ → ℕ → ℕ
+  costTo p t j = costOfFirst i start p t + switchingPrice i * (countAtPlace counts j - countAt start p t)
+
+  -- no plan costs less than the column says
+  column-below :
+      (t : ℕ) → t ≤ i .slots → (p : List ℕ) → Placed i counts p t → (j : ℕ) → j < length counts →
+      column i counts start t j ≤ costTo p t j
+  unfolding column sum countAt stepUp
+  column-below zero h p placed j inside = omega arith
+  column-below (suc t) h p placed j inside =
+      let (k, within, here, serves) = placed t (omega arith) in
+      rw (sym here)
+      (omega (
+        arith,
+        column-below t (omega arith) p (λ u g. placed u (omega arith)) k within,
+        column-step i counts start asc loads t h .at-most j k inside within serves,
+      ))
+
+  -- the way back serves
+  way-back-length : (t j : ℕ) → length (wayBack i counts start t j) ≡ t
+  unfolding wayBack
+  way-back-length zero j = refl
+  way-back-length (suc t) j = let c = selection i counts start t j in snoc-length (wayBack i counts start t c) _ t (way-back-length t c)
+
+  way-back-placed : (t j : ℕ) → t ≤ i .slots → j < length counts → Placed i counts (wayBack i counts start t j) t
+  unfolding wayBack
+  way-back-placed zero j h inside = λ u g. absurd (not-suc-le-zero g)
+  way-back-placed (suc t) j h inside =
+      let c = selection i counts start t j in
+      let step = column-step i counts start asc loads t h in
+      let within = step .chosen-in j inside in
+      placed-snoc i counts (wayBack i counts start t c) t c (way-back-length t c) (way-back-placed t c (omega arith) within) within
+      (step .chosen-serves j inside)
+
+  -- and costs what the column says
+  way-back-cost : (t j : ℕ) → t ≤ i .slots → j < length counts → costTo (wayBack i counts start t j) t j ≡ column i counts start t j
+  unfolding wayBack column countAt stepUp
+  way-back-cost zero j h inside = omega (arith, cost-none i start [])
+  way-back-cost (suc t) j h inside =
+      let c = selection i counts start t j in
+      let step = column-step i counts start asc loads t h in
+      let p = wayBack i counts start t c in
+      let whole = way-back-length t c in
+      rw (getD-at p (countAtPlace counts c) [] 0 t whole)
+      (omega (
+        arith,
+        cost-snoc i start t p (countAtPlace counts c) whole,
+        way-back-cost t c (omega arith) (step .chosen-in j inside),
+        step .attained j inside,
+      ))
+
+  -- and is first in tie order among the plans that cost as much
+  way-back-first :
+      (t j : ℕ) → t ≤ i .slots → j < length counts → (r : List ℕ) → Placed i counts r t →
+      costTo r t j ≡ column i counts start t j → NotAfterIn t (wayBack i counts start t j) r
+  unfolding wayBack column sum countAt stepUp
+  way-back-first zero j h inside r placed equal = λ u g. absurd (not-suc-le-zero g)
+  way-back-first (suc t) j h inside r placed equal =
+      let c = selection i counts start t j in
+      let step = column-step i counts start asc loads t h in
+      let n = countAtPlace counts c in
+      let p = wayBack i counts start t c in
+      let whole = way-back-length t c in
+      let last = getD-at p n [] 0 t whole in
+      let (k, within, here, serves) = placed t (omega arith) in
+      let earlier : Placed i counts r t = λ u g. placed u (omega arith) in
+      let bound = column-below t (omega arith) r earlier k within in
+      let choice = step .at-most j k inside within serves in
+      let cost = rw (sym here) at equal in
+      let tight : costTo r t k ≡ column i counts start t k = omega arith in
+      let low : c ≤ k = step .smallest j k inside within serves (omega arith) in
+      not-after-suc t (p ++ (n ∷ [])) r
+      (omega (arith, count-rises asc c k low within))
+      (λ e.
+      let same : c ≡ k = omega (arith, place-below asc k c within (omega arith)) in
+      not-after-same t (p ++ (n ∷ [])) p r r (λ u g. snoc-before p n 0 t u whole g) (λ u g. refl)
+      (way-back-first t c (omega arith) (step .chosen-in j inside) r earlier (rw same tight)))
+
+  cost-to-first : (p : List ℕ) → costTo p (i .slots) 0 ≡ countsCost i start p
+  unfolding countsCost
+  cost-to-first p = rw (asc .first, zero-sub, mul-zero) (omega arith)
+
+  first-inside : 0 < length counts
+  first-inside = omega (arith, asc .two)
+
+  -- the search's cost is that of its plan
+  pub searched-cost : searchedCost i counts start ≡ countsCost i start (searchedPlan i counts start)
+  unfolding searchedCost searchedPlan
+  searched-cost =
+      sym (way-back-cost (i .slots) 0 (omega arith) first-inside) ∙ cost-to-first (wayBack i counts start (i .slots) 0)
+
+  -- no allowed plan costs less by counts
+  pub searched-below : (r : List ℕ) → Allowed i counts r → searchedCost i counts start ≤ countsCost i start r
+  unfolding searchedCost
+  searched-below r a =
+      omega (
+        arith,
+        column-below (i .slots) (omega arith) r (placed-of i counts a) 0 first-inside,
+        cost-to-first r,
+      )
+
+  -- the search's plan is the least by counts, first in tie order
+  pub searched-least : LeastByCounts i counts start (searchedPlan i counts start)
+  unfolding searchedPlan searchedCost
+  searched-least =
+      record {
+        allowed =
+            allowed-of i counts (wayBack i counts start (i .slots) 0) (way-back-length (i .slots) 0)
+            (way-back-placed (i .slots) 0 (omega arith) first-inside);
+        least = λ r a. omega (arith, searched-cost, searched-below r a);
+        first =
+            λ r a e.
+            way-back-first (i .slots) 0 (omega arith) first-inside r (placed-of i counts a) (cost-to-first r ∙ e ∙ sym searched-cost);
+      }
+
+-- there is one least plan by counts
+pub least-unique :
+    (i : Instance) (counts : List ℕ) (start : ℕ) (p r : List ℕ) → LeastByCounts i counts start p → LeastByCounts i counts start r →
+    p ≡ r
+least-unique i counts start p r P R =
+    let same : countsCost i start p ≡ countsCost i start r = omega (arith, P .least r (R .allowed), R .least p (P .allowed)) in
+    not-after-equal (i .slots) p r (P .allowed .slotwise) (R .allowed .slotwise)
+    (P .first r (R .allowed) (sym same)) (R .first p (P .allowed) same)

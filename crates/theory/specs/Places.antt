@@ -1,0 +1,86 @@
+-- The places of an ascending list of allowed counts, and plans whose counts stand at places.
+use Prim.Native.Nat.{ℕ, suc, _*_, _≤_, _<_}
+use mathlib.Core.Path.{_≡_, sym, _∙_}
+use mathlib.Core.Bool.{true}
+use mathlib.Core.Logic.{⊎-elim}
+use mathlib.Core.List.{List, [], _∷_, _++_}
+use native.Mathlib.Omega.{arith}
+use lib.ListN.{length, getD}
+use lib.Seq.{getD-at}
+use borrow.Author.Tests.{le-leb}
+use Rattle.lists.specs.Numbers.{le-or-lt}
+use Rattle.lists.specs.Tests.{every-at, every-all}
+use Rattle.lists.specs.Members.{rising-far, snoc-before}
+use Rattle.model.specs.Instance.{Instance}
+use Rattle.model.specs.Counts.{canServe}
+use Rattle.model.specs.Plans.{Allowed, planServes}
+use Rattle.columns.specs.Column.{countAtPlace, lastPlace}
+use Rattle.theory.specs.Setting.{Ascending}
+
+module _ {counts : List ℕ} {m : ℕ} (asc : Ascending counts m) where
+  -- a higher place has a greater count
+  count-above : (j k : ℕ) → j < k → k < length counts → countAtPlace counts j < countAtPlace counts k
+  count-above = rising-far (countAtPlace counts) (length counts) (asc .rises)
+
+  pub count-rises : (j k : ℕ) → j ≤ k → k < length counts → countAtPlace counts j ≤ countAtPlace counts k
+  count-rises j k h inside =
+      ⊎-elim
+      (λ (g : k ≤ j). let same : j ≡ k = omega arith in rw same (omega arith))
+      (λ (g : j < k). omega (arith, count-above j k g inside))
+      (le-or-lt k j)
+
+  -- of two counts the lower stands at the lower place
+  pub place-below : (j k : ℕ) → j < length counts → countAtPlace counts j ≤ countAtPlace counts k → j ≤ k
+  place-below j k inside h =
+      ⊎-elim (λ (g : j ≤ k). g) (λ (g : k < j). omega (arith, count-above k j g inside)) (le-or-lt j k)
+
+  pub last-inside : lastPlace counts < length counts
+  last-inside = omega (arith, asc .two)
+
+  -- the last place is the full rack, which serves
+  pub last-serves :
+      (i : Instance) (l : ℕ) → l ≤ m * i .topStep → canServe i (countAtPlace counts (lastPlace counts)) l ≡ true
+  unfolding canServe
+  last-serves i l fits = rw (asc .last) (le-leb l (m * i .topStep) fits)
+
+  -- no count exceeds the rack
+  pub count-fits : (j : ℕ) → j < length counts → countAtPlace counts j ≤ m
+  count-fits j inside = omega (arith, asc .last, count-rises j (lastPlace counts) (omega arith) last-inside)
+
+module _ (i : Instance) (counts : List ℕ) where
+  -- in the first t slots each count stands at a place that serves
+  abbrev pub Placed : List ℕ → ℕ → Type 0
+  Placed p t =
+      (u : ℕ) → u < t →
+      (k : ℕ) × (k < length counts) × (countAtPlace counts k ≡ getD p u 0) × (canServe i (countAtPlace counts k) (i .load u) ≡ true)
+
+  pub placed-snoc :
+      (p : List ℕ) (t k : ℕ) → length p ≡ t → Placed p t → k < length counts →
+      canServe i (countAtPlace counts k) (i .load t) ≡ true → Placed (p ++ (countAtPlace counts k ∷ [])) (suc t)
+  placed-snoc p t k e placed inside serves u h =
+      ⊎-elim
+      (λ (last : t ≤ u).
+      let same : u ≡ t = omega arith in
+      (k, inside, sym (getD-at p (countAtPlace counts k) [] 0 u (e ∙ sym same)), rw same serves))
+      (λ (before : u < t).
+      let (c, within, here, can) = placed u before in
+      (c, within, here ∙ sym (snoc-before p (countAtPlace counts k) 0 t u e before), can))
+      (le-or-lt t u)
+
+  -- over all slots that is to be allowed
+  pub placed-of : {p : List ℕ} → Allowed i counts p → Placed p (i .slots)
+  unfolding planServes
+  placed-of {p} a u h =
+      let (k, inside, here) = a .member u h in
+      (k, inside, here, rw here (every-at (i .slots) (λ t. canServe i (getD p t 0) (i .load t)) (a .served) u h))
+
+  pub allowed-of : (p : List ℕ) → length p ≡ i .slots → Placed p (i .slots) → Allowed i counts p
+  unfolding planServes
+  allowed-of p e placed =
+      record {
+        slotwise = e;
+        member = λ t h. let (k, inside, here, serves) = placed t h in (k, inside, here);
+        served =
+            every-all (i .slots) (λ t. canServe i (getD p t 0) (i .load t))
+            (λ t h. let (k, inside, here, serves) = placed t h in rw here at serves);
+      }

@@ -1,0 +1,250 @@
+-- One slot's two passes give the least over all places that serve, and the smallest place that attains it; what follows for columns.
+use Prim.Native.Nat.{ℕ, zero, suc, _+_, _-_, _*_, _/_, _%_, _≤_, _<_}
+use mathlib.Core.Path.{_≡_, refl, sym, ap, _∙_}
+use mathlib.Core.Bool.{Bool, true, false, cond, false≢true}
+use mathlib.Core.List.{List}
+use native.Mathlib.Nat.{mul-le-mul-left, mul-le-mul-right, mul-zero, sub-eq-zero-of-le}
+use native.Mathlib.Nat.{div-add-mod, mod-lt, div-le-of-le-mul, lt-of-mul-lt-mul-left}
+use native.Mathlib.Omega.{arith}
+use lib.ListN.{length}
+use lib.Dec.{eqb, eqb·suc-zero}
+use borrow.Author.Tests.{leb-true, eqb-false}
+use Rattle.model.specs.Instance.{Instance}
+use Rattle.model.specs.Counts.{canServe, operatingCost}
+use Rattle.model.specs.Thesis.{switchingPrice}
+use Rattle.columns.specs.Column.{countAtPlace, lastPlace, Choice, cheaper, own, fromTop, downward, upward, column, selection}
+use Rattle.theory.specs.Setting.{Ascending, LoadsFit, SlotStep}
+use Rattle.theory.specs.Choices.{Best, best-own, best-skip, best-raised}
+use Rattle.theory.specs.Places.{count-rises, count-fits, last-inside, last-serves}
+
+module _ (i : Instance) (counts : List ℕ) (asc : Ascending counts (i .modules)) where
+  -- the price of switching on from place k up to place j
+  abbrev rise : ℕ → ℕ → ℕ
+  rise j k = switchingPrice i * (countAtPlace counts j - countAtPlace counts k)
+
+  no-rise : (j k : ℕ) → j ≤ k → k < length counts → rise j k ≡ 0
+  no-rise j k h inside = rw (sub-eq-zero-of-le (count-rises asc j k h inside)) (mul-zero (switchingPrice i))
+
+  rise-through : (h j k : ℕ) → k ≤ j → j ≤ h → h < length counts → rise h k ≡ rise j k + rise h j
+  rise-through h j k low high inside =
+      let a = count-rises asc k j low (omega arith) in
+      let b = count-rises asc j h high inside in
+      let e : countAtPlace counts h - countAtPlace counts k ≡
+      countAtPlace counts j - countAtPlace counts k + (countAtPlace counts h - countAtPlace counts j) = omega arith in
+      rw e (omega arith)
+
+  -- One slot with load l, after a column.
+  module _ (l : ℕ) (fits : l ≤ i .modules * i .topStep) (before : ℕ → ℕ) where
+    abbrev Serves : ℕ → Type 0
+    Serves k = (k < length counts) × (canServe i (countAtPlace counts k) l ≡ true)
+
+    -- the cost of serving at place k, and of then switching on up to place j
+    abbrev served : ℕ → ℕ
+    served k = before k + operatingCost i (countAtPlace counts k) l
+
+    abbrev servedUpTo : ℕ → ℕ → ℕ
+    servedUpTo j k = served k + rise j k
+
+    served-above : (j k : ℕ) → j ≤ k → Serves k → servedUpTo j k ≡ served k
+    served-above j k h serves = omega (arith, no-rise j k h (serves .0))
+
+    -- the downward pass at the place d below the last
+    from-top-best : (d j : ℕ) → j + d ≡ lastPlace counts → Best (λ k. (j ≤ k) × Serves k) served (fromTop i counts l before d)
+    unfolding fromTop
+    from-top-best zero j e =
+        record {
+          found = (omega arith, (last-inside asc, last-serves asc i l fits));
+          cost-is = refl;
+          least = λ k h. let same : k ≡ lastPlace counts = omega arith in rw same (omega arith);
+          first = λ k h _. omega arith;
+        }
+    from-top-best (suc d) j e =
+        let here : lastPlace counts - suc d ≡ j = omega arith in
+        rw here (pick (canServe i (countAtPlace counts j) l) refl (from-top-best d (suc j) (omega arith)))
+      where
+        rest : Choice
+        rest = fromTop i counts l before d
+
+        pick :
+            (b : Bool) → canServe i (countAtPlace counts j) l ≡ b → Best (λ k. (j < k) × Serves k) served rest →
+            Best (λ k. (j ≤ k) × Serves k) served (cond b (cheaper (own i counts l before j) rest) rest)
+        pick true can above = best-own j (omega arith, can) above
+        pick false cannot above = best-skip j (λ h. false≢true (sym cannot ∙ h .1)) above
+
+    -- each pass finds the best of its places
+    down-best : (j : ℕ) → j < length counts → Best (λ k. (j ≤ k) × Serves k) served (downward i counts l before j)
+    unfolding downward
+    down-best j inside = from-top-best (lastPlace counts - j) j (omega arith)
+
+    up-best : (j : ℕ) → j < length counts → Best Serves (servedUpTo j) (upward i counts l before j)
+    unfolding upward
+    up-best zero inside =
+        let down = down-best 0 inside in
+        record {
+          found = down .found .1;
+          cost-is = omega (arith, down .cost-is, served-above 0 (downward i counts l before 0 .at) (omega arith) (down .found .1));
+          least = λ k h. omega (arith, down .least k (omega arith, h));
+          first = λ k h e. down .first k (omega arith, h) (omega (arith, served-above 0 k (omega arith) h));
+        }
+    up-best (suc j) inside =
+        best-raised {value = served} j (rise (suc j) j)
+        (λ k h. omega (arith, rise-through (suc j) j k h (omega arith) inside))
+        (λ k h serves. served-above j k (omega arith) serves)
+        (λ k h serves. served-above (suc j) k h serves)
+        (up-best j (omega arith))
+        (down-best (suc j) inside)
+
+    -- the two passes give the least over all places that serve, and the smallest place that attains it
+    pub slot-step : SlotStep i counts l before (λ j. upward i counts l before j .cost) (λ j. upward i counts l before j .at)
+    slot-step =
+        record {
+          at-most = λ j k h inside serves. up-best j h .least k (inside, serves);
+          chosen-in = λ j h. up-best j h .found .0;
+          chosen-serves = λ j h. up-best j h .found .1;
+          attained = λ j h. up-best j h .cost-is;
+          smallest = λ j k h inside serves e. up-best j h .first k (inside, serves) (sym e);
+        }
+
+-- switching on directly costs no more than by way of another count
+triangle : (b x y z : ℕ) → b * (x - z) ≤ b * (y - z) + b * (x - y)
+triangle b x y z = let less : x - z ≤ y - z + (x - y) = omega arith in omega (arith, mul-le-mul-left b less)
+
+-- Laws of a slot's step, by what it is alone.
+module _
+    {i : Instance} {counts : List ℕ} {l : ℕ} {before after chosen : ℕ → ℕ} (asc : Ascending counts (i .modules))
+    (step : SlotStep i counts l before after chosen)
+  where
+    -- the column after a slot rises with the place
+    pub after-rises : (j k : ℕ) → j ≤ k → k < length counts → after j ≤ after k
+    after-rises j k h inside =
+        let c = chosen k in
+        let low = count-rises asc j k h inside in
+        let less : countAtPlace counts j - countAtPlace counts c ≤ countAtPlace counts k - countAtPlace counts c = omega arith in
+        omega (
+          arith,
+          step .at-most j c (omega arith) (step .chosen-in k inside) (step .chosen-serves k inside),
+          step .attained k inside,
+          mul-le-mul-left (switchingPrice i) less,
+        )
+
+    -- and by at most the switching price a module
+    pub after-slope :
+        (j k : ℕ) → j ≤ k → k < length counts →
+        after k ≤ after j + switchingPrice i * (countAtPlace counts k - countAtPlace counts j)
+    after-slope j k h inside =
+        let c = chosen j in
+        let here : j < length counts = omega arith in
+        omega (
+          arith,
+          step .at-most k c inside (step .chosen-in j here) (step .chosen-serves j here),
+          step .attained j here,
+          triangle (switchingPrice i) (countAtPlace counts k) (countAtPlace counts j) (countAtPlace counts c),
+        )
+
+-- where no entry of the table exceeds f, n modules cost at most n times f
+operating-bound :
+    (i : Instance) (f : ℕ) → ((k : ℕ) → k ≤ i .topStep → i .table k ≤ f) → (n l : ℕ) → l ≤ n * i .topStep →
+    operatingCost i n l ≤ n * f
+unfolding operatingCost
+operating-bound i f table zero l fits = omega arith
+operating-bound i f table (suc n) l fits = rw (eqb·suc-zero n) (go (eqb (l % suc n) 0) refl)
+  where
+    q : ℕ
+    q = l / suc n
+
+    r : ℕ
+    r = l % suc n
+
+    whole : (suc n - r) * f + r * f ≡ suc n * f
+    whole =
+        let small = mod-lt l {m = suc n} (omega arith) in
+        let e : suc n - r + r ≡ suc n = omega arith in
+        omega (arith, ap (λ (x : ℕ). x * f) e)
+
+    low : (suc n - r) * i .table q ≤ (suc n - r) * f
+    low = mul-le-mul-left (suc n - r) (table q (div-le-of-le-mul (suc n) fits))
+
+    high : ¬ (r ≡ 0) → r * i .table (q + 1) ≤ r * f
+    high some =
+        let less : suc n * q < suc n * i .topStep = omega (arith, div-add-mod l (suc n)) in
+        mul-le-mul-left r (table (q + 1) (omega (arith, lt-of-mul-lt-mul-left (suc n) less)))
+
+    go : (b : Bool) → eqb r 0 ≡ b → (suc n - r) * i .table q + cond b 0 (r * i .table (q + 1)) ≤ suc n * f
+    go true e = omega (arith, low, whole)
+    go false e = omega (arith, low, high (eqb-false r 0 e), whole)
+
+-- The columns from a start count.
+module _ (i : Instance) (counts : List ℕ) (start : ℕ) (asc : Ascending counts (i .modules)) (loads : LoadsFit i) where
+  -- each slot's column and selections are a step
+  pub column-step :
+      (t : ℕ) → t < i .slots →
+      SlotStep i counts (i .load t) (column i counts start t) (column i counts start (suc t)) (selection i counts start t)
+  unfolding column selection
+  column-step t h = slot-step i counts asc (i .load t) (loads t h) (column i counts start t)
+
+  -- a column rises with the place
+  pub column-rises :
+      (t j k : ℕ) → t ≤ i .slots → j ≤ k → k < length counts → column i counts start t j ≤ column i counts start t k
+  unfolding column
+  column-rises zero j k h le inside =
+      let low = count-rises asc j k le inside in
+      mul-le-mul-left (switchingPrice i) (omega arith)
+  column-rises (suc t) j k h le inside = after-rises asc (column-step t h) j k le inside
+
+  -- and by at most the switching price a module
+  pub column-slope :
+      (t j k : ℕ) → t ≤ i .slots → j ≤ k → k < length counts →
+      column i counts start t k ≤ column i counts start t j + switchingPrice i * (countAtPlace counts k - countAtPlace counts j)
+  unfolding column
+  column-slope zero j k h le inside = triangle (switchingPrice i) (countAtPlace counts k) (countAtPlace counts j) start
+  column-slope (suc t) j k h le inside = after-slope asc (column-step t h) j k le inside
+
+  module _ (f : ℕ) (table : (k : ℕ) → k ≤ i .topStep → i .table k ≤ f) where
+    -- serving with the full rack
+    full-bound : (t : ℕ) → t < i .slots → operatingCost i (countAtPlace counts (lastPlace counts)) (i .load t) ≤ i .modules * f
+    full-bound t h = rw (asc .last) (operating-bound i f table (i .modules) (i .load t) (loads t h))
+
+    -- a column's values are bounded
+    pub column-bound :
+        (t j : ℕ) → t ≤ i .slots → j < length counts →
+        column i counts start t j ≤ (t + 1) * (i .modules * (switchingPrice i + f))
+    unfolding column
+    column-bound zero j h inside =
+        let fits = count-fits asc j inside in
+        let less : countAtPlace counts j - start ≤ i .modules = omega arith in
+        omega (arith, mul-le-mul-left (switchingPrice i) less)
+    column-bound (suc t) j h inside =
+        omega (
+          arith,
+          column-step t h .at-most j (lastPlace counts) inside (last-inside asc) (last-serves asc i (i .load t) (loads t h)),
+          no-rise i counts asc j (lastPlace counts) (omega arith) (last-inside asc),
+          full-bound t h,
+          column-bound t (lastPlace counts) (omega arith) (last-inside asc),
+        )
+
+    -- and so are the numbers from which the next is computed
+    pub down-bound :
+        (t j : ℕ) → t < i .slots → j < length counts →
+        downward i counts (i .load t) (column i counts start t) j .cost ≤ (t + 2) * (i .modules * (switchingPrice i + f))
+    down-bound t j h inside =
+        let best = down-best i counts asc (i .load t) (loads t h) (column i counts start t) j inside in
+        omega (
+          arith,
+          best .least (lastPlace counts) (omega arith, (last-inside asc, last-serves asc i (i .load t) (loads t h))),
+          full-bound t h,
+          column-bound t (lastPlace counts) (omega arith) (last-inside asc),
+        )
+
+    pub own-bound :
+        (t j : ℕ) → t < i .slots → j < length counts → canServe i (countAtPlace counts j) (i .load t) ≡ true →
+        column i counts start t j + operatingCost i (countAtPlace counts j) (i .load t) ≤
+        (t + 2) * (i .modules * (switchingPrice i + f))
+    unfolding canServe
+    own-bound t j h inside serves =
+        let n = countAtPlace counts j in
+        omega (
+          arith,
+          column-bound t j (omega arith) inside,
+          operating-bound i f table n (i .load t) (leb-true (i .load t) (n * i .topStep) serves),
+          mul-le-mul-right f (count-fits asc j inside),
+        )
