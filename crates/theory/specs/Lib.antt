@@ -12,3 +12,8 @@ pub mod Steps
 pub mod Least
 pub mod Enumeration
 pub mod Search
+pub mod Average
+pub mod Potential
+pub mod Ratio
+pub mod Lists
+pub mod Bites

@@ -1,0 +1,40 @@
+-- Order laws for products.
+use Prim.Native.Nat.{ℕ, zero, suc, _+_, _*_, _≤_, _<_}
+use mathlib.Core.Path.{_≡_, ap}
+use mathlib.Core.Logic.{⊎-elim}
+use native.Mathlib.Nat.{le-of-lt, le-dest, mul-le-mul-left, le-of-mul-le-mul-left}
+use native.Mathlib.Omega.{arith}
+use Rattle.lists.specs.Numbers.{le-or-lt}
+
+-- the larger factors together give no less than crosswise; where b is 0 nothing is asked of c and d
+pub exchange : {a b : ℕ} (c d : ℕ) → a ≤ b → b * c ≤ b * d → a * d + b * c ≤ a * c + b * d
+exchange {a} {b = zero} c d h g = let none : a ≡ 0 = omega arith in rw none (omega arith)
+exchange {a} {b = suc b} c d h g =
+    let (u, e) = le-dest h in
+    let (v, f) = le-dest (le-of-mul-le-mul-left g (omega arith)) in
+    rw (← e, ← f) (omega arith)
+
+-- A straight line from a to b over a width rises by at most p a unit. At a point u, where w is left of the width, it is at most c.
+-- Multiplied by the width, it is w * a + u * b there.
+module _ (a b c u w p : ℕ) (here : w * a + u * b ≤ (u + w) * c) (rise : a ≤ b) (slope : b ≤ a + p * (u + w)) where
+  line-down : (x y : ℕ) → x + y ≡ u + w → x ≤ u → y * a + x * b ≤ (x + y) * c
+  line-down x y same down =
+      let (d, gap) = le-dest down in
+      let rest : w + d ≡ y = omega arith in
+      rw same (omega (arith, ap (λ (n : ℕ). n * b) gap, ap (λ (n : ℕ). n * a) rest, mul-le-mul-left d rise))
+
+  line-up : (x y d : ℕ) → x + y ≡ u + w → u ≤ x → x ≤ u + d → y * a + x * b ≤ (x + y) * (c + p * d)
+  line-up x y d same up near =
+      let (e, gap) = le-dest up in
+      let rest : y + e ≡ w = omega arith in
+      let less : e ≤ d = omega arith in
+      let most = mul-le-mul-left ((u + w) * p) less in
+      rw same (omega (arith, ap (λ (n : ℕ). n * b) gap, ap (λ (n : ℕ). n * a) rest, mul-le-mul-left e slope))
+
+  -- at a point at most d further on it is at most c + p * d
+  pub line-moved : (x y d : ℕ) → x + y ≡ u + w → x ≤ u + d → y * a + x * b ≤ (x + y) * (c + p * d)
+  line-moved x y d same near =
+      ⊎-elim
+      (λ (down : x ≤ u). omega (arith, line-down x y same down))
+      (λ (up : u < x). line-up x y d same (le-of-lt up) near)
+      (le-or-lt x u)

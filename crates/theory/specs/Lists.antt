@@ -1,0 +1,156 @@
+-- The two lists of allowed counts: what is in them, that they rise from 0 to m, and that the coarse one at most about doubles.
+use Prim.Native.Nat.{ℕ, zero, suc, _+_, _*_, _^_, _≤_, _<_}
+use mathlib.Core.Path.{_≡_, refl, _∙_}
+use mathlib.Core.Bool.{Bool, true, false, not, _||_, or-true}
+use mathlib.Core.List.{List}
+use mathlib.Core.Logic.{_↔_, _⊎_, inl, inr, ⊎-elim, ⊎-map}
+use native.Mathlib.Nat.{le-refl, le-trans}
+use native.Mathlib.Omega.{arith}
+use lib.ListN.{length, getD}
+use lib.Dec.{eqb, leb}
+use borrow.Author.Tests.{eqb-true, eq-eqb, leb-true, le-leb, not-true, not-false}
+use Rattle.lists.specs.Numbers.{le-or-lt}
+use Rattle.lists.specs.Tests.{every-fails}
+use Rattle.lists.specs.Lists.{keep}
+use Rattle.lists.specs.Kept.{length-tabulate, getD-tabulate, head-is-first, kept-from, kept-at, every-not, or-cases}
+use Rattle.lists.specs.Kept.{RisingFrom, rising-next, rising-le, tabulate-rising, keep-rising}
+use Rattle.model.specs.Counts.{allCounts, powerOfTwo, coarseCounts, roundedCount}
+use Rattle.model.specs.Plans.{Member}
+use Rattle.columns.specs.Column.{countAtPlace, lastPlace}
+use Rattle.theory.specs.Setting.{Ascending}
+
+-- what is kept of a list
+kept-member : (f : ℕ → Bool) (l : List ℕ) (n : ℕ) → Member n (keep f l) ↔ (Member n l × (f n ≡ true))
+kept-member f l n = (
+  λ (j, b, e). let (k, c, same, t) = kept-from f l j b in ((k, c, same ∙ e), rw (same ∙ e) at t),
+  λ ((k, c, e), t). let (j, b, same) = kept-at f l k c (rw e t) in (j, b, same ∙ e),
+)
+
+-- 'all from 0 to m'
+pub all-member : (m n : ℕ) → n ≤ m ↔ Member n (allCounts m)
+unfolding allCounts
+all-member m n = (
+  λ h. (n, rw length-tabulate (omega arith), getD-tabulate (m + 1) (λ k. k) n (omega arith)),
+  λ (j, b, e).
+      let in-list : j < m + 1 = rw length-tabulate at b in
+      omega (arith, getD-tabulate (m + 1) (λ k. k) j in-list),
+)
+
+-- Powers of two.
+below-power : (e : ℕ) → e < 2 ^ e
+below-power zero = omega arith
+below-power (suc e) = omega (arith, below-power e)
+
+power-iff : (n : ℕ) → (powerOfTwo n ≡ true) ↔ ((e : ℕ) × (n ≡ 2 ^ e))
+unfolding powerOfTwo
+power-iff n = (
+  λ t. let (e, b, fails) = every-not n (λ j. not (eqb n (2 ^ j))) (not-true _ t) in (e, eqb-true n (2 ^ e) (not-false _ fails)),
+  λ (e, same).
+      let fails : not (eqb n (2 ^ e)) ≡ false = rw (eq-eqb n (2 ^ e) same) in
+      rw (every-fails n (λ j. not (eqb n (2 ^ j))) e (rw same (below-power e)) fails),
+)
+
+-- a power of two above c, at most 2 * (c + 1)
+power-above : (c : ℕ) → (e : ℕ) × (c < 2 ^ e) × (2 ^ e ≤ 2 * (c + 1))
+power-above zero = (0, omega arith, omega arith)
+power-above (suc c) =
+    let (e, above, most) = power-above c in
+    ⊎-elim
+    (λ (low : 2 ^ e ≤ suc c). (suc e, omega arith, omega arith))
+    (λ (high : suc c < 2 ^ e). (e, high, omega arith))
+    (le-or-lt (2 ^ e) (suc c))
+
+-- '0, each power of two up to m, and m'
+abbrev coarseTest : ℕ → ℕ → Bool
+coarseTest m n = eqb n 0 || (eqb n m || powerOfTwo n)
+
+abbrev IsCoarse : ℕ → ℕ → Type 0
+IsCoarse m n = (n ≡ 0) ⊎ ((n ≡ m) ⊎ ((e : ℕ) × (n ≡ 2 ^ e)))
+
+coarse-test : (m n : ℕ) → (coarseTest m n ≡ true) ↔ IsCoarse m n
+coarse-test m n = (to, from)
+  where
+    to : coarseTest m n ≡ true → IsCoarse m n
+    to t = ⊎-map (eqb-true n 0) (λ u. ⊎-map (eqb-true n m) (power-iff n .0) (or-cases _ _ u)) (or-cases _ _ t)
+
+    from : IsCoarse m n → coarseTest m n ≡ true
+    from (inl e) = rw (eq-eqb n 0 e)
+    from (inr (inl e)) = rw (eq-eqb n m e) (or-true (eqb n 0))
+    from (inr (inr p)) = rw (power-iff n .1 p, or-true) (or-true (eqb n 0))
+
+pub coarse-member : (m n : ℕ) → Member n (coarseCounts m) ↔ ((n ≤ m) × ((n ≡ 0) ⊎ ((n ≡ m) ⊎ ((e : ℕ) × (n ≡ 2 ^ e)))))
+unfolding coarseCounts
+coarse-member m n =
+    let kept = kept-member (coarseTest m) (allCounts m) n in (
+      λ h. let (stands, t) = kept .0 h in (all-member m n .1 stands, coarse-test m n .0 t),
+      λ (h, c). kept .1 (all-member m n .0 h, coarse-test m n .1 c),
+    )
+
+all-rising : (m : ℕ) → RisingFrom 0 (allCounts m)
+unfolding allCounts
+all-rising m = tabulate-rising (m + 1) (λ n. n) 0 (le-refl 0) (λ k. le-refl (suc k))
+
+coarse-rising : (m : ℕ) → RisingFrom 0 (coarseCounts m)
+unfolding coarseCounts
+coarse-rising m = keep-rising (coarseTest m) 0 (allCounts m) (all-rising m)
+
+-- a rising list with 0 and m, and nothing above m
+ascending : (l : List ℕ) (m : ℕ) → RisingFrom 0 l → Member 0 l → Member m l → ((n : ℕ) → Member n l → n ≤ m) → 1 ≤ m → Ascending l m
+ascending l m r (j, b, e) (k, c, f) top some =
+    let first = rising-le 0 l r 0 j (omega arith) b in
+    let last = rising-le 0 l r k (lastPlace l) (omega arith) (omega arith) in
+    record {
+      two = ⊎-elim (λ (h : k ≤ j). omega (arith, rising-le 0 l r k j h b)) (λ (h : j < k). omega arith) (le-or-lt k j);
+      first = omega arith;
+      last = omega (arith, top (countAtPlace l (lastPlace l)) (lastPlace l, omega arith, refl));
+      rises = rising-next 0 l r;
+    }
+
+pub all-ascending : (m : ℕ) → 1 ≤ m → Ascending (allCounts m) m
+all-ascending m some =
+    ascending (allCounts m) m (all-rising m) (all-member m 0 .0 (omega arith)) (all-member m m .0 (le-refl m)) (λ n. all-member m n .1) some
+
+pub coarse-ascending : (m : ℕ) → 1 ≤ m → Ascending (coarseCounts m) m
+coarse-ascending m some =
+    ascending (coarseCounts m) m (coarse-rising m) (coarse-member m 0 .1 (omega arith, inl refl))
+    (coarse-member m m .1 (le-refl m, inr (inl refl))) (λ n h. coarse-member m n .0 h .0) some
+
+-- the next element of a rising list is the least above an element
+next-least : (l : List ℕ) → RisingFrom 0 l → (j n : ℕ) → j + 1 < length l → Member n l → getD l j 0 < n → getD l (j + 1) 0 ≤ n
+next-least l r j n h (k, c, e) above =
+    ⊎-elim
+    (λ (before : k ≤ j). omega (arith, rising-le 0 l r k j before (omega arith)))
+    (λ (after : j < k). omega (arith, rising-le 0 l r (j + 1) k (omega arith) c))
+    (le-or-lt k j)
+
+-- each coarse count is at most twice one more than the one before
+pub coarse-doubling :
+    (m : ℕ) → 1 ≤ m → (j : ℕ) → j + 1 < length (coarseCounts m) →
+    countAtPlace (coarseCounts m) (j + 1) ≤ 2 * (countAtPlace (coarseCounts m) j + 1)
+coarse-doubling m some j b =
+    let l = coarseCounts m in
+    let (e, above, most) = power-above (countAtPlace l j) in
+    let stands = coarse-member m (2 ^ e) .1 in
+    ⊎-elim
+    (λ (fits : 2 ^ e ≤ m). le-trans (next-least l (coarse-rising m) j (2 ^ e) b (stands (fits, inr (inr (e, refl)))) above) most)
+    (λ (beyond : m < 2 ^ e). omega (arith, coarse-member m (countAtPlace l (j + 1)) .0 (j + 1, b, refl) .0))
+    (le-or-lt (2 ^ e) m)
+
+-- 'the smallest allowed count not below n'
+pub rounded-least :
+    (m n : ℕ) → 1 ≤ m → n ≤ m →
+    Member (roundedCount m n) (coarseCounts m) × (n ≤ roundedCount m n) ×
+    ((a : ℕ) → Member a (coarseCounts m) → n ≤ a → roundedCount m n ≤ a)
+unfolding roundedCount
+rounded-least m n some h =
+    let l = keep (leb n) (coarseCounts m) in
+    let kept = kept-member (leb n) (coarseCounts m) in
+    let (j, b, e) = kept m .1 (coarse-member m m .1 (le-refl m, inr (inl refl)), le-leb n m h) in
+    let (stands, above) = kept (getD l 0 0) .0 (0, omega arith, refl) in
+    rw (head-is-first l) (
+      stands,
+      leb-true n _ above,
+      λ a member not-below.
+          let (k, c, same) = kept a .1 (member, le-leb n a not-below) in
+          rw same at (rising-le 0 l (keep-rising (leb n) 0 (coarseCounts m) (coarse-rising m)) 0 k (omega arith) c),
+    )

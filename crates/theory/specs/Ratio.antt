@@ -1,0 +1,155 @@
+-- The least cost over a list of allowed counts that leaves no wide gaps, against the cost of every plan (thesis 5.1).
+use Prim.Native.Nat.{ℕ, zero, suc, _+_, _-_, _*_, _≤_, _<_, min}
+use mathlib.Core.Path.{_≡_, ap}
+use mathlib.Core.Bool.{true}
+use mathlib.Core.List.{List}
+use mathlib.Core.Logic.{⊎-elim}
+use native.Mathlib.Nat.{sub-self, sub-le, min-le-left, min-le-right, mul-zero, add-zero, zero-add, le-refl, le-trans}
+use native.Mathlib.Nat.{mul-le-mul-left, mul-le-mul-right, le-of-mul-le-mul-left}
+use native.Mathlib.Numerals.{add-one}
+use native.Mathlib.Omega.{arith}
+use lib.ListN.{length, getD}
+use borrow.Author.Tests.{leb-true, le-leb}
+use Rattle.lists.specs.Numbers.{le-or-lt}
+use Rattle.lists.specs.Tests.{every-at}
+use Rattle.lists.specs.Sums.{sum}
+use Rattle.model.specs.Instance.{Instance}
+use Rattle.model.specs.Counts.{canServe, operatingCost}
+use Rattle.model.specs.Thesis.{switchingPrice, countAt, stepUp, countsCost}
+use Rattle.model.specs.Plans.{planServes}
+use Rattle.columns.specs.Column.{countAtPlace}
+use Rattle.theory.specs.Setting.{NeverFalls, Ascending}
+use Rattle.theory.specs.Average.{average-falls}
+use Rattle.theory.specs.Potential.{Gradual, Block, width, lineAt, LineBelow, line-of-counts, count-in-rack, value-below, move}
+
+-- What the ratio needs to know of the columns: `column t j` is the value at place j after t slots.
+pub record Columns (i : Instance) (counts : List ℕ) (start : ℕ) (column : ℕ → ℕ → ℕ) : Type 0 where
+  pub start-is : (j : ℕ) → j < length counts → column 0 j ≡ switchingPrice i * (countAtPlace counts j - start)
+  pub step :
+      (t : ℕ) → t < i .slots → (j k : ℕ) → j < length counts → k < length counts →
+      canServe i (countAtPlace counts k) (i .load t) ≡ true →
+      column (t + 1) j ≤
+      column t k + operatingCost i (countAtPlace counts k) (i .load t) +
+      switchingPrice i * (countAtPlace counts j - countAtPlace counts k)
+  pub rises : (t j k : ℕ) → t ≤ i .slots → j ≤ k → k < length counts → column t j ≤ column t k
+  pub slope :
+      (t j k : ℕ) → t ≤ i .slots → j ≤ k → k < length counts →
+      column t k ≤ column t j + switchingPrice i * (countAtPlace counts k - countAtPlace counts j)
+
+module _ (i : Instance) (counts : List ℕ) (start : ℕ) (column : ℕ → ℕ → ℕ) (columns : Columns i counts start column)
+    (asc : Ascending counts (i .modules)) (rises : NeverFalls (i .topStep) (i .table)) (r : ℕ) (one : 1 ≤ r)
+    (gaps : (j : ℕ) → j + 1 < length counts → countAtPlace counts (j + 1) ≤ r * (countAtPlace counts j + 1)) where
+  gradual : (t : ℕ) → t ≤ i .slots → Gradual (switchingPrice i) counts (column t)
+  gradual t h = record { rises = λ j k. columns .rises t j k h; slope = λ j k. columns .slope t j k h }
+
+  -- r times a count, or the full rack: where the column is compared with a plan that has the count
+  abbrev point : ℕ → ℕ
+  point x = min (r * x) (i .modules)
+
+  -- before the first slot
+  line-start : LineBelow counts (column 0) (point start) (r * (switchingPrice i * start))
+  line-start = record { line = at }
+    where
+      price : ℕ
+      price = switchingPrice i
+
+      value : (k : ℕ) → k < length counts → column 0 k ≤ price * countAtPlace counts k
+      value k b = rw (columns .start-is k b) (mul-le-mul-left price (sub-le _ start))
+
+      at : (s : Block counts (point start)) → lineAt s (column 0) ≤ width s * (r * (price * start))
+      at s =
+          omega (
+            arith,
+            mul-le-mul-left (s .over) (value (s .place) (omega arith)),
+            mul-le-mul-left (s .under) (value (s .place + 1) (s .inside)),
+            ap (λ (n : ℕ). price * n) (line-of-counts s),
+            mul-le-mul-left (price * width s) (min-le-left (r * start) (i .modules)),
+          )
+
+  -- One slot, which the count x can serve.
+  module _ (t : ℕ) (h : t < i .slots) (x : ℕ) (in-rack : x ≤ i .modules) (fits : i .load t ≤ x * i .topStep) where
+    abbrev cost : ℕ → ℕ
+    cost n = operatingCost i n (i .load t)
+
+    abbrev costs : ℕ → ℕ
+    costs k = cost (countAtPlace counts k)
+
+    -- Of the two counts around the point those that weigh are at least x: where the lower one is less, the point is the upper one.
+    upper-alone : (s : Block counts (point x)) → countAtPlace counts (s .place) < x → s .over ≡ 0
+    upper-alone s less =
+        omega (arith, gaps (s .place) (s .inside), mul-le-mul-left r less, count-in-rack asc (s .place + 1) (s .inside))
+
+    line-le :
+        (s : Block counts (point x)) (f g : ℕ → ℕ) → ((k : ℕ) → k < length counts → x ≤ countAtPlace counts k → f k ≤ g k) →
+        lineAt s f ≤ lineAt s g
+    line-le s f g le =
+        let high = mul-le-mul-left (s .under) (le (s .place + 1) (s .inside) (omega (arith, mul-le-mul-right x one))) in
+        ⊎-elim
+        (λ (above : x ≤ countAtPlace counts (s .place)). omega (arith, mul-le-mul-left (s .over) (le (s .place) (omega arith) above)))
+        (λ (less : countAtPlace counts (s .place) < x). rw (upper-alone s less) (omega arith))
+        (le-or-lt x (countAtPlace counts (s .place)))
+
+    -- serving and staying at a place
+    stay : (k : ℕ) → k < length counts → x ≤ countAtPlace counts k → column (t + 1) k ≤ column t k + costs k
+    unfolding canServe
+    stay k b above =
+        let serves = le-leb _ _ (le-trans fits (mul-le-mul-right (i .topStep) above)) in
+        simp (sub-self, mul-zero, add-zero) at (columns .step t h k k b b serves)
+
+    costs-fall : 0 < x → (k : ℕ) → k < length counts → x ≤ countAtPlace counts k → x * costs k ≤ countAtPlace counts k * cost x
+    costs-fall some k b above = average-falls i rises x (countAtPlace counts k) (i .load t) some above fits
+
+    -- serving from the counts around the point costs at most r times as much as from x
+    costs-none : (s : Block counts (point x)) → x ≤ 0 → lineAt s costs ≤ width s * (r * cost x)
+    unfolding operatingCost
+    costs-none s none =
+        let small : point x ≤ 0 = omega (arith, mul-le-mul-left r none) in
+        let lower : countAtPlace counts (s .place) ≡ 0 = omega arith in
+        let under : s .under ≡ 0 = omega arith in
+        rw (lower, under) (omega arith)
+
+    costs-some : (s : Block counts (point x)) → 0 < x → lineAt s costs ≤ width s * (r * cost x)
+    costs-some s some =
+        let average = line-le s (λ k. x * costs k) (λ k. countAtPlace counts k * cost x) (costs-fall some) in
+        let small = mul-le-mul-left (cost x * width s) (min-le-left (r * x) (i .modules)) in
+        le-of-mul-le-mul-left {k = x} (omega (arith, ap (λ (n : ℕ). cost x * n) (line-of-counts s))) some
+
+    -- so the slot raises the bound by r times the cost of x
+    line-served : {c : ℕ} → LineBelow counts (column t) (point x) c → LineBelow counts (column (t + 1)) (point x) (c + r * cost x)
+    line-served {c} below = record { line = at }
+      where
+        at : (s : Block counts (point x)) → lineAt s (column (t + 1)) ≤ width s * (c + r * cost x)
+        at s =
+            let served = line-le s (column (t + 1)) (λ k. column t k + costs k) stay in
+            omega (arith, below .line s, ⊎-elim (costs-none s) (costs-some s) (le-or-lt x 0))
+
+  module _ (p : List ℕ) (in-rack : (t : ℕ) → t < i .slots → getD p t 0 ≤ i .modules) (served : planServes i p ≡ true) where
+    -- what the plan has cost after t slots
+    abbrev paid : ℕ → ℕ
+    paid t = sum t (λ u. stepUp i (countAt start p u) (countAt start p (suc u)) (i .load u))
+
+    -- after t slots the column, at the point of the plan's last count, is at most r times what the plan has cost
+    line-after : (t : ℕ) → t ≤ i .slots → LineBelow counts (column t) (point (countAt start p t)) (r * (paid t + switchingPrice i * start))
+    unfolding sum countAt stepUp planServes canServe
+    line-after zero h = rw zero-add line-start
+    line-after (suc t) h =
+        let price = switchingPrice i in
+        let x = countAt start p t in
+        let z = getD p t 0 in
+        let e = z - x in
+        let cost = operatingCost i z (i .load t) in
+        let up : z ≤ x + e = omega arith in
+        let near : point z ≤ point x + r * e = omega (arith, mul-le-mul-left r up) in
+        let before = line-after t (omega arith) in
+        let moved = move asc (gradual t (omega arith)) (r * e) (min-le-right (r * x) (i .modules)) near before in
+        let after = line-served t h z (in-rack t h) (leb-true _ _ (every-at (i .slots) _ served t h)) moved in
+        let old = paid t + price * start in
+        let bound : r * old + price * (r * e) + r * cost ≡ r * (paid t + (cost + price * e) + price * start) = omega arith in
+        rw (add-one, bound) at after
+
+    -- The least cost over the list, from any start, is at most r times the cost of every plan that serves, with the price of the start.
+    pub ratio : column (i .slots) 0 ≤ r * (countsCost i start p + switchingPrice i * start)
+    unfolding countsCost
+    ratio =
+        let end = line-after (i .slots) (le-refl (i .slots)) in
+        omega (arith, value-below asc (gradual (i .slots) (le-refl (i .slots))) end 0 0 (omega arith) (omega arith) (min-le-right _ _))
