@@ -10,7 +10,7 @@ use Rattle.model.specs.Calls.{checkCard, applies, requestOf, lowest, answer, re
 use Rattle.card.specs.declared.Header.{Header}
 use Rattle.card.specs.declared.Checked.the-variants.{Accepted, NotAccepted}
 use Rattle.card.specs.Checking.{HeaderOf, found, frontRefusals, sizeRefusals, bodyRefusals, headerOf, checkedAs, checkedOf}
-use Rattle.card.proofs.Refusals.{lowest-refused, lowest-through}
+use Rattle.laws.specs.Lowest.{lowest-refused, lowest-through}
 
 module _ (s : List ℕ) where
   by-groups :

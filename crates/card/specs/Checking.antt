@@ -77,3 +77,8 @@ checkedAs (Refused x) h = NotAccepted x
 
 unfoldable pub checkedOf : List ℕ → Checked
 checkedOf s = checkedAs (answer (checkCard s)) (headerOf s)
+
+-- an accepted card, with its header: what the crates above ask for
+pub record Ready (s : List ℕ) (h : Header) : Type 0 where
+  pub accepted : answer (checkCard s) ≡ Cost 0
+  pub header : HeaderOf s h

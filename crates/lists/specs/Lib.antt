@@ -7,3 +7,4 @@ pub mod Lists
 pub mod Members
 pub mod Kept
 pub mod Bytes
+pub mod Filling

@@ -1,0 +1,88 @@
+-- What an accepted card is known to hold.
+use Prim.Native.Nat.{ℕ, _+_, _*_, _≤_, _<_}
+use mathlib.Core.Path.{_≡_, refl, sym, _∙_}
+use mathlib.Core.Bool.{Bool, true, false, not, _&&_}
+use mathlib.Core.List.{List}
+use native.Mathlib.Omega.{arith}
+use lib.ListN.{length}
+use lib.Dec.{leb}
+use borrow.Author.Tests.{leb-true, ltb-false, eqb-true, not-false}
+use Rattle.lists.specs.Tests.{every-at, and-left, and-right}
+use Rattle.model.specs.declared.Refusal.the-variants.{RackSize, SlotCount, CardLength, PriceRange, NotConvex, LoadRange}
+use Rattle.model.specs.declared.Answer.the-variants.{Cost}
+use Rattle.model.specs.Instance.{instanceOf, cardLength, convex, tableInRange, pricesInRange, loadsInRange}
+use Rattle.model.specs.Calls.{checkCard, applies, requestOf, answer, refusals, successCost, rackNumber}
+use Rattle.laws.specs.Lowest.{lowest-passed}
+
+-- no refusal from 3 to 8 applies
+pub record Passes (s : List ℕ) : Type 0 where
+  pub rack : applies (requestOf (checkCard s)) RackSize ≡ false
+  pub slots : applies (requestOf (checkCard s)) SlotCount ≡ false
+  pub size : applies (requestOf (checkCard s)) CardLength ≡ false
+  pub prices : applies (requestOf (checkCard s)) PriceRange ≡ false
+  pub bend : applies (requestOf (checkCard s)) NotConvex ≡ false
+  pub loads : applies (requestOf (checkCard s)) LoadRange ≡ false
+
+pub passes : (s : List ℕ) → answer (checkCard s) ≡ Cost 0 → Passes s
+unfolding answer refusals successCost
+passes s e =
+    let mark = lowest-passed _ _ _ e in
+    let version = lowest-passed _ _ _ (mark .1) in
+    let rack = lowest-passed _ _ _ (version .1) in
+    let slots = lowest-passed _ _ _ (rack .1) in
+    let size = lowest-passed _ _ _ (slots .1) in
+    let prices = lowest-passed _ _ _ (size .1) in
+    let bent = lowest-passed _ _ _ (prices .1) in
+    let loads = lowest-passed _ _ _ (bent .1) in
+    record { rack = rack .0; slots = slots .0; size = size .0; prices = prices .0; bend = bent .0; loads = loads .0 }
+
+module _ (s : List ℕ) (given : answer (checkCard s) ≡ Cost 0) where
+  rack-numbers : (rackNumber (instanceOf s .modules) && rackNumber (instanceOf s .topStep)) ≡ true
+  unfolding applies requestOf
+  rack-numbers = not-false _ (passes s given .rack)
+
+  in-range : (n : ℕ) → rackNumber n ≡ true → (1 ≤ n) × (n ≤ 200)
+  in-range n e = (leb-true 1 n (and-left (leb 1 n) (leb n 200) e), leb-true n 200 (and-right (leb 1 n) (leb n 200) e))
+
+  pub modules-range : (1 ≤ instanceOf s .modules) × (instanceOf s .modules ≤ 200)
+  modules-range = in-range _ (and-left (rackNumber (instanceOf s .modules)) (rackNumber (instanceOf s .topStep)) rack-numbers)
+
+  pub top-range : (1 ≤ instanceOf s .topStep) × (instanceOf s .topStep ≤ 200)
+  top-range = in-range _ (and-right (rackNumber (instanceOf s .modules)) (rackNumber (instanceOf s .topStep)) rack-numbers)
+
+  pub slots-range : instanceOf s .slots ≤ 1024
+  unfolding applies requestOf
+  slots-range = ltb-false _ _ (passes s given .slots)
+
+  pub card-size : length s ≡ 17 + 4 * (instanceOf s .topStep + 1) + 2 * instanceOf s .slots
+  unfolding applies requestOf cardLength
+  card-size = eqb-true _ _ (not-false _ (passes s given .size))
+
+  all-prices : pricesInRange (instanceOf s) ≡ true
+  unfolding applies requestOf
+  all-prices = not-false _ (passes s given .prices)
+
+  pub up-range : instanceOf s .powerUp ≤ 500000000
+  unfolding pricesInRange
+  up-range = leb-true _ _ (and-left (leb (instanceOf s .powerUp) 500000000) _ all-prices)
+
+  down-and-table : (leb (instanceOf s .powerDown) 500000000 && tableInRange (instanceOf s .topStep) (instanceOf s .table)) ≡ true
+  unfolding pricesInRange
+  down-and-table = and-right (leb (instanceOf s .powerUp) 500000000) _ all-prices
+
+  pub down-range : instanceOf s .powerDown ≤ 500000000
+  down-range = leb-true _ _ (and-left (leb (instanceOf s .powerDown) 500000000) _ down-and-table)
+
+  pub table-range : (k : ℕ) → k ≤ instanceOf s .topStep → instanceOf s .table k ≤ 1000000
+  unfolding tableInRange
+  table-range k h =
+      leb-true _ _
+      (every-at (instanceOf s .topStep + 1) _ (and-right (leb (instanceOf s .powerDown) 500000000) _ down-and-table) k (omega arith))
+
+  pub table-convex : convex (instanceOf s .topStep) (instanceOf s .table) ≡ true
+  unfolding applies requestOf
+  table-convex = not-false _ (passes s given .bend)
+
+  pub load-range : (t : ℕ) → t < instanceOf s .slots → instanceOf s .load t ≤ instanceOf s .modules * instanceOf s .topStep
+  unfolding applies requestOf loadsInRange
+  load-range t h = leb-true _ _ (every-at _ _ (not-false _ (passes s given .loads)) t h)
