@@ -5,3 +5,4 @@ pub mod cards;
 pub mod classes;
 pub mod plain;
 pub mod random;
+pub mod shows;

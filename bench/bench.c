@@ -1,0 +1,108 @@
+/* Times the library's calls beside the same algorithms in plain C (plain.c), in one run, and prints ratios and growth.
+ * Each figure is the fastest of many rounds; library and C take turns, on the same buffers. */
+#define _POSIX_C_SOURCE 200809L
+#include <inttypes.h>
+#include <stdio.h>
+#include <stdlib.h>
+#include <string.h>
+#include <time.h>
+
+#include "lamp.h"
+#include "plain.h"
+
+enum { ROUNDS = 60, MOST_SLOTS = 1024, MOST_MODULES = 200 };
+
+static uint8_t card[2869], plan[MOST_SLOTS], work[201 * MOST_SLOTS], sheet[MOST_MODULES * MOST_SLOTS];
+static size_t card_len;
+
+static void put(size_t at, uint64_t value, size_t bytes)
+{
+    for (size_t k = 0; k < bytes; k++)
+        card[at + k] = (uint8_t)(value >> (8 * k));
+}
+
+/* A card with a rising convex table and changing loads. */
+static void make_card(uint64_t m, uint64_t q, uint64_t t)
+{
+    uint64_t state = 88172645463325252u;
+    memcpy(card, "DLS", 3);
+    put(3, 1, 2), put(5, m, 1), put(6, q, 1), put(7, t, 2), put(9, 900, 4), put(13, 700, 4);
+    for (uint64_t k = 0; k <= q; k++)
+        put(17 + 4 * k, 400 + 3 * k + k * (k - (k > 0)) / 2, 4);
+    for (uint64_t k = 0; k < t; k++) {
+        state ^= state << 13, state ^= state >> 7, state ^= state << 17;
+        put(17 + 4 * (q + 1) + 2 * k, (state >> 20) % (m * q + 1), 2);
+    }
+    card_len = 17 + 4 * (q + 1) + 2 * t;
+}
+
+static double now(void)
+{
+    struct timespec t;
+    clock_gettime(CLOCK_MONOTONIC, &t);
+    return (double)t.tv_sec * 1e6 + (double)t.tv_nsec / 1e3;
+}
+
+typedef struct lamp_answer (*planner)(const uint8_t *, size_t, uint8_t *, size_t, uint8_t *, size_t);
+static size_t slots, modules;
+
+static struct lamp_answer run(int which, int plain)
+{
+    planner planners[2][2] = {{lamp_plan_exact, plain_exact}, {lamp_plan_coarse, plain_coarse}};
+    switch (which) {
+    case 0:
+    case 1:
+        return planners[which][plain](card, card_len, plan, slots, work, which ? 10 * slots : (modules + 1) * slots);
+    case 2:
+        return (plain ? plain_sheet : lamp_sheet)(card, card_len, plan, slots, sheet, modules * slots);
+    default:
+        return (plain ? plain_mark : lamp_mark)(card, card_len, sheet, modules * slots);
+    }
+}
+
+/* The fastest round of the library and of C, in microseconds. */
+static void measure(int which, double best[2])
+{
+    best[0] = best[1] = 1e18;
+    struct lamp_answer first = run(which, 0), second = run(which, 1);
+    if (first.number != second.number || first.cost != second.cost) {
+        printf("the two disagree: %" PRIu64 " %" PRIu64 "\n", first.cost, second.cost);
+        exit(1);
+    }
+    for (int round = 0; round < ROUNDS; round++)
+        for (int plain = 0; plain < 2; plain++) {
+            double began = now();
+            struct lamp_answer answer = run(which, plain);
+            double took = now() - began;
+            if (answer.cost != first.cost)
+                exit(1);
+            if (took < best[plain])
+                best[plain] = took;
+        }
+}
+
+int main(void)
+{
+    static const char *names[] = {"exact", "coarse", "sheet", "marking"};
+    double best[2], whole = 0;
+    modules = 200, slots = 1024;
+    make_card(modules, 200, slots);
+    printf("m 200, Q 200, T 1,024 (microseconds, fastest of %d)\n", ROUNDS);
+    printf("%-8s %10s %10s %8s\n", "call", "library", "C -O3", "ratio");
+    for (int which = 0; which < 4; which++) {
+        /* sheet and marking take the plan and the sheet of the exact plan */
+        if (which == 2)
+            run(0, 0);
+        measure(which, best);
+        if (which == 0)
+            whole = best[0];
+        printf("%-8s %10.1f %10.1f %8.2f\n", names[which], best[0], best[1], best[0] / best[1]);
+    }
+    make_card(modules, 200, slots = 512);
+    measure(0, best);
+    printf("exact, T 512 to 1,024: %.2f times the time\n", whole / best[0]);
+    make_card(modules = 100, 200, slots = 1024);
+    measure(0, best);
+    printf("exact, m 100 to 200: %.2f times the time\n", whole / best[0]);
+    return 0;
+}

@@ -1,0 +1,203 @@
+/* The same algorithms hand-written in C, for bench.c to compare with. Each checks the card as the library does. */
+#include "plain.h"
+
+#include <string.h>
+
+struct show {
+    uint64_t modules, top, slots, up, down;
+    const uint8_t *table, *loads;
+};
+
+static uint64_t two(const uint8_t *s) { return s[0] + 256u * (uint64_t)s[1]; }
+static uint64_t four(const uint8_t *s) { return two(s) + 65536u * two(s + 2); }
+static uint64_t entry(const struct show *i, uint64_t k) { return four(i->table + 4 * k); }
+static uint64_t load(const struct show *i, uint64_t t) { return two(i->loads + 2 * t); }
+
+static uint64_t read_card(const uint8_t *card, size_t len, struct show *i)
+{
+    if (len < 17 || card[0] != 0x44 || card[1] != 0x4C || card[2] != 0x53)
+        return 1;
+    if (two(card + 3) != 1)
+        return 2;
+    *i = (struct show){card[5], card[6], two(card + 7), four(card + 9), four(card + 13), card + 17, card + 17 + 4 * (card[6] + 1)};
+    if (i->modules < 1 || i->modules > 200 || i->top < 1 || i->top > 200)
+        return 3;
+    if (i->slots > 1024)
+        return 4;
+    if (len != 17 + 4 * (i->top + 1) + 2 * i->slots)
+        return 5;
+    if (i->up > 500000000 || i->down > 500000000)
+        return 6;
+    for (uint64_t k = 0; k <= i->top; k++)
+        if (entry(i, k) > 1000000)
+            return 6;
+    for (uint64_t k = 0; k + 1 < i->top; k++)
+        if (entry(i, k) + entry(i, k + 2) < 2 * entry(i, k + 1))
+            return 7;
+    for (uint64_t t = 0; t < i->slots; t++)
+        if (load(i, t) > i->modules * i->top)
+            return 8;
+    return 0;
+}
+
+static uint64_t running_cost(const struct show *i, uint64_t n, uint64_t l)
+{
+    if (n == 0)
+        return 0;
+    uint64_t q = l / n, r = l % n;
+    uint64_t low = (n - r) * entry(i, q);
+    return r == 0 ? low : low + r * entry(i, q + 1);
+}
+
+static struct lamp_answer refused(uint64_t number) { return (struct lamp_answer){number, 0}; }
+
+static struct lamp_answer search(const struct show *i, const uint64_t *counts, size_t width, uint8_t *plan, uint8_t *work,
+                                 size_t asked)
+{
+    uint64_t column[201], price = i->up + i->down;
+    for (size_t j = 0; j < width; j++)
+        column[j] = price * counts[j];
+    for (uint64_t t = 0; t < i->slots; t++) {
+        uint64_t l = load(i, t);
+        uint8_t *places = work + t * width;
+        size_t last = width - 1;
+        column[last] += running_cost(i, counts[last], l);
+        places[last] = (uint8_t)last;
+        for (size_t j = last; j-- > 0;) {
+            uint64_t above = column[j + 1];
+            uint8_t place = places[j + 1];
+            if (l <= counts[j] * i->top) {
+                uint64_t own = column[j] + running_cost(i, counts[j], l);
+                if (own <= above) {
+                    above = own;
+                    place = (uint8_t)j;
+                }
+            }
+            column[j] = above;
+            places[j] = place;
+        }
+        for (size_t j = 1; j < width; j++) {
+            uint64_t raised = column[j - 1] + price * (counts[j] - counts[j - 1]);
+            if (raised <= column[j]) {
+                column[j] = raised;
+                places[j] = places[j - 1];
+            }
+        }
+    }
+    size_t place = 0;
+    for (uint64_t t = i->slots; t-- > 0;) {
+        place = work[t * width + place];
+        plan[t] = (uint8_t)counts[place];
+    }
+    memset(work, 0, asked);
+    return (struct lamp_answer){0, column[0]};
+}
+
+struct lamp_answer plain_exact(const uint8_t *card, size_t card_len, uint8_t *plan, size_t plan_len, uint8_t *work, size_t work_len)
+{
+    struct show i;
+    uint64_t number = read_card(card, card_len, &i);
+    if (number)
+        return refused(number);
+    size_t asked = (i.modules + 1) * i.slots;
+    if (plan_len < i.slots || work_len < asked)
+        return refused(10);
+    uint64_t counts[201];
+    for (size_t j = 0; j <= i.modules; j++)
+        counts[j] = j;
+    return search(&i, counts, i.modules + 1, plan, work, asked);
+}
+
+struct lamp_answer plain_coarse(const uint8_t *card, size_t card_len, uint8_t *plan, size_t plan_len, uint8_t *work, size_t work_len)
+{
+    struct show i;
+    uint64_t number = read_card(card, card_len, &i);
+    if (number)
+        return refused(number);
+    for (uint64_t k = 0; k < i.top; k++)
+        if (entry(&i, k + 1) < entry(&i, k))
+            return refused(9);
+    if (plan_len < i.slots || work_len < 10 * i.slots)
+        return refused(10);
+    uint64_t counts[10] = {0};
+    size_t width = 1;
+    for (uint64_t power = 1; power <= i.modules; power *= 2)
+        counts[width++] = power;
+    if (counts[width - 1] != i.modules)
+        counts[width++] = i.modules;
+    return search(&i, counts, width, plan, work, 10 * i.slots);
+}
+
+struct lamp_answer plain_sheet(const uint8_t *card, size_t card_len, const uint8_t *plan, size_t plan_len, uint8_t *sheet, size_t sheet_len)
+{
+    struct show i;
+    uint64_t number = read_card(card, card_len, &i);
+    if (number)
+        return refused(number);
+    if (sheet_len < i.modules * i.slots)
+        return refused(10);
+    if (plan_len != i.slots)
+        return refused(11);
+    for (uint64_t t = 0; t < i.slots; t++)
+        if (plan[t] > i.modules)
+            return refused(12);
+    for (uint64_t t = 0; t < i.slots; t++)
+        if (load(&i, t) > plan[t] * i.top)
+            return refused(13);
+    uint64_t cost = 0, before = 0;
+    for (uint64_t t = 0; t < i.slots; t++) {
+        uint64_t n = plan[t];
+        cost += running_cost(&i, n, load(&i, t));
+        if (before < n)
+            cost += (i.up + i.down) * (n - before);
+        before = n;
+    }
+    for (uint64_t t = 0; t < i.slots; t++) {
+        uint8_t *row = sheet + t * i.modules;
+        uint64_t n = plan[t], q = 0, r = 0;
+        if (n) {
+            q = load(&i, t) / n;
+            r = load(&i, t) % n;
+        }
+        memset(row, (int)(q + 1), r);
+        memset(row + r, (int)q, n - r);
+        memset(row + n, 255, i.modules - n);
+    }
+    return (struct lamp_answer){0, cost};
+}
+
+struct lamp_answer plain_mark(const uint8_t *card, size_t card_len, const uint8_t *sheet, size_t sheet_len)
+{
+    struct show i;
+    uint64_t number = read_card(card, card_len, &i);
+    if (number)
+        return refused(number);
+    size_t m = i.modules, all = m * i.slots;
+    if (sheet_len != all)
+        return refused(11);
+    for (size_t x = 0; x < all; x++)
+        if (sheet[x] > i.top && sheet[x] != 255)
+            return refused(12);
+    for (uint64_t t = 0; t < i.slots; t++) {
+        uint64_t light = 0;
+        for (size_t k = 0; k < m; k++)
+            light += sheet[t * m + k] == 255 ? 0 : sheet[t * m + k];
+        if (light != load(&i, t))
+            return refused(13);
+    }
+    uint64_t cost = 0;
+    for (size_t x = 0; x < all; x++) {
+        uint8_t before = x < m ? 255 : sheet[x - m], now = sheet[x];
+        if (now != 255) {
+            cost += entry(&i, now);
+            if (before == 255)
+                cost += i.up;
+        } else if (before != 255) {
+            cost += i.down;
+        }
+    }
+    for (size_t x = all < m ? all : all - m; x < all; x++)
+        if (sheet[x] != 255)
+            cost += i.down;
+    return (struct lamp_answer){0, cost};
+}
