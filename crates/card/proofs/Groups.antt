@@ -2,6 +2,7 @@
 use Prim.Native.Nat.{ℕ}
 use mathlib.Core.Path.{_≡_, refl, sym, _∙_, ap}
 use mathlib.Core.List.{List}
+use native.Mathlib.Omega.{arith}
 use Rattle.model.specs.declared.Refusal.{Refusal}
 use Rattle.model.specs.declared.Answer.{Answer}
 use Rattle.model.specs.declared.Answer.the-variants.{Cost, Refused}
@@ -9,8 +10,9 @@ use Rattle.model.specs.Instance.{instanceOf}
 use Rattle.model.specs.Calls.{checkCard, applies, requestOf, lowest, answer, refusals, successCost}
 use Rattle.card.specs.declared.Header.{Header}
 use Rattle.card.specs.declared.Checked.the-variants.{Accepted, NotAccepted}
-use Rattle.card.specs.Checking.{HeaderOf, found, frontRefusals, sizeRefusals, bodyRefusals, headerOf, checkedAs, checkedOf}
+use Rattle.card.specs.Checking.{HeaderOf, found, frontRefusals, sizeRefusals, bodyRefusals, headerOf, checkedAs, checkedOf, Ready}
 use Rattle.laws.specs.Lowest.{lowest-refused, lowest-through}
+use Rattle.laws.specs.Acceptance.{modules-range, top-range, slots-range}
 
 module _ (s : List ℕ) where
   by-groups :
@@ -78,3 +80,23 @@ module _ (s : List ℕ) where
       go : (a : Answer) → answer (checkCard s) ≡ a → checkedAs a (headerOf s) ≡ Accepted h → (answer (checkCard s) ≡ Cost 0) × (headerOf s ≡ h)
       go (Cost n) g f = (lowest-through _ _ _ _ g, cc)
       go (Refused y) g f = (cc, cc)
+
+  -- an accepted card is ready for the crates above
+  pub ready : {h : Header} → checkedOf s ≡ Accepted h → Ready s h
+  ready {h} e =
+      let a = accepted-answer e in
+      let given = a .0 in
+      record {
+        accepted = given;
+        header =
+            record {
+              modules-is = ap (λ (x : Header). x .modules) (sym (a .1));
+              top-is = ap (λ (x : Header). x .top) (sym (a .1));
+              slots-is = ap (λ (x : Header). x .slots) (sym (a .1));
+              up-is = ap (λ (x : Header). x .up) (sym (a .1));
+              down-is = ap (λ (x : Header). x .down) (sym (a .1));
+              modules-bound = omega (arith, ap (λ (x : Header). x .modules) (a .1), modules-range s given .1);
+              top-bound = omega (arith, ap (λ (x : Header). x .top) (a .1), top-range s given .1);
+              slots-bound = omega (arith, ap (λ (x : Header). x .slots) (a .1), slots-range s given);
+            };
+      }

@@ -1,10 +1,12 @@
 // The public calls: numbers and byte slices over the C boundary. Each answers every input.
 use card::Checked;
+use card::Header;
 use model::Refusal;
 ghost use mathlib.Core.Path.{_≡_};
 ghost use Rattle.model.specs.Answers.{refusalNumber};
 ghost use Rattle.model.specs.declared.Answer.the-variants.{Refused};
-ghost use Rattle.model.specs.Calls.{Gives, answer, checkCard};
+ghost use Rattle.model.specs.Calls.{Gives, answer, checkCard, runningCost};
+ghost use Rattle.card.specs.Checking.{Ready};
 
 // What every call returns: a refusal's number and cost 0, or number 0 and the cost.
 #[repr(C)]
@@ -49,6 +51,34 @@ pub extern "C" fn lamp_check_card(card: &[u8]) -> LampAnswer
 {
     match card::check(card) {
         Checked::Accepted(_) => LampAnswer { number: 0, cost: 0 },
+        Checked::NotAccepted(x) => refused(x),
+    }
+}
+
+// The running cost of a count, on an accepted card.
+fn running_cost(card: &[u8], h: Header, count: u64, load: u64) -> LampAnswer
+    requires { ⌜ Ready (now card) h ⌝ }
+    ensures { λ r. ⌜ Gives (answer (runningCost (now (card .entry)) count load)) (r .number) (r .cost) ⌝ }
+{
+    if h.modules < count {
+        return refused(Refusal::EntryRange);
+    }
+    if count * h.top < load {
+        return refused(Refusal::LoadNotServed);
+    }
+    LampAnswer {
+        number: 0,
+        cost: counts::operating_cost(card, count, load),
+    }
+}
+
+// The running cost of a count and a load: refusals 1 to 8, 12, 13.
+#[no_mangle]
+pub extern "C" fn lamp_running_cost(card: &[u8], count: u64, load: u64) -> LampAnswer
+    ensures outcome { λ r. ⌜ Gives (answer (runningCost (now (card .entry)) count load)) (r .number) (r .cost) ⌝ }
+{
+    match card::check(card) {
+        Checked::Accepted(h) => running_cost(card, h, count, load),
         Checked::NotAccepted(x) => refused(x),
     }
 }
