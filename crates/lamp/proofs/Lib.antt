@@ -1,2 +1,5 @@
 mod Answering
 mod Running
+mod Marking
+mod Making
+mod Planning

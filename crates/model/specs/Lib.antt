@@ -7,4 +7,5 @@ pub mod Sheets
 pub mod Thesis
 pub mod Plans
 pub mod Calls
+pub mod Promises
 pub mod Examples
