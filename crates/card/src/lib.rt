@@ -6,7 +6,7 @@ ghost use Prim.Native.Nat.{ℕ, _+_, _*_, _≤_};
 ghost use mathlib.Core.Bool.{Bool};
 ghost use lib.ListN.{length};
 ghost use Rattle.lists.specs.Lists.{sameList};
-ghost use Rattle.model.specs.Instance.{instanceOf, entryPlace, loadPlace, markOf, cardMark, versionOf, bendsUp, convex, tableInRange, loadsInRange};
+ghost use Rattle.model.specs.Instance.{instanceOf, entryPlace, loadPlace, markOf, cardMark, versionOf, bendsUp, convex, neverFalls, tableInRange, loadsInRange};
 ghost use Rattle.card.specs.Reading.{Within, ReadAt};
 ghost use Rattle.card.specs.Checking.{TableEntry, SlotLoad, TableWithin, HeaderOf, Sized, rackInRange, found, frontRefusals, sizeRefusals, bodyRefusals, checkedOf};
 
@@ -246,6 +246,21 @@ fn is_convex(card: &[u8], top: u64) -> bool
     let mut k: u64 = 0;
     while k + 1 < top {
         if !bends_up(card, k) {
+            return false;
+        }
+        k += 1;
+    }
+    true
+}
+
+// F(0) to F(top) never fall.
+pub fn never_falls(card: &[u8], top: u64) -> bool
+    requires { ⌜ TableWithin (now card) top ⌝ }
+    ensures { λ r. ⌜ r ≡ neverFalls top (instanceOf (now (card .entry)) .table) ⌝ }
+{
+    let mut k: u64 = 0;
+    while k < top {
+        if entry(card, k + 1) < entry(card, k) {
             return false;
         }
         k += 1;
