@@ -18,6 +18,7 @@ use Rattle.model.specs.Instance.{instanceOf, cardMark, cardLength, bends
 use Rattle.model.specs.Counts.{canServe, operatingCost, allCounts, powerOfTwo, coarseCounts, roundedCount}
 use Rattle.model.specs.Sheets.{stateAt, sheetLength, sheetEntries, lightAt, sheetLight, stepCost, changeCost, sheetCost}
 use Rattle.model.specs.Plans.{moduleByte, slotRow, sheetOf, planCost, planServes, plansInOrder, cheapest, cheapestOf, leastPlan}
+use Rattle.model.specs.Listing.{digits, decimal, costLine, planLine, stepText, slotLine, listing, refusedLine, printedFor, printed}
 use Rattle.model.specs.Calls.{Call, checkCard, runningCost, planExact, planCoarse, makeSheet, markSheet, roundCount}
 use Rattle.model.specs.Calls.{rightLength, entriesInRange, loadsServed, anyShort, requestOf, applies, refusals, lowest, successCost}
 use Rattle.model.specs.Calls.{answer, atExit, exactPlanAtExit, exactWorkAtExit, coarsePlanAtExit, coarseWorkAtExit, sheetAtExit, buffersAtExit, outcome}
@@ -57,6 +58,15 @@ cardI = cardOf 3 2 3 2 (1 ∷ 2 ∷ 4 ∷ []) []
 abbrev cardUp : List ℕ
 cardUp = cardOf 4 2 1 0 (1 ∷ 1 ∷ 4 ∷ []) (3 ∷ [])
 
+-- its listing, as document 01 prints it
+abbrev listingA : List ℕ
+listingA =
+    99 ∷ 111 ∷ 115 ∷ 116 ∷ 32 ∷ 51 ∷ 50 ∷ 10 ∷
+    112 ∷ 108 ∷ 97 ∷ 110 ∷ 32 ∷ 51 ∷ 32 ∷ 49 ∷ 32 ∷ 49 ∷ 10 ∷
+    115 ∷ 108 ∷ 111 ∷ 116 ∷ 32 ∷ 49 ∷ 58 ∷ 32 ∷ 50 ∷ 32 ∷ 50 ∷ 32 ∷ 50 ∷ 10 ∷
+    115 ∷ 108 ∷ 111 ∷ 116 ∷ 32 ∷ 50 ∷ 58 ∷ 32 ∷ 48 ∷ 32 ∷ 45 ∷ 32 ∷ 45 ∷ 10 ∷
+    115 ∷ 108 ∷ 111 ∷ 116 ∷ 32 ∷ 51 ∷ 58 ∷ 32 ∷ 50 ∷ 32 ∷ 45 ∷ 32 ∷ 45 ∷ 10 ∷ []
+
 -- a lent buffer of n bytes, full of 7
 abbrev lent : ℕ → List ℕ
 lent n = replicate n 7
@@ -80,6 +90,7 @@ counts n m list = record { name = n; found = coarseCounts m ∷ []; expected = l
 starred : List Example
 starred =
     row "A exact" (planExact cardA (lent 5) (lent 14)) 0 32 (over 5 (3 ∷ 1 ∷ 1 ∷ []) ∷ over 14 (replicate 12 0) ∷ []) ∷
+    record { name = "A listing"; found = printed cardA ∷ []; expected = listingA ∷ [] } ∷
     row "A sheet" (makeSheet cardA (3 ∷ 1 ∷ 1 ∷ []) (lent 11)) 0 32 (over 11 (2 ∷ 2 ∷ 2 ∷ 0 ∷ 255 ∷ 255 ∷ 2 ∷ 255 ∷ 255 ∷ []) ∷ []) ∷
     row "B" (runningCost cardA 3 4) 0 8 [] ∷
     row "C cannot serve" (runningCost cardA 2 5) 13 0 [] ∷
@@ -105,6 +116,16 @@ starred =
     row "plausible error: rounding up" (planCoarse cardUp (lent 1) (lent 10)) 0 7 ((2 ∷ []) ∷ replicate 10 0 ∷ []) ∷
     []
 
+-- what is found is what is expected, computed through every definition
+agrees : Example → Bool
+unfolding sameLists sameList every sum tabulate rows keep littleEndian instanceOf cardLength bendsUp convex neverFalls tableInRange
+    pricesInRange loadsInRange canServe operatingCost allCounts powerOfTwo coarseCounts roundedCount stateAt sheetLength
+    sheetEntries lightAt sheetLight stepCost changeCost sheetCost moduleByte slotRow sheetOf planCost planServes plansInOrder
+    cheapest cheapestOf leastPlan rightLength entriesInRange loadsServed anyShort requestOf applies refusals lowest successCost
+    answer atExit exactPlanAtExit exactWorkAtExit coarsePlanAtExit coarseWorkAtExit sheetAtExit buffersAtExit outcome flatMap
+    headD digits decimal costLine planLine stepText slotLine listing refusedLine printedFor printed
+agrees e = sameLists (e .found) (e .expected)
+
 -- Nothing proves it: where a row does not hold, the check names it by this.
 data Failed (name : String) : Type 0 where
 
@@ -115,13 +136,14 @@ verdict n false = Failed n
 -- every row holds
 abbrev AllHold : List Example → Type 0
 AllHold [] = Unit {0}
-AllHold (e ∷ es) = verdict (e .name) (sameLists (e .found) (e .expected)) × AllHold es
+AllHold (e ∷ es) = verdict (e .name) (agrees e) × AllHold es
 
 -- what a row that holds says
-holds-equal : (n : String) (x y : List (List ℕ)) → verdict n (sameLists x y) → x ≡ y
-holds-equal n x y v = same-lists-equal x y (go (sameLists x y) v)
+holds-equal : (e : Example) → verdict (e .name) (agrees e) → e .found ≡ e .expected
+unfolding agrees
+holds-equal e v = same-lists-equal (e .found) (e .expected) (go (sameLists (e .found) (e .expected)) v)
   where
-    go : (b : Bool) → verdict n b → b ≡ true
+    go : (b : Bool) → verdict (e .name) b → b ≡ true
     go true w = refl
     go false w = elim w [ ]
 
@@ -146,21 +168,22 @@ wrong =
 -- no row holds
 abbrev NoneHold : List Example → Type 0
 NoneHold [] = Unit {0}
-NoneHold (e ∷ es) = verdict (e .name) (not (sameLists (e .found) (e .expected))) × NoneHold es
+NoneHold (e ∷ es) = verdict (e .name) (not (agrees e)) × NoneHold es
 
 -- what a row that does not hold says
-fails-differ : (n : String) (x y : List (List ℕ)) → verdict n (not (sameLists x y)) → x ≡ y → ⊥
-fails-differ n x y v e = go (sameLists x y) v (ap (sameLists x) (sym e) ∙ same-selves x)
+fails-differ : (e : Example) → verdict (e .name) (not (agrees e)) → e .found ≡ e .expected → ⊥
+unfolding agrees
+fails-differ e v p = go (sameLists (e .found) (e .expected)) v (ap (sameLists (e .found)) (sym p) ∙ same-selves (e .found))
   where
-    go : (b : Bool) → verdict n (not b) → b ≡ true → ⊥
+    go : (b : Bool) → verdict (e .name) (not b) → b ≡ true → ⊥
     go true w t = elim w [ ]
     go false w t = false≢true t
 
--- Both tables, by one computation.
-tables-hold : AllHold starred × NoneHold wrong
-unfolding starred wrong sameLists sameList every sum tabulate rows keep littleEndian instanceOf cardLength bendsUp convex neverFalls tableInRange pricesInRange
-    loadsInRange canServe operatingCost allCounts powerOfTwo coarseCounts roundedCount stateAt sheetLength sheetEntries lightAt sheetLight
-    stepCost changeCost sheetCost moduleByte slotRow sheetOf planCost planServes plansInOrder cheapest cheapestOf leastPlan
-    rightLength entriesInRange loadsServed anyShort requestOf applies refusals lowest successCost answer atExit exactPlanAtExit
-    exactWorkAtExit coarsePlanAtExit coarseWorkAtExit sheetAtExit buffersAtExit outcome flatMap headD
-tables-hold = omega arith
+-- The starred examples, by one computation.
+starred-hold : AllHold starred
+unfolding starred agrees
+starred-hold = omega arith
+
+wrong-differ : NoneHold wrong
+unfolding wrong agrees
+wrong-differ = omega arith

@@ -8,4 +8,5 @@ pub mod Thesis
 pub mod Plans
 pub mod Calls
 pub mod Promises
+pub mod Listing
 pub mod Examples
