@@ -2,8 +2,10 @@
 use Prim.Native.Nat.{ℕ, _+_, _-_, _*_, _/_, _%_, _^_, _≤_, _<_}
 use mathlib.Core.Path.{_≡_}
 use mathlib.Core.List.{List}
-use native.Mathlib.Nat.{pos-of-ne-zero, mod-lt, div-le-of-le-mul, div-add-mod, lt-of-mul-lt-mul-left, mul-le-mul}
+use native.Mathlib.Nat.{sub-zero, pos-of-ne-zero, mod-lt, div-le-of-le-mul, div-add-mod, lt-of-mul-lt-mul-left, mul-le-mul}
 use native.Mathlib.Omega.{arith}
+use mir.Syntax.{w64}
+use mir.Val.{Fits}
 use borrow.Author.Tests.{eq-eqb, ne-eqb}
 use Rattle.model.specs.Instance.{Instance, instanceOf}
 use Rattle.model.specs.Counts.{operatingCost}
@@ -31,25 +33,27 @@ module _ (i : Instance) (n l : ℕ) where
   cost-none e = rw (eq-eqb n 0 e)
 
   module _ (some : n ≡ 0 → ⊥) {x : ℕ} (x-is : x ≡ i .table (l / n)) where
-    pub cost-even : l % n ≡ 0 → (n - l % n) * x ≡ operatingCost i n l
+    pub cost-even : l % n ≡ 0 → n * x ≡ operatingCost i n l
     unfolding operatingCost
-    cost-even e = rw (ne-eqb n 0 some, eq-eqb (l % n) 0 e, x-is) (omega arith)
+    cost-even e = rw (ne-eqb n 0 some, e, x-is, sub-zero) (omega arith)
 
-    pub cost-uneven : (l % n ≡ 0 → ⊥) → {y : ℕ} → y ≡ i .table (l / n + 1) → (n - l % n) * x + l % n * y ≡ operatingCost i n l
+    pub cost-uneven :
+        (l % n ≡ 0 → ⊥) → {y : ℕ} → y ≡ i .table (l / n + 1) → (n - l % n) * x + l % n * y ≡ operatingCost i n l
     unfolding operatingCost
     cost-uneven r {y} y-is = rw (ne-eqb n 0 some, ne-eqb (l % n) 0 r, x-is, y-is)
 
--- the two products are small
-pub low-small : {s : List ℕ} {n l x : ℕ} → Served s n l → (r : ℕ) → x < 256 ^ 4 → (n - r) * x ≤ 200 * 256 ^ 4
-low-small {s} {n} {l} {x} p r h =
-    let rack = p .in-rack in
-    mul-le-mul {n₁ = n - r} {m₁ = x} {n₂ = 200} {m₂ = 256 ^ 4} (omega (arith, modules-range s (p .accepted) .1)) (omega arith)
+-- a product of a count and an entry is small, and so is the sum of two
+module _ {s : List ℕ} {n l : ℕ} (p : Served s n l) where
+  pub product-small : {k x : ℕ} → k ≤ n → x < 256 ^ 4 → k * x ≤ 200 * 256 ^ 4
+  product-small {k} {x} h b =
+      let rack = modules-range s (p .accepted) .1 in
+      mul-le-mul {n₁ = k} {m₁ = x} {n₂ = 200} {m₂ = 256 ^ 4} (omega (arith, p .in-rack)) (omega arith)
 
-pub rest-small : {s : List ℕ} {n l y : ℕ} → Served s n l → (n ≡ 0 → ⊥) → y < 256 ^ 4 → l % n * y ≤ 200 * 256 ^ 4
-rest-small {s} {n} {l} {y} p some h =
-    let rack = p .in-rack in
-    let rest = rest-below n l some in
-    mul-le-mul {n₁ = l % n} {m₁ = y} {n₂ = 200} {m₂ = 256 ^ 4} (omega (arith, modules-range s (p .accepted) .1)) (omega arith)
+  pub product-fits : {k x : ℕ} → k ≤ n → x < 256 ^ 4 → Fits w64 (k * x)
+  product-fits {k} {x} h b = record { fits = omega (arith, product-small h b) }
 
-pub step-small : {s : List ℕ} {n l : ℕ} → Served s n l → (n ≡ 0 → ⊥) → l / n ≤ 200
-step-small {s} {n} {l} p some = omega (arith, step-within n l some (instanceOf s .topStep) (p .serves), top-range s (p .accepted) .1)
+  pub step-small : (n ≡ 0 → ⊥) → l / n ≤ 200
+  step-small some = omega (arith, step-within n l some (instanceOf s .topStep) (p .serves), top-range s (p .accepted) .1)
+
+pub sum-fits : {a b : ℕ} → a ≤ 200 * 256 ^ 4 → b ≤ 200 * 256 ^ 4 → Fits w64 (a + b)
+sum-fits h g = record { fits = omega arith }

@@ -1,1 +1,5 @@
 pub mod Division
+pub mod Powers
+pub mod Writing
+pub mod Rounding
+pub mod Terms

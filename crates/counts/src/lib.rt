@@ -1,10 +1,99 @@
-// The running cost of a count.
+// Counts of active modules: the lists of allowed counts, the rounded count, and the running cost of a count.
 ghost use mathlib.Core.Path.{_≡_};
+ghost use mathlib.Core.List.{_++_};
+ghost use Prim.Native.Nat.{_*_, _^_, _≤_, _<_};
+ghost use lib.ListN.{length, drop};
+ghost use lib.Dec.{leb};
 ghost use Rattle.model.specs.Instance.{instanceOf};
-ghost use Rattle.model.specs.Counts.{operatingCost};
-ghost use Rattle.counts.specs.Serving.{Served};
+ghost use Rattle.model.specs.Counts.{operatingCost, coarseCounts, roundedCount};
+ghost use Rattle.counts.specs.Serving.{Served, ByteNumbers};
+ghost use Rattle.counts.specs.AllowedCounts.{CoarseRoom, RackCount, numbersBelow, firstPowers, firstNotBelow};
 
-// The running cost of n active modules that share the load l evenly.
+// The powers of two among the coarse counts of the largest rack.
+const POWERS: [u16; 8] = [1, 2, 4, 8, 16, 32, 64, 128];
+
+fn power(k: usize) -> u64
+    requires { ⌜ k < 8 ⌝ }
+    ensures { λ r. ⌜ r ≡ 2 ^ k ⌝ }
+{
+    let read = POWERS[k];
+    read as u64
+}
+
+// The part is filled with the first powers of two.
+fn fill_powers(part: &mut [u64])
+    requires { ⌜ length (now part) ≤ 8 ⌝ }
+    ensures { λ _. ⌜ now (part .exit) ≡ firstPowers (length (now (part .entry))) ⌝ }
+{
+    let mut k = 0;
+    while k < part.len() {
+        part[k] = power(k);
+        k += 1;
+    }
+}
+
+// The coarse plan's allowed counts for a rack of m: 0, each power of two up to m, and m. Returns how many they are.
+pub fn fill_coarse(counts: &mut [u64], m: u64) -> usize
+    requires { ⌜ CoarseRoom (now counts) m ⌝ }
+    ensures { λ r. ⌜ r ≡ length (coarseCounts m) ⌝ }
+    ensures { λ r. ⌜ now (counts .exit) ≡ coarseCounts m ++ drop (length (coarseCounts m)) (now (counts .entry)) ⌝ }
+{
+    let powers = (64 - u64::leading_zeros(m)) as usize;
+    let end = powers + 1;
+    counts[0] = 0;
+    fill_powers(&mut counts[1..end]);
+    if counts[powers] == m {
+        return end;
+    }
+    counts[end] = m;
+    end + 1
+}
+
+// The exact plan's allowed counts: all from 0 on.
+pub fn fill_all(counts: &mut [u64])
+    ensures { λ _. ⌜ now (counts .exit) ≡ numbersBelow (length (now (counts .entry))) ⌝ }
+{
+    let mut k = 0;
+    while k < counts.len() {
+        counts[k] = k as u64;
+        k += 1;
+    }
+}
+
+// The first of the counts that is not below the count given, and 0 where all are below.
+fn first_not_below(counts: &[u64], count: u64) -> u64
+    ensures { λ r. ⌜ r ≡ firstNotBelow (now (counts .entry)) count ⌝ }
+{
+    let mut k = 0;
+    while k < counts.len() {
+        let allowed = counts[k];
+        if allowed >= count {
+            return allowed;
+        }
+        k += 1;
+    }
+    0
+}
+
+// Rounded count: the smallest coarse count of the rack that is not below the count.
+pub fn rounded(count: u64, modules: u64) -> u64
+    requires { ⌜ RackCount count modules ⌝ }
+    ensures { λ r. ⌜ r ≡ roundedCount modules count ⌝ }
+{
+    let mut counts = [0u64; 10];
+    let n = fill_coarse(&mut counts, modules);
+    first_not_below(&counts[..n], count)
+}
+
+// A count n can serve the load l, where Q is top.
+pub fn can_serve(top: u64, n: u64, l: u64) -> bool
+    requires { ⌜ ByteNumbers top n ⌝ }
+    ensures { λ r. ⌜ r ≡ leb l (n * top) ⌝ }
+{
+    l <= n * top
+}
+
+// Running cost of a count: (n - r)F(q) + rF(q + 1) with q = l / n and r = l % n; F(q + 1) is read only if r is not 0.
 pub fn operating_cost(card: &[u8], n: u64, l: u64) -> u64
     requires { ⌜ Served (now card) n l ⌝ }
     ensures { λ r. ⌜ r ≡ operatingCost (instanceOf (now (card .entry))) n l ⌝ }
@@ -14,9 +103,11 @@ pub fn operating_cost(card: &[u8], n: u64, l: u64) -> u64
     }
     let step = l / n;
     let rest = l % n;
-    let low = (n - rest) * card::entry(card, step);
     if rest == 0 {
-        return low;
+        return n * card::entry(card, step);
     }
-    low + rest * card::entry(card, step + 1)
+    let others = n - rest;
+    let next = step + 1;
+    let low = others * card::entry(card, step);
+    low + rest * card::entry(card, next)
 }

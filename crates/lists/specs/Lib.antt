@@ -8,3 +8,5 @@ pub mod Members
 pub mod Kept
 pub mod Bytes
 pub mod Filling
+pub mod Prefixes
+pub mod Searching

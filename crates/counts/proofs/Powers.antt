@@ -1,0 +1,111 @@
+-- The coarse counts of a rack of at most 200: 0, the powers of two up to m, and m if it is no power. The number of powers is read
+-- off the leading zeros. What holds of one rack and the next is a test that antt computes for each rack.
+use Prim.Native.Nat.{ℕ, zero, suc, _+_, _-_, _^_, _≤_, _<_}
+use mathlib.Core.Path.{_≡_, refl, sym, _∙_}
+use mathlib.Core.Bool.{Bool, true, cond, _&&_, _||_, or-true}
+use mathlib.Core.List.{List, [], _∷_, _++_}
+use native.Mathlib.Numerals.{add-one}
+use native.Mathlib.Omega.{arith}
+use lib.ListN.{getD}
+use lib.Count.{leadingZeros}
+use lib.Dec.{eqb, leb}
+use borrow.Author.Tests.{eq-eqb, ne-eqb, leb-true}
+use Rattle.lists.specs.Tests.{every, every-at, and-left, and-right}
+use Rattle.lists.specs.Lists.{tabulate, getD-tabulate, keep, sameList, same-list-equal}
+use Rattle.lists.specs.Prefixes.{tabulate-more, keep-append, keep-tabulate}
+use Rattle.model.specs.Counts.{allCounts, powerOfTwo, coarseCounts}
+use Rattle.counts.specs.AllowedCounts.{firstPowers}
+
+-- how many powers of two are at most m, for m below 2 to the 64
+abbrev pub powersUpTo : ℕ → ℕ
+powersUpTo m = 64 - leadingZeros 64 m
+
+-- the table of powers, entry by entry
+pub table-entry : (k : ℕ) → k < 8 → getD (1 ∷ 2 ∷ 4 ∷ 8 ∷ 16 ∷ 32 ∷ 64 ∷ 128 ∷ []) k 0 ≡ 2 ^ k
+unfolding tabulate
+table-entry k h = getD-tabulate 8 (λ k. 2 ^ k) k 0 h
+
+-- 0 and the first p powers
+unfoldable pub zeroAndPowers : ℕ → List ℕ
+zeroAndPowers p = 0 ∷ firstPowers p
+
+-- 0 and the powers below m
+abbrev zeroOrPower : ℕ → Bool
+zeroOrPower n = eqb n 0 || powerOfTwo n
+
+unfoldable smaller : ℕ → List ℕ
+smaller m = keep zeroOrPower (tabulate m (λ n. n))
+
+smaller-more : (m : ℕ) → smaller (suc m) ≡ smaller m ++ keep zeroOrPower (m ∷ [])
+unfolding smaller
+smaller-more m = rw (tabulate-more m (λ n. n), keep-append)
+
+-- the coarse counts are these and m
+abbrev coarseTest : ℕ → ℕ → Bool
+coarseTest m n = eqb n 0 || (eqb n m || powerOfTwo n)
+
+coarse-split : (m : ℕ) → coarseCounts m ≡ smaller m ++ (m ∷ [])
+unfolding coarseCounts allCounts smaller keep
+coarse-split m =
+    rw (add-one, tabulate-more m (λ n. n), keep-append, kept, keep-tabulate m (λ n. n) (coarseTest m) zeroOrPower below)
+  where
+    kept : keep (coarseTest m) (m ∷ []) ≡ m ∷ []
+    kept = rw (eq-eqb m m refl, or-true (eqb m 0))
+
+    below : (n : ℕ) → n < m → coarseTest m n ≡ zeroOrPower n
+    below n h = rw (ne-eqb n m (omega arith))
+
+-- Two tests at k, for a rack of m = k + 1. The first: m joins the smaller counts of the next rack if it is a power.
+next-test : ℕ → Bool
+next-test k =
+    sameList
+    (zeroAndPowers (powersUpTo (suc k)))
+    (zeroAndPowers (powersUpTo k) ++ keep zeroOrPower (suc k ∷ []))
+
+next-tests : every 200 next-test ≡ true
+unfolding every next-test sameList zeroAndPowers firstPowers leadingZeros keep powerOfTwo tabulate
+next-tests = refl
+
+-- the list as it is written: m joins the powers up to m unless the last of these is m
+unfoldable pub written : ℕ → ℕ → List ℕ
+written p m = cond (eqb (2 ^ (p - 1)) m) (zeroAndPowers p) (zeroAndPowers p ++ (m ∷ []))
+
+-- The second: the smaller counts with m are the list as it is written, with one to eight powers.
+written-test : ℕ → Bool
+written-test k =
+    sameList (zeroAndPowers (powersUpTo k) ++ (suc k ∷ [])) (written (powersUpTo (suc k)) (suc k)) &&
+    (leb 1 (powersUpTo (suc k)) && leb (powersUpTo (suc k)) 8)
+
+written-tests : every 200 written-test ≡ true
+unfolding every written-test written sameList zeroAndPowers firstPowers leadingZeros tabulate
+written-tests = refl
+
+smaller-first : smaller 1 ≡ zeroAndPowers (powersUpTo 0)
+unfolding smaller zeroAndPowers firstPowers leadingZeros keep tabulate
+smaller-first = refl
+
+smaller-is : (k : ℕ) → k ≤ 200 → smaller (suc k) ≡ zeroAndPowers (powersUpTo k)
+unfolding next-test
+smaller-is zero h = smaller-first
+smaller-is (suc k) h =
+    smaller-more (suc k) ∙ rw (smaller-is k (omega arith)) (sym (same-list-equal _ _ (every-at 200 next-test next-tests k h)))
+
+-- the coarse counts of a rack of m, and how many powers are among them
+pub record Coarse (m : ℕ) : Type 0 where
+  pub low : 1 ≤ powersUpTo m
+  pub high : powersUpTo m ≤ 8
+  pub list : coarseCounts m ≡ written (powersUpTo m) m
+
+pub coarse-known : (m : ℕ) → 1 ≤ m → m ≤ 200 → Coarse m
+unfolding written-test
+coarse-known zero some most = absurd (omega arith)
+coarse-known (suc k) some most =
+    let p = powersUpTo (suc k) in
+    let t = every-at 200 written-test written-tests k most in
+    let found = sameList (zeroAndPowers (powersUpTo k) ++ (suc k ∷ [])) (written p (suc k)) in
+    let range = and-right found (leb 1 p && leb p 8) t in
+    record {
+      low = leb-true 1 p (and-left (leb 1 p) (leb p 8) range);
+      high = leb-true p 8 (and-right (leb 1 p) (leb p 8) range);
+      list = coarse-split (suc k) ∙ rw (smaller-is k (omega arith)) (same-list-equal _ _ (and-left found (leb 1 p && leb p 8) t));
+    }

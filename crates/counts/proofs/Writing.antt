@@ -1,0 +1,94 @@
+-- The coarse counts as they are written over a list: 0 at the first place, the powers of two after it, and m if it is no power.
+use Prim.Native.Nat.{ℕ, zero, suc, _+_, _-_, _^_, _≤_, _<_}
+use mathlib.Core.Path.{_≡_, sym, _∙_, ap}
+use mathlib.Core.List.{List, [], _∷_, _++_, append-assoc}
+use native.Mathlib.Numerals.{add-one}
+use native.Mathlib.Omega.{arith}
+use lib.ListN.{length, getD, drop, set, length-set, length-append, List·getD-append}
+use lib.Seq.{take-suc-set, drop-set-lt, drop-cons, set-at}
+use borrow.Author.Tests.{eq-eqb, ne-eqb}
+use borrow.Rule.Slice.PartMut.{putMid, midOf, mid-len, post-is}
+use Rattle.lists.specs.Lists.{length-tabulate, getD-tabulate}
+use Rattle.model.specs.Counts.{coarseCounts}
+use Rattle.counts.specs.AllowedCounts.{CoarseRoom, firstPowers}
+use Rattle.counts.proofs.Powers.{powersUpTo, zeroAndPowers, written, Coarse, coarse-known}
+
+length-zeroAndPowers : (p : ℕ) → length (zeroAndPowers p) ≡ p + 1
+unfolding zeroAndPowers firstPowers
+length-zeroAndPowers p = omega (arith, length-tabulate p (λ k. 2 ^ k))
+
+last-power : (p : ℕ) → 1 ≤ p → getD (zeroAndPowers p) p 0 ≡ 2 ^ (p - 1)
+unfolding zeroAndPowers firstPowers
+last-power zero h = absurd (omega arith)
+last-power (suc q) h =
+    let e : suc q - 1 ≡ q = omega arith in
+    rw e (getD-tabulate (suc q) (λ k. 2 ^ k) q 0 (omega arith))
+
+module _ (xs : List ℕ) (m : ℕ) (asked : CoarseRoom xs m) where
+  abbrev known : Coarse m
+  known = coarse-known m (asked .some) (asked .most)
+
+  part-within : powersUpTo m + 1 ≤ length (set xs 0 0)
+  part-within = omega (arith, length-set xs 0 0, known .high, asked .room)
+
+  part-length : length (midOf 1 (powersUpTo m + 1 - 1) (set xs 0 0)) ≡ powersUpTo m
+  part-length = mid-len 1 (powersUpTo m + 1) (set xs 0 0) part-within ∙ omega arith
+
+  -- the part of the powers
+  module _ {ys : List ℕ} (filled : ys ≡ firstPowers (length (midOf 1 (powersUpTo m + 1 - 1) (set xs 0 0)))) where
+    abbrev after : List ℕ
+    after = putMid 1 (powersUpTo m + 1 - 1) (set xs 0 0) ys
+
+    after-is : after ≡ zeroAndPowers (powersUpTo m) ++ drop (powersUpTo m + 1) xs
+    unfolding zeroAndPowers
+    after-is =
+        let some : 0 < length xs = omega (arith, asked .room) in
+        rw (
+          take-suc-set xs 0 0 some,
+          post-is 1 (powersUpTo m + 1) (set xs 0 0) (omega arith),
+          drop-set-lt (powersUpTo m + 1) xs 0 0 (omega arith),
+          filled,
+          part-length,
+        )
+
+    -- the entry that is compared with m is the last power
+    at-last : getD after (powersUpTo m) 0 ≡ 2 ^ (powersUpTo m - 1)
+    at-last =
+        let inside : powersUpTo m < length (zeroAndPowers (powersUpTo m)) = omega (arith, length-zeroAndPowers (powersUpTo m)) in
+        ap (λ (l : List ℕ). getD l (powersUpTo m) 0) after-is ∙
+        List·getD-append (zeroAndPowers (powersUpTo m)) (drop (powersUpTo m + 1) xs) 0 (powersUpTo m) inside ∙
+        last-power (powersUpTo m) (known .low)
+
+    -- m is a power: the list is complete as it stands
+    module _ (equal : getD after (powersUpTo m) 0 ≡ m) where
+      power-list : coarseCounts m ≡ zeroAndPowers (powersUpTo m)
+      unfolding written
+      power-list = known .list ∙ rw (eq-eqb (2 ^ (powersUpTo m - 1)) m (sym at-last ∙ equal))
+
+      power-length : powersUpTo m + 1 ≡ length (coarseCounts m)
+      power-length = sym (ap length power-list ∙ length-zeroAndPowers (powersUpTo m))
+
+      pub power-done : (powersUpTo m + 1 ≡ length (coarseCounts m)) × (after ≡ coarseCounts m ++ drop (length (coarseCounts m)) xs)
+      power-done = (power-length, rw (← power-length, power-list) after-is)
+
+    -- m is none: it is joined
+    module _ (other : getD after (powersUpTo m) 0 ≡ m → ⊥) where
+      other-list : coarseCounts m ≡ zeroAndPowers (powersUpTo m) ++ (m ∷ [])
+      unfolding written
+      other-list = known .list ∙ rw (ne-eqb (2 ^ (powersUpTo m - 1)) m (λ e. other (at-last ∙ e)))
+
+      other-length : powersUpTo m + 1 + 1 ≡ length (coarseCounts m)
+      other-length =
+          let joined = length-append (zeroAndPowers (powersUpTo m)) (m ∷ []) in
+          omega (arith, ap length other-list, length-zeroAndPowers (powersUpTo m))
+
+      other-written : set after (powersUpTo m + 1) m ≡ coarseCounts m ++ drop (length (coarseCounts m)) xs
+      other-written =
+          let inside : powersUpTo m + 1 < length xs = omega (arith, known .high, asked .room) in
+          rw (← other-length, other-list, after-is, drop-cons xs (powersUpTo m + 1) 0 inside, add-one (powersUpTo m + 1), append-assoc)
+          (set-at (zeroAndPowers (powersUpTo m)) _ _ m (powersUpTo m + 1) (length-zeroAndPowers (powersUpTo m)))
+
+      pub other-done :
+          (powersUpTo m + 1 + 1 ≡ length (coarseCounts m)) ×
+          (set after (powersUpTo m + 1) m ≡ coarseCounts m ++ drop (length (coarseCounts m)) xs)
+      other-done = (other-length, other-written)
