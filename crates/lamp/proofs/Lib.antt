@@ -1,5 +1,6 @@
 mod Answering
 mod Running
+mod Rounding
 mod Marking
 mod Making
 mod Planning

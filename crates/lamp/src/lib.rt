@@ -5,7 +5,7 @@ use model::Refusal;
 ghost use mathlib.Core.Path.{_≡_};
 ghost use Rattle.model.specs.Answers.{refusalNumber};
 ghost use Rattle.model.specs.declared.Answer.the-variants.{Refused};
-ghost use Rattle.model.specs.Calls.{Gives, answer, checkCard, runningCost};
+ghost use Rattle.model.specs.Calls.{Gives, answer, checkCard, runningCost, roundCount};
 ghost use Rattle.card.specs.Checking.{Ready};
 
 // What every call returns: a refusal's number and cost 0, or number 0 and the cost.
@@ -80,5 +80,25 @@ pub extern "C" fn lamp_running_cost(card: &[u8], count: u64, load: u64) -> LampA
     match card::check(card) {
         Checked::Accepted(h) => running_cost(card, h, count, load),
         Checked::NotAccepted(x) => refused(x),
+    }
+}
+
+// The smallest allowed count not below the count, in the cost's place: refusals 3 and 12.
+#[no_mangle]
+pub extern "C" fn lamp_rounded_count(count: u64, modules: u64) -> LampAnswer
+    ensures outcome { λ r. ⌜ Gives (answer (roundCount count modules)) (r .number) (r .cost) ⌝ }
+{
+    if modules < 1 {
+        return refused(Refusal::RackSize);
+    }
+    if 200 < modules {
+        return refused(Refusal::RackSize);
+    }
+    if modules < count {
+        return refused(Refusal::EntryRange);
+    }
+    LampAnswer {
+        number: 0,
+        cost: counts::rounded(count, modules),
     }
 }
