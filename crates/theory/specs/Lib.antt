@@ -11,9 +11,9 @@ pub mod Choices
 pub mod Steps
 pub mod Least
 pub mod Enumeration
-pub mod Search
 pub mod Average
 pub mod Potential
 pub mod Ratio
 pub mod Lists
+pub mod Condition3
 pub mod Bites

@@ -24,6 +24,13 @@ NeverFalls q f = (k : ℕ) → k < q → f k ≤ f (k + 1)
 abbrev pub LoadsFit : Instance → Type 0
 LoadsFit i = (t : ℕ) → t < i .slots → i .load t ≤ i .modules * i .topStep
 
+-- Shows that can be planned: of an accepted card all this holds.
+pub record Plannable (i : Instance) : Type 0 where
+  pub some : 1 ≤ i .modules
+  pub steps : i .topStep < off
+  pub loads : LoadsFit i
+  pub convex : Convex (i .topStep) (i .table)
+
 -- Rows of bytes, one for each of m modules.
 abbrev pub Entry : Instance → ℕ → Type 0
 Entry i b = (leb b (i .topStep) || isOff b) ≡ true
