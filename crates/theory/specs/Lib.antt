@@ -16,4 +16,5 @@ pub mod Potential
 pub mod Ratio
 pub mod Lists
 pub mod Condition3
+pub mod Refusals
 pub mod Bites
