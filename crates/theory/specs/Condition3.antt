@@ -6,7 +6,7 @@ use mathlib.Core.List.{List}
 use native.Mathlib.Nat.{mul-le-mul-left}
 use native.Mathlib.Numerals.{add-one}
 use native.Mathlib.Omega.{arith}
-use lib.ListN.{length, getD}
+use lib.ListN.{length}
 use borrow.Author.Tests.{not-false}
 use Rattle.model.specs.declared.Refusal.the-variants.{NotMonotone}
 use Rattle.model.specs.declared.Answer.the-variants.{Cost}
@@ -57,7 +57,8 @@ module _ {i : Instance} (ready : Plannable i) where
     searched-plan =
         let L = searched-least i counts 0 asc (ready .loads) in
         let same = least-plan-unique i counts _ _ (by-counts-least L) (least-plan i counts asc (ready .loads)) in
-        (same, searched-cost i counts 0 asc (ready .loads) ∙ sym (allowed-cost (searchedPlan i counts 0) (L .allowed)) ∙ ap (planCost i) same)
+        let cost = searched-cost i counts 0 asc (ready .loads) ∙ sym (allowed-cost (searchedPlan i counts 0) (L .allowed)) in
+        (same, cost ∙ ap (planCost i) same)
 
     -- The sheet of the least plan can be written, serves, and costs what the plan costs.
     pub least-plan-fits : PlanFits i (leastPlan i counts)
@@ -97,7 +98,8 @@ module _ {i : Instance} (ready : Plannable i) where
   unfolding searchedCost
   list-ratio rises counts asc r one gaps s e =
       let fit = counts-fit i s (ready .steps) e in
-      let bound = ratio i counts 0 (column i counts 0) (search-columns counts asc) asc rises r one gaps (countsOf i s) (fit .in-rack) (fit .served) in
+      let columns = search-columns counts asc in
+      let bound = ratio i counts 0 (column i counts 0) columns asc rises r one gaps (countsOf i s) (fit .in-rack) (fit .served) in
       omega (arith, searched-plan counts asc .1, mul-le-mul-left r (sheet-at-least i (ready .convex) s e))
 
   -- Over the coarse counts it costs at most twice as much.

@@ -17,4 +17,5 @@ pub mod Ratio
 pub mod Lists
 pub mod Condition3
 pub mod Refusals
+pub mod Outcomes
 pub mod Bites
