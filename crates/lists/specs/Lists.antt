@@ -2,7 +2,7 @@
 use Prim.Native.Nat.{ℕ, zero, suc, _+_, _*_, _<_}
 use mathlib.Core.Path.{_≡_, refl, ap, _∙_}
 use mathlib.Core.Logic.{⊎-elim}
-use mathlib.Core.List.{List, [], _∷_, _++_}
+use mathlib.Core.List.{List, [], _∷_, _++_, headD}
 use mathlib.Core.Bool.{Bool, true, false, cond, _&&_, false≢true}
 use lib.Dec.{eqb}
 use lib.ListN.{length, getD, length-append, List·getD-append}
@@ -27,6 +27,11 @@ unfolding tabulate
 getD-tabulate zero f k d h = absurd (not-suc-le-zero h)
 getD-tabulate (suc n) f zero d h = refl
 getD-tabulate (suc n) f (suc k) d h = getD-tabulate n (λ j. f (suc j)) k d (omega arith)
+
+pub head-is-first : (xs : List ℕ) → headD xs 0 ≡ getD xs 0 0
+unfolding headD
+head-is-first [] = refl
+head-is-first (x ∷ xs) = refl
 
 -- the lists f 0, .., f (n - 1) one after the other
 unfoldable pub rows : ℕ → (ℕ → List ℕ) → List ℕ

@@ -4,7 +4,6 @@ use mathlib.Core.Path.{_≡_, refl, sym, ap, _∙_}
 use mathlib.Core.Bool.{true, false}
 use mathlib.Core.List.{List}
 use native.Mathlib.Nat.{mul-le-mul-left}
-use native.Mathlib.Numerals.{add-one}
 use native.Mathlib.Omega.{arith}
 use lib.ListN.{length}
 use borrow.Author.Tests.{not-false}
@@ -17,15 +16,14 @@ use Rattle.model.specs.Thesis.{countsCost}
 use Rattle.model.specs.Plans.{Allowed, LeastPlan, sheetOf, planCost, leastPlan}
 use Rattle.model.specs.Calls.{checkCard, planCoarse, requestOf, applies, answer}
 use Rattle.laws.specs.Acceptance.{modules-range, top-range, load-range, table-convex}
-use Rattle.columns.specs.Column.{countAtPlace, column, searchedPlan, searchedCost}
+use Rattle.columns.specs.Column.{countAtPlace, searchedPlan, searchedCost}
 use Rattle.theory.specs.Setting.{NeverFalls, PlanFits, Plannable, Ascending, LeastByCounts}
 use Rattle.theory.specs.Tables.{convex-test, never-falls-test}
 use Rattle.theory.specs.Sheets.{countsOf, counts-fit, sheet-at-least, plan-sheet-serves, plan-cost-counts}
 use Rattle.theory.specs.Places.{count-fits}
-use Rattle.theory.specs.Steps.{column-step, column-rises, column-slope}
 use Rattle.theory.specs.Least.{searched-least, searched-cost}
 use Rattle.theory.specs.Enumeration.{least-plan, least-plan-unique}
-use Rattle.theory.specs.Ratio.{Columns, ratio}
+use Rattle.theory.specs.Ratio.{ratio}
 use Rattle.theory.specs.Lists.{all-member, all-ascending, coarse-ascending, coarse-doubling}
 
 module _ {i : Instance} (ready : Plannable i) where
@@ -70,16 +68,6 @@ module _ {i : Instance} (ready : Plannable i) where
     unfolding planCost
     least-sheet = (plan-sheet-serves i (leastPlan i counts) least-plan-fits, refl)
 
-    search-columns : Columns i counts 0 (column i counts 0)
-    unfolding column
-    search-columns =
-        record {
-          start-is = λ j h. refl;
-          step = λ t h j k b c serves. rw add-one (column-step i counts 0 asc (ready .loads) t h .at-most j k b c serves);
-          rises = column-rises i counts 0 asc (ready .loads);
-          slope = column-slope i counts 0 asc (ready .loads);
-        }
-
   -- Over all counts no sheet that serves costs less.
   pub exact-least : (s : List ℕ) → serves i s ≡ true → planCost i (leastPlan i (allCounts (i .modules))) ≤ sheetCost i s
   exact-least s e =
@@ -95,11 +83,9 @@ module _ {i : Instance} (ready : Plannable i) where
       NeverFalls (i .topStep) (i .table) → (counts : List ℕ) → Ascending counts (i .modules) → (r : ℕ) → 1 ≤ r →
       ((j : ℕ) → j + 1 < length counts → countAtPlace counts (j + 1) ≤ r * (countAtPlace counts j + 1)) →
       (s : List ℕ) → serves i s ≡ true → planCost i (leastPlan i counts) ≤ r * sheetCost i s
-  unfolding searchedCost
   list-ratio rises counts asc r one gaps s e =
       let fit = counts-fit i s (ready .steps) e in
-      let columns = search-columns counts asc in
-      let bound = ratio i counts 0 (column i counts 0) columns asc rises r one gaps (countsOf i s) (fit .in-rack) (fit .served) in
+      let bound = ratio i counts 0 asc (ready .loads) rises r one gaps (countsOf i s) (fit .in-rack) (fit .served) in
       omega (arith, searched-plan counts asc .1, mul-le-mul-left r (sheet-at-least i (ready .convex) s e))
 
   -- Over the coarse counts it costs at most twice as much.
@@ -117,11 +103,11 @@ accepted-plannable c e =
       some = modules-range c e .0;
       steps = omega (arith, top-range c e .1);
       loads = load-range c e;
-      convex = convex-test _ _ (table-convex c e);
+      convex = convex-test _ _ .0 (table-convex c e);
     }
 
 -- and where refusal 9 does not apply, its table never falls.
 pub monotone-never-falls :
     (c p w : List ℕ) → applies (requestOf (planCoarse c p w)) NotMonotone ≡ false → NeverFalls (instanceOf c .topStep) (instanceOf c .table)
 unfolding applies requestOf
-monotone-never-falls c p w e = never-falls-test _ _ (not-false _ e)
+monotone-never-falls c p w e = never-falls-test _ _ .0 (not-false _ e)
