@@ -29,6 +29,7 @@ use Rattle.theory.specs.Lists.{all-member, all-ascending, coarse-ascendi
 module _ {i : Instance} (ready : Plannable i) where
   -- Plans over any list of allowed counts.
   module _ (counts : List ℕ) (asc : Ascending counts (i .modules)) where
+    -- an allowed plan has a sheet, and costs what its counts cost
     allowed-fits : {p : List ℕ} → Allowed i counts p → PlanFits i p
     allowed-fits a =
         record {

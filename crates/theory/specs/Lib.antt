@@ -4,7 +4,6 @@ pub mod Tables
 pub mod Running
 pub mod Switching
 pub mod Sheets
-pub mod Needed
 pub mod Places
 pub mod Ties
 pub mod Choices

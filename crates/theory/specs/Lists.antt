@@ -110,7 +110,8 @@ ascending l m order (j, b, e) (k, c, f) top some =
 
 pub all-ascending : (m : ℕ) → 1 ≤ m → Ascending (allCounts m) m
 all-ascending m some =
-    ascending (allCounts m) m (all-in-order m) (all-member m 0 .0 (omega arith)) (all-member m m .0 (le-refl m)) (λ n. all-member m n .1) some
+    ascending (allCounts m) m (all-in-order m) (all-member m 0 .0 (omega arith))
+    (all-member m m .0 (le-refl m)) (λ n. all-member m n .1) some
 
 pub coarse-ascending : (m : ℕ) → 1 ≤ m → Ascending (coarseCounts m) m
 coarse-ascending m some =

@@ -38,11 +38,13 @@ written-taken written entry k e size = rw e (take-at written _ k size)
 
 -- Marking a sheet.
 module _ (c s : List ℕ) where
+  -- marking that answers a cost was on an accepted card
   marked-on : {n : ℕ} → answer (markSheet c s) ≡ Cost n → answer (checkCard c) ≡ Cost 0
   unfolding answer requestOf refusals
   marked-on = on-card-accepted c _ _ _ _
 
   module _ (given : answer (checkCard c) ≡ Cost 0) where
+    -- the tests that remain are the three of `serves`
     mark-tests :
         answer (markSheet c s) ≡
         lowest (applies (onCard c [] (sheet s))) (WrongLength ∷ EntryRange ∷ LoadNotServed ∷ []) (Cost (sheetCost (instanceOf c) s))
@@ -77,6 +79,7 @@ module _ (c s : List ℕ) where
 
 -- Making the sheet of a plan.
 module _ (c p s : List ℕ) where
+  -- as was a sheet call that answers one
   made-on : {n : ℕ} → answer (makeSheet c p s) ≡ Cost n → answer (checkCard c) ≡ Cost 0
   unfolding answer requestOf refusals
   made-on = on-card-accepted c _ _ _ _
@@ -89,6 +92,7 @@ module _ (c p s : List ℕ) where
     unfolding answer requestOf refusals successCost
     make-tests = on-card-passed c _ _ _ _ given
 
+    -- they pass where there is room and the plan has a sheet
     made-fits : {n : ℕ} → answer (makeSheet c p s) ≡ Cost n → PlanFits (instanceOf c) p
     unfolding applies rightLength entriesInRange loadsServed
     made-fits e =
@@ -139,7 +143,7 @@ module _ (c : List ℕ) (given : answer (checkCard c) ≡ Cost 0) (counts : List
       let made = fits-made c best s given (least-plan-fits (accepted-plannable c given) counts asc) room in
       (made, made-marked c best s (ap numberOf made) ∙ made)
 
-  -- so too as a planner that answers their cost has written them
+  -- so they do after a planner that answers this cost, with the plan in its buffer
   planner-marked :
       {a : Answer} → a ≡ Cost (planCost (instanceOf c) best) → (entry s : List ℕ) → sheetBytes (instanceOf c) ≤ length s →
       Marked c (take (instanceOf c .slots) (atExit a best entry)) s a
@@ -147,8 +151,9 @@ module _ (c : List ℕ) (given : answer (checkCard c) ≡ Cost 0) (counts : List
       let size = least-plan-fits (accepted-plannable c given) counts asc .slotwise in
       rw (written-taken best entry (instanceOf c .slots) e size, e) (sheet-accepted s room)
 
--- Where a planner gives number 0, sheet call and marking accept the plan that it writes, with the planner's answer.
+-- The planners.
 module _ (c p w : List ℕ) where
+  -- a planner that answers a cost was on an accepted card
   exact-on : {n : ℕ} → answer (planExact c p w) ≡ Cost n → answer (checkCard c) ≡ Cost 0
   unfolding answer requestOf refusals
   exact-on = on-card-accepted c _ _ _ _
@@ -157,6 +162,7 @@ module _ (c p w : List ℕ) where
   unfolding answer requestOf refusals
   coarse-on = on-card-accepted c _ _ _ _
 
+  -- Where a planner gives number 0, sheet call and marking accept the plan that it writes, with the planner's answer.
   pub exact-marked :
       numberOf (answer (planExact c p w)) ≡ 0 → (s : List ℕ) → sheetBytes (instanceOf c) ≤ length s →
       Marked c (take (instanceOf c .slots) (exactPlanAtExit c p w)) s (answer (planExact c p w))
