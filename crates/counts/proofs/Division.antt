@@ -2,11 +2,12 @@
 use Prim.Native.Nat.{ℕ, _+_, _-_, _*_, _/_, _%_, _^_, _≤_, _<_}
 use mathlib.Core.Path.{_≡_}
 use mathlib.Core.List.{List}
-use native.Mathlib.Nat.{sub-zero, pos-of-ne-zero, mod-lt, div-le-of-le-mul, div-add-mod, lt-of-mul-lt-mul-left, mul-le-mul}
+use native.Mathlib.Nat.{sub-zero, pos-of-ne-zero, mod-lt, div-le-of-le-mul, mul-le-mul}
 use native.Mathlib.Omega.{arith}
 use mir.Syntax.{w64}
 use mir.Val.{Fits}
 use borrow.Author.Tests.{eq-eqb, ne-eqb}
+use Rattle.lists.specs.Division.{quotient-lt}
 use Rattle.model.specs.Instance.{Instance, instanceOf}
 use Rattle.model.specs.Counts.{operatingCost}
 use Rattle.laws.specs.Acceptance.{modules-range, top-range}
@@ -21,11 +22,7 @@ module _ (n l : ℕ) (some : n ≡ 0 → ⊥) where
 
   -- with a remainder there is a step above the quotient
   pub next-within : (q : ℕ) → l ≤ n * q → (l % n ≡ 0 → ⊥) → l / n + 1 ≤ q
-  next-within q h r =
-      let e = div-add-mod l n in
-      let p = pos-of-ne-zero r in
-      let below : n * (l / n) < n * q = omega arith in
-      omega (arith, lt-of-mul-lt-mul-left n below)
+  next-within q h r = omega (arith, quotient-lt n l q h (pos-of-ne-zero r))
 
 module _ (i : Instance) (n l : ℕ) where
   pub cost-none : n ≡ 0 → 0 ≡ operatingCost i n l

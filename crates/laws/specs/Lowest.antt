@@ -25,7 +25,9 @@ module _ (test : Refusal → Bool) where
   lowest-append (x ∷ xs) ys a = rw (lowest-append xs ys a)
 
   -- where some of the refusals already give one, what follows does not matter
-  pub lowest-refused : (xs : List Refusal) (a : Answer) {b : Answer} {x : Refusal} {n : ℕ} → b ≡ Cost n → lowest test xs b ≡ Refused x → lowest test xs a ≡ Refused x
+  pub lowest-refused :
+      (xs : List Refusal) (a : Answer) {b : Answer} {x : Refusal} {n : ℕ} → b ≡ Cost n → lowest test xs b ≡ Refused x →
+      lowest test xs a ≡ Refused x
   unfolding lowest
   lowest-refused [] a {b} {x} {n} h e = cc
   lowest-refused (y ∷ ys) a {b} h e =
@@ -35,7 +37,9 @@ module _ (test : Refusal → Bool) where
       (true-or-false (test y))
 
   -- where the answer is a cost, the first refusal does not apply, and so on with the rest
-  pub lowest-passed : {x : Refusal} (xs : List Refusal) (a : Answer) {n : ℕ} → lowest test (x ∷ xs) a ≡ Cost n → (test x ≡ false) × (lowest test xs a ≡ Cost n)
+  pub lowest-passed :
+      {x : Refusal} (xs : List Refusal) (a : Answer) {n : ℕ} → lowest test (x ∷ xs) a ≡ Cost n →
+      (test x ≡ false) × (lowest test xs a ≡ Cost n)
   lowest-passed {x} xs a {n} e = ⊎-elim hit skip (true-or-false (test x))
     where
       hit : test x ≡ true → (test x ≡ false) × (lowest test xs a ≡ Cost n)

@@ -1,8 +1,8 @@
 -- Little-endian numbers over the width: the definition, and one law for every width.
 use Prim.Native.Nat.{ℕ, zero, suc, _+_, _*_, _^_, _<_}
-use mathlib.Core.Path.{_≡_, refl, sym, _∙_, ap}
+use mathlib.Core.Path.{_≡_}
 use mathlib.Core.List.{List}
-use native.Mathlib.Nat.{zero-add, one-mul, suc-add, add-suc, pow-zero, pow-suc, add-zero}
+use native.Mathlib.Nat.{zero-add, one-mul, suc-add, pow-zero, pow-suc, add-zero}
 use native.Mathlib.Omega.{arith}
 use lib.ListN.{getD}
 

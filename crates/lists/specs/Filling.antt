@@ -1,13 +1,13 @@
 -- Invariants of loops that fill a list, one store a turn: upwards from the first place, and downwards from the last.
 use Prim.Native.Nat.{ℕ, _+_, _≤_, _<_}
-use mathlib.Core.Path.{_≡_, refl, sym, _∙_}
+use mathlib.Core.Path.{_≡_, refl, _∙_}
 use mathlib.Core.List.{List}
 use mathlib.Core.Logic.{⊎-elim}
 use native.Mathlib.Omega.{arith}
 use lib.ListN.{length, getD, set, length-set}
-use lib.Seq.{getD-set-same, getD-set-other, ext-getD}
+use lib.Seq.{getD-set-same, getD-set-other}
 use Rattle.lists.specs.Numbers.{le-or-lt}
-use Rattle.lists.specs.Lists.{tabulate, length-tabulate, getD-tabulate}
+use Rattle.lists.specs.Lists.{tabulate, equal-tabulate}
 
 -- below j the list holds f, from j on it is as it was
 pub record Upto (f : ℕ → ℕ) (j : ℕ) (old new : List ℕ) : Type 0 where
@@ -35,11 +35,7 @@ upto-more {f} {j} {x} {old} {new} u h e =
     }
 
 pub upto-all : {f : ℕ → ℕ} {j : ℕ} {old new : List ℕ} → Upto f j old new → length old ≤ j → new ≡ tabulate (length old) f
-upto-all {f} {j} {old} {new} u h =
-    ext-getD 0 new (tabulate (length old) f) (u .size ∙ sym (length-tabulate (length old) f))
-    (λ k g.
-    let inside : k < length old = omega (arith, u .size) in
-    u .done k (omega arith) inside ∙ sym (getD-tabulate (length old) f k 0 inside))
+upto-all u h = equal-tabulate (u .size) (λ k inside. u .done k (omega arith) inside)
 
 -- from j on the list holds f, below j it is as it was
 pub record Downto (f : ℕ → ℕ) (j : ℕ) (old new : List ℕ) : Type 0 where
@@ -68,8 +64,4 @@ downto-more {f} {j} {x} {old} {new} u h e =
     }
 
 pub downto-all : {f : ℕ → ℕ} {old new : List ℕ} → Downto f 0 old new → new ≡ tabulate (length old) f
-downto-all {f} {old} {new} u =
-    ext-getD 0 new (tabulate (length old) f) (u .size ∙ sym (length-tabulate (length old) f))
-    (λ k g.
-    let inside : k < length old = omega (arith, u .size) in
-    u .done k (omega arith) inside ∙ sym (getD-tabulate (length old) f k 0 inside))
+downto-all u = equal-tabulate (u .size) (λ k inside. u .done k (omega arith) inside)

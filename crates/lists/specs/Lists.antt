@@ -1,12 +1,12 @@
 -- Lists made from functions of an index.
 use Prim.Native.Nat.{ℕ, zero, suc, _+_, _*_, _<_}
-use mathlib.Core.Path.{_≡_, refl, ap, _∙_}
+use mathlib.Core.Path.{_≡_, refl, sym, ap, _∙_}
 use mathlib.Core.Logic.{⊎-elim}
-use mathlib.Core.List.{List, [], _∷_, _++_}
+use mathlib.Core.List.{List, [], _∷_, _++_, headD}
 use mathlib.Core.Bool.{Bool, true, false, cond, _&&_, false≢true}
 use lib.Dec.{eqb}
 use lib.ListN.{length, getD, length-append, List·getD-append}
-use lib.Seq.{getD-append-add}
+use lib.Seq.{getD-append-add, ext-getD}
 use native.Mathlib.Nat.{not-suc-le-zero, le-of-suc-le-suc, eq-or-lt-of-le, mul-le-mul-right}
 use native.Mathlib.Omega.{arith}
 use borrow.Author.Tests.{eq-eqb, eqb-true}
@@ -27,6 +27,17 @@ unfolding tabulate
 getD-tabulate zero f k d h = absurd (not-suc-le-zero h)
 getD-tabulate (suc n) f zero d h = refl
 getD-tabulate (suc n) f (suc k) d h = getD-tabulate n (λ j. f (suc j)) k d (omega arith)
+
+-- a list of n elements f 0, .., f (n - 1) is that list
+pub equal-tabulate : {n : ℕ} {f : ℕ → ℕ} {l : List ℕ} → length l ≡ n → ((k : ℕ) → k < n → getD l k 0 ≡ f k) → l ≡ tabulate n f
+equal-tabulate {n} {f} {l} size at =
+    ext-getD 0 l (tabulate n f) (size ∙ sym (length-tabulate n f))
+    (λ k h. let inside : k < n = omega arith in at k inside ∙ sym (getD-tabulate n f k 0 inside))
+
+pub head-is-first : (xs : List ℕ) → headD xs 0 ≡ getD xs 0 0
+unfolding headD
+head-is-first [] = refl
+head-is-first (x ∷ xs) = refl
 
 -- the lists f 0, .., f (n - 1) one after the other
 unfoldable pub rows : ℕ → (ℕ → List ℕ) → List ℕ

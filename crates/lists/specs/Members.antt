@@ -5,22 +5,13 @@ use mathlib.Core.Bool.{Bool, true, false, cond}
 use mathlib.Core.Logic.{⊎-elim}
 use mathlib.Core.List.{List, [], _∷_, _++_, map, flatMap, List·Memᴰ, List·Memᴰ·head, List·Memᴰ·tail, List·Memᴰ·not-nil}
 use mathlib.Core.List.{List·Memᴰ·cases-cons, List·Memᴰ·append-cases, Memᴰ·append-left, Memᴰ·append-right}
-use native.Mathlib.Nat.{not-suc-le-zero, le-of-suc-le-suc}
+use native.Mathlib.Nat.{not-suc-le-zero, le-of-suc-le-suc, le-of-lt, le-trans}
 use native.Mathlib.Numerals.{add-one}
 use native.Mathlib.Omega.{arith}
 use lib.ListN.{length, getD, length-append, List·getD-append}
 use Rattle.lists.specs.Numbers.{le-or-lt}
+use Rattle.lists.specs.Rising.{rises-to}
 use Rattle.lists.specs.Lists.{keep}
-
--- a function that rises at each step below n rises over any distance below n
-pub rising-far : (f : ℕ → ℕ) (n : ℕ) → ((j : ℕ) → j + 1 < n → f j < f (j + 1)) → (j k : ℕ) → j < k → k < n → f j < f k
-rising-far f n rises j zero below inside = absurd (not-suc-le-zero below)
-rising-far f n rises j (suc k) below inside =
-    let last : f k < f (suc k) = rw add-one at (rises k (omega arith)) in
-    ⊎-elim
-    (λ (h : k ≤ j). let same : j ≡ k = omega arith in rw same last)
-    (λ (h : j < k). let far : f j < f k = rising-far f n rises j k h (omega arith) in omega arith)
-    (le-or-lt k j)
 
 module _ {A : Type 0} where
   -- an element at a place below the length is a member
@@ -71,6 +62,13 @@ module _ {A : Type 0} where
     none : InOrder R []
     next : {x : A} {xs : List A} → ((y : A) → List·Memᴰ y xs → R x y) → InOrder R xs → InOrder R (x ∷ xs)
 
+  -- an element stands in it to each at a later place
+  pub in-order-at : {R : A → A → Type 0} {l : List A} → InOrder R l → (d : A) (j k : ℕ) → j < k → k < length l → R (getD l j d) (getD l k d)
+  in-order-at none d j k h inside = absurd (not-suc-le-zero inside)
+  in-order-at (next first later) d j zero h inside = absurd (not-suc-le-zero h)
+  in-order-at (next {xs = xs} first later) d zero (suc k) h inside = first _ (member-at xs k d (omega arith))
+  in-order-at (next first later) d (suc j) (suc k) h inside = in-order-at later d j k (omega arith) (omega arith)
+
   -- order is kept by `keep`, and by `++` if all of the one list is related to all of the other
   pub in-order-keep : {R : A → A → Type 0} (f : A → Bool) {l : List A} → InOrder R l → InOrder R (keep f l)
   unfolding keep
@@ -97,8 +95,17 @@ rising-in-order (x ∷ xs) rises =
     next {xs = xs}
     (λ y m.
     let (j, h, e) = place-of 0 m in
-    rw e at (rising-far (λ j. getD (x ∷ xs) j 0) (suc (length xs)) rises 0 (suc j) (omega arith) (omega arith)))
+    let rise = rises-to (λ k. getD (x ∷ xs) k 0) (length xs) (λ k b. le-of-lt (rises k (omega arith))) in
+    rw e at (le-trans (rises 0 (omega arith)) (rise 1 (suc j) (omega arith) (omega arith))))
     (rising-in-order xs (λ j h. rw (add-one j) (rw (add-one (suc j)) at (rises (suc j) (omega arith)))))
+
+-- and then an element is at most each that stands no earlier
+pub in-order-le : {l : List ℕ} → InOrder _<_ l → (j k : ℕ) → j ≤ k → k < length l → getD l j 0 ≤ getD l k 0
+in-order-le order j k h inside =
+    ⊎-elim
+    (λ (g : k ≤ j). let same : j ≡ k = omega arith in rw same (omega arith))
+    (λ (g : j < k). le-of-lt (in-order-at order 0 j k g inside))
+    (le-or-lt k j)
 
 module _ {A B : Type 0} where
   -- the members of `map`

@@ -6,6 +6,11 @@ use native.Mathlib.Nat.{le-of-lt, le-dest, mul-le-mul-left, le-of-mul-le-mul-lef
 use native.Mathlib.Omega.{arith}
 use Rattle.lists.specs.Numbers.{le-or-lt}
 
+-- a factor 0 asks nothing of what it multiplies
+pub mul-le-mul-some : (n : ℕ) {a b : ℕ} → (0 < n → a ≤ b) → n * a ≤ n * b
+mul-le-mul-some zero h = omega arith
+mul-le-mul-some (suc n) h = mul-le-mul-left (suc n) (h (omega arith))
+
 -- the larger factors together give no less than crosswise; where b is 0 nothing is asked of c and d
 pub exchange : {a b : ℕ} (c d : ℕ) → a ≤ b → b * c ≤ b * d → a * d + b * c ≤ a * c + b * d
 exchange {a} {b = zero} c d h g = let none : a ≡ 0 = omega arith in rw none (omega arith)

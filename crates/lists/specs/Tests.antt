@@ -1,9 +1,9 @@
 -- A test at every index below a bound.
 use Prim.Native.Nat.{ℕ, zero, suc, _+_, _≤_, _<_}
 use mathlib.Core.Path.{_≡_, refl, sym, _∙_}
-use mathlib.Core.Bool.{Bool, true, false, not, _&&_, true≢false}
-use mathlib.Core.Logic.{⊎-elim}
-use native.Mathlib.Nat.{not-suc-le-zero}
+use mathlib.Core.Bool.{Bool, true, false, not, _&&_, _||_, true≢false}
+use mathlib.Core.Logic.{_⊎_, inl, inr, ⊎-elim}
+use native.Mathlib.Nat.{not-suc-le-zero, le-refl}
 use native.Mathlib.Numerals.{add-one}
 use native.Mathlib.Omega.{arith}
 use Rattle.lists.specs.Numbers.{le-or-lt, true-or-false}
@@ -23,6 +23,10 @@ and-right false b e = let z : _≡_ {A = Bool} b true = cc in z
 
 pub and-both : {a b : Bool} → a ≡ true → b ≡ true → (a && b) ≡ true
 and-both {a} {b} p q = rw (p, q)
+
+pub or-cases : (a b : Bool) → (a || b) ≡ true → (a ≡ true) ⊎ (b ≡ true)
+or-cases true b e = inl refl
+or-cases false b e = inr e
 
 pub every-none : (f : ℕ → Bool) → every 0 f ≡ true
 unfolding every
@@ -54,6 +58,16 @@ every-fails n f k h e =
     ⊎-elim
     (λ (t : every n f ≡ true). absurd (true≢false (sym (every-at n f t k h) ∙ e)))
     (λ (t : every n f ≡ false). t)
+    (true-or-false (every n f))
+
+-- where it does not hold at every index, it fails at one
+pub every-not : (n : ℕ) (f : ℕ → Bool) → every n f ≡ false → (k : ℕ) × (k < n) × (f k ≡ false)
+unfolding every
+every-not zero f e = absurd (true≢false e)
+every-not (suc n) f e =
+    ⊎-elim
+    (λ (t : every n f ≡ true). (n, le-refl (suc n), rw t at e))
+    (λ (t : every n f ≡ false). let (k, b, fails) = every-not n f t in (k, omega arith, fails))
     (true-or-false (every n f))
 
 -- What a branch on `!flag` says of the test that the flag stands for.

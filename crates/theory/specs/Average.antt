@@ -1,20 +1,18 @@
 -- The operating cost under a table that never falls: the average over the active modules falls with their number, and more light
 -- costs no less.
 use Prim.Native.Nat.{ℕ, zero, suc, _+_, _-_, _*_, _/_, _%_, _≤_, _<_}
-use mathlib.Core.Path.{_≡_, refl, sym, ap, _∙_}
-use mathlib.Core.Bool.{cond}
+use mathlib.Core.Path.{_≡_, refl, ap, _∙_}
 use mathlib.Core.Logic.{_↔_, ⊎-elim}
 use native.Mathlib.Nat.{mul-le-mul, mul-le-mul-left, mul-le-mul-right, lt-of-mul-lt-mul-left, le-of-mul-le-mul-left}
-use native.Mathlib.Nat.{add-zero, sub-zero, zero-mul, mod-lt, div-add-mod, mul-add-div, div-eq-of-lt, mul-add-mod-self-left, mod-eq-of-lt}
+use native.Mathlib.Nat.{add-zero, sub-zero, mod-lt, div-add-mod, mul-add-div, div-eq-of-lt, mul-add-mod-self-left, mod-eq-of-lt}
 use native.Mathlib.Omega.{arith}
-use lib.Dec.{eqb, eqb·suc-zero}
-use borrow.Author.Tests.{ne-eqb}
 use Rattle.lists.specs.Numbers.{le-or-lt}
-use Rattle.lists.specs.Products.{exchange}
-use Rattle.lists.specs.Kept.{rises-to}
+use Rattle.lists.specs.Products.{exchange, mul-le-mul-some}
+use Rattle.lists.specs.Rising.{rises-to}
 use Rattle.model.specs.Instance.{Instance}
 use Rattle.model.specs.Counts.{operatingCost}
 use Rattle.theory.specs.Setting.{NeverFalls}
+use Rattle.theory.specs.Running.{running-some}
 
 -- A load over n modules: `high` of them at step + 1, and the others, at least one, at `step`.
 record Shares (n l : ℕ) : Type 0 where
@@ -34,19 +32,13 @@ shares n l h =
       light = div-add-mod l n;
     }
 
--- 'with r = 0 the second term is 0'
-no-second-term : (r x : ℕ) → cond (eqb r 0) 0 (r * x) ≡ r * x
-no-second-term zero x = sym (zero-mul x)
-no-second-term (suc r) x = rw eqb·suc-zero
-
 -- the cost with r modules at step q + 1 and the others, at least one, at step q
 cost-below : (i : Instance) (n l q r : ℕ) → r < n → n * q + r ≡ l → operatingCost i n l ≡ (n - r) * i .table q + r * i .table (q + 1)
-unfolding operatingCost
 cost-below i n l q r h e =
     let some : 0 < n = omega arith in
     let quotient : l / n ≡ q = rw (← e, mul-add-div some q r, div-eq-of-lt h) (add-zero q) in
     let remainder : l % n ≡ r = rw (← e, mul-add-mod-self-left n q r) (mod-eq-of-lt h) in
-    rw (ne-eqb n 0 (omega arith), quotient, remainder, no-second-term)
+    rw (running-some i n l some, quotient, remainder)
 
 -- the cost with s modules at step q and r at step q + 1, where either may be none
 cost-shared :
@@ -78,11 +70,7 @@ module _ (i : Instance) where
     module _ {x a l : ℕ} (fewer : x ≤ a) (fits : l ≤ x * i .topStep) (σ : Shares x l) (τ : Shares a l) where
       -- the next step costs no less, if a module is at it: beyond the top step the table says nothing
       high-rises : σ .high * i .table (σ .step) ≤ σ .high * i .table (σ .step + 1)
-      high-rises =
-          ⊎-elim
-          (λ (none : σ .high ≤ 0). let e : σ .high ≡ 0 = omega arith in rw e (omega arith))
-          (λ (some : 0 < σ .high). mul-le-mul-left (σ .high) (rises (σ .step) (lt-of-mul-lt-mul-left x (omega arith))))
-          (le-or-lt (σ .high) 0)
+      high-rises = mul-le-mul-some (σ .high) (λ some. rises (σ .step) (lt-of-mul-lt-mul-left x (omega arith)))
 
       -- more modules run no higher
       step-falls : τ .step ≤ σ .step

@@ -93,6 +93,13 @@ best-raised {ok} {value} {now} {later} {low} {high} j g up-to above above′ L H
     free : low .cost + g ≤ high .cost → j < low .at → g ≡ 0
     free h far = omega (arith, L .cost-is, above (low .at) far (L .found), H .least (low .at) (omega arith, L .found))
 
+    least-of : (x : ℕ) → x ≤ low .cost + g → x ≤ high .cost → (k : ℕ) → ok k → x ≤ later k
+    least-of x to-low to-high k serves =
+        ⊎-elim
+        (λ (h : k ≤ j). omega (arith, up-to k h, L .least k serves))
+        (λ (h : j < k). omega (arith, above′ k h serves, H .least k (omega arith, serves)))
+        (le-or-lt k j)
+
     go : (b : Bool) → leb (low .cost + g) (high .cost) ≡ b → Best ok later (cond b up high)
     go true e =
         let wins = leb-true (low .cost + g) (high .cost) e in
@@ -103,12 +110,7 @@ best-raised {ok} {value} {now} {later} {low} {high} j g up-to above above′ L H
               (λ (h : low .at ≤ j). omega (arith, L .cost-is, up-to (low .at) h))
               (λ (h : j < low .at). omega (arith, L .cost-is, above (low .at) h (L .found), above′ (low .at) h (L .found), free wins h))
               (le-or-lt (low .at) j);
-          least =
-              λ k serves.
-              ⊎-elim
-              (λ (h : k ≤ j). omega (arith, up-to k h, L .least k serves))
-              (λ (h : j < k). omega (arith, above′ k h serves, H .least k (omega arith, serves)))
-              (le-or-lt k j);
+          least = least-of (low .cost + g) (omega arith) wins;
           first =
               λ k serves equal.
               ⊎-elim
@@ -125,12 +127,7 @@ best-raised {ok} {value} {now} {later} {low} {high} j g up-to above above′ L H
         record {
           found = H .found .1;
           cost-is = H .cost-is ∙ sym (above′ (high .at) (omega (arith, H .found .0)) (H .found .1));
-          least =
-              λ k serves.
-              ⊎-elim
-              (λ (h : k ≤ j). omega (arith, up-to k h, L .least k serves))
-              (λ (h : j < k). omega (arith, above′ k h serves, H .least k (omega arith, serves)))
-              (le-or-lt k j);
+          least = least-of (high .cost) (omega arith) (omega arith);
           first =
               λ k serves equal.
               ⊎-elim

@@ -12,27 +12,23 @@ use Rattle.model.specs.Instance.{Instance}
 use Rattle.model.specs.Plans.{Allowed}
 use Rattle.model.specs.Thesis.{switchingPrice, countAt, stepUp, countsCost}
 use Rattle.columns.specs.Column.{countAtPlace, column, selection, wayBack, searchedPlan, searchedCost}
-use Rattle.theory.specs.Setting.{Ascending, LoadsFit, LeastByCounts}
+use Rattle.theory.specs.Setting.{Ascending, LoadsFit, costOfFirst, LeastByCounts}
 use Rattle.theory.specs.Places.{count-rises, place-below, Placed, placed-snoc, placed-of, allowed-of}
 use Rattle.theory.specs.Steps.{column-step}
-use Rattle.theory.specs.Ties.{NotAfterIn, not-after-suc, not-after-same, not-after-equal}
+use Rattle.theory.specs.Ties.{NotAfterIn, not-after-suc, not-after-same}
 
 module _ (i : Instance) (start : ℕ) where
-  -- the cost by counts of a plan's first t slots
-  abbrev costOfFirst : List ℕ → ℕ → ℕ
-  costOfFirst p t = sum t (λ u. stepUp i (countAt start p u) (countAt start p (suc u)) (i .load u))
-
   -- count and cost of the first t slots depend on those alone
   count-same : (t : ℕ) (p r : List ℕ) → ((u : ℕ) → u < t → getD p u 0 ≡ getD r u 0) → countAt start p t ≡ countAt start r t
   unfolding countAt
   count-same zero p r same = refl
   count-same (suc t) p r same = same t (omega arith)
 
-  cost-none : (p : List ℕ) → costOfFirst p 0 ≡ 0
+  cost-none : (p : List ℕ) → costOfFirst i start p 0 ≡ 0
   unfolding sum
   cost-none p = refl
 
-  cost-same : (t : ℕ) (p r : List ℕ) → ((u : ℕ) → u < t → getD p u 0 ≡ getD r u 0) → costOfFirst p t ≡ costOfFirst r t
+  cost-same : (t : ℕ) (p r : List ℕ) → ((u : ℕ) → u < t → getD p u 0 ≡ getD r u 0) → costOfFirst i start p t ≡ costOfFirst i start r t
   unfolding sum
   cost-same zero p r same = refl
   cost-same (suc t) p r same =
@@ -41,7 +37,7 @@ module _ (i : Instance) (start : ℕ) where
   -- the cost of one more slot
   cost-snoc :
       (t : ℕ) (p : List ℕ) (x : ℕ) → length p ≡ t →
-      costOfFirst (p ++ (x ∷ [])) (suc t) ≡ costOfFirst p t + stepUp i (countAt start p t) x (i .load t)
+      costOfFirst i start (p ++ (x ∷ [])) (suc t) ≡ costOfFirst i start p t + stepUp i (countAt start p t) x (i .load t)
   unfolding sum countAt
   cost-snoc t p x e =
       let before : (u : ℕ) → u < t → getD (p ++ (x ∷ [])) u 0 ≡ getD p u 0 = λ u h. snoc-before p x 0 t u e h in
@@ -163,12 +159,3 @@ module _ (i : Instance) (counts : List ℕ) (start : ℕ) (asc : Ascending count
             λ r a e.
             way-back-first (i .slots) 0 (omega arith) first-inside r (placed-of i counts a) (cost-to-first r ∙ e ∙ sym searched-cost);
       }
-
--- there is one least plan by counts
-pub least-unique :
-    (i : Instance) (counts : List ℕ) (start : ℕ) (p r : List ℕ) → LeastByCounts i counts start p → LeastByCounts i counts start r →
-    p ≡ r
-least-unique i counts start p r P R =
-    let same : countsCost i start p ≡ countsCost i start r = omega (arith, P .least r (R .allowed), R .least p (P .allowed)) in
-    not-after-equal (i .slots) p r (P .allowed .slotwise) (R .allowed .slotwise)
-    (P .first r (R .allowed) (sym same)) (R .first p (P .allowed) same)

@@ -1,6 +1,6 @@
 -- The two lists of allowed counts: what is in them, that they rise from 0 to m, and that the coarse one at most about doubles.
 use Prim.Native.Nat.{ℕ, zero, suc, _+_, _*_, _^_, _≤_, _<_}
-use mathlib.Core.Path.{_≡_, refl, _∙_}
+use mathlib.Core.Path.{_≡_, refl}
 use mathlib.Core.Bool.{Bool, true, false, not, _||_, or-true}
 use mathlib.Core.List.{List}
 use mathlib.Core.Logic.{_↔_, _⊎_, inl, inr, ⊎-elim, ⊎-map}
@@ -10,10 +10,9 @@ use lib.ListN.{length, getD}
 use lib.Dec.{eqb, leb}
 use borrow.Author.Tests.{eqb-true, eq-eqb, leb-true, le-leb, not-true, not-false}
 use Rattle.lists.specs.Numbers.{le-or-lt}
-use Rattle.lists.specs.Tests.{every-fails}
-use Rattle.lists.specs.Lists.{keep}
-use Rattle.lists.specs.Kept.{length-tabulate, getD-tabulate, head-is-first, kept-from, kept-at, every-not, or-cases}
-use Rattle.lists.specs.Kept.{RisingFrom, rising-next, rising-le, tabulate-rising, keep-rising}
+use Rattle.lists.specs.Tests.{every-fails, every-not, or-cases}
+use Rattle.lists.specs.Lists.{keep, length-tabulate, getD-tabulate, head-is-first}
+use Rattle.lists.specs.Members.{InOrder, member-at, place-of, to-keep, from-keep, rising-in-order, in-order-at, in-order-le, in-order-keep}
 use Rattle.model.specs.Counts.{allCounts, powerOfTwo, coarseCounts, roundedCount}
 use Rattle.model.specs.Plans.{Member}
 use Rattle.columns.specs.Column.{countAtPlace, lastPlace}
@@ -22,18 +21,18 @@ use Rattle.theory.specs.Setting.{Ascending}
 -- what is kept of a list
 kept-member : (f : ℕ → Bool) (l : List ℕ) (n : ℕ) → Member n (keep f l) ↔ (Member n l × (f n ≡ true))
 kept-member f l n = (
-  λ (j, b, e). let (k, c, same, t) = kept-from f l j b in ((k, c, same ∙ e), rw (same ∙ e) at t),
-  λ ((k, c, e), t). let (j, b, same) = kept-at f l k c (rw e t) in (j, b, same ∙ e),
+  λ (j, b, e). let (member, t) = from-keep f l (rw e at (member-at (keep f l) j 0 b)) in (place-of 0 member, t),
+  λ ((j, b, e), t). place-of 0 (to-keep f (rw e at (member-at l j 0 b)) t),
 )
 
 -- 'all from 0 to m'
 pub all-member : (m n : ℕ) → n ≤ m ↔ Member n (allCounts m)
 unfolding allCounts
 all-member m n = (
-  λ h. (n, rw length-tabulate (omega arith), getD-tabulate (m + 1) (λ k. k) n (omega arith)),
+  λ h. (n, rw length-tabulate (omega arith), getD-tabulate (m + 1) (λ k. k) n 0 (omega arith)),
   λ (j, b, e).
       let in-list : j < m + 1 = rw length-tabulate at b in
-      omega (arith, getD-tabulate (m + 1) (λ k. k) j in-list),
+      omega (arith, getD-tabulate (m + 1) (λ k. k) j 0 in-list),
 )
 
 -- Powers of two.
@@ -86,41 +85,45 @@ coarse-member m n =
       λ (h, c). kept .1 (all-member m n .0 h, coarse-test m n .1 c),
     )
 
-all-rising : (m : ℕ) → RisingFrom 0 (allCounts m)
+all-in-order : (m : ℕ) → InOrder _<_ (allCounts m)
 unfolding allCounts
-all-rising m = tabulate-rising (m + 1) (λ n. n) 0 (le-refl 0) (λ k. le-refl (suc k))
+all-in-order m = rising-in-order (allCounts m) (λ j h. next j (rw length-tabulate at h))
+  where
+    next : (j : ℕ) → j + 1 < m + 1 → getD (allCounts m) j 0 < getD (allCounts m) (j + 1) 0
+    next j h = omega (arith, getD-tabulate (m + 1) (λ k. k) j 0 (omega arith), getD-tabulate (m + 1) (λ k. k) (j + 1) 0 h)
 
-coarse-rising : (m : ℕ) → RisingFrom 0 (coarseCounts m)
+coarse-in-order : (m : ℕ) → InOrder _<_ (coarseCounts m)
 unfolding coarseCounts
-coarse-rising m = keep-rising (coarseTest m) 0 (allCounts m) (all-rising m)
+coarse-in-order m = in-order-keep (coarseTest m) (all-in-order m)
 
--- a rising list with 0 and m, and nothing above m
-ascending : (l : List ℕ) (m : ℕ) → RisingFrom 0 l → Member 0 l → Member m l → ((n : ℕ) → Member n l → n ≤ m) → 1 ≤ m → Ascending l m
-ascending l m r (j, b, e) (k, c, f) top some =
-    let first = rising-le 0 l r 0 j (omega arith) b in
-    let last = rising-le 0 l r k (lastPlace l) (omega arith) (omega arith) in
+-- a list in order with 0 and m, and nothing above m
+ascending : (l : List ℕ) (m : ℕ) → InOrder _<_ l → Member 0 l → Member m l → ((n : ℕ) → Member n l → n ≤ m) → 1 ≤ m → Ascending l m
+ascending l m order (j, b, e) (k, c, f) top some =
+    let first = in-order-le order 0 j (omega arith) b in
+    let last = in-order-le order k (lastPlace l) (omega arith) (omega arith) in
     record {
-      two = ⊎-elim (λ (h : k ≤ j). omega (arith, rising-le 0 l r k j h b)) (λ (h : j < k). omega arith) (le-or-lt k j);
+      two = ⊎-elim (λ (h : k ≤ j). omega (arith, in-order-le order k j h b)) (λ (h : j < k). omega arith) (le-or-lt k j);
       first = omega arith;
       last = omega (arith, top (countAtPlace l (lastPlace l)) (lastPlace l, omega arith, refl));
-      rises = rising-next 0 l r;
+      rises = λ j h. in-order-at order 0 j (j + 1) (omega arith) h;
     }
 
 pub all-ascending : (m : ℕ) → 1 ≤ m → Ascending (allCounts m) m
 all-ascending m some =
-    ascending (allCounts m) m (all-rising m) (all-member m 0 .0 (omega arith)) (all-member m m .0 (le-refl m)) (λ n. all-member m n .1) some
+    ascending (allCounts m) m (all-in-order m) (all-member m 0 .0 (omega arith))
+    (all-member m m .0 (le-refl m)) (λ n. all-member m n .1) some
 
 pub coarse-ascending : (m : ℕ) → 1 ≤ m → Ascending (coarseCounts m) m
 coarse-ascending m some =
-    ascending (coarseCounts m) m (coarse-rising m) (coarse-member m 0 .1 (omega arith, inl refl))
+    ascending (coarseCounts m) m (coarse-in-order m) (coarse-member m 0 .1 (omega arith, inl refl))
     (coarse-member m m .1 (le-refl m, inr (inl refl))) (λ n h. coarse-member m n .0 h .0) some
 
--- the next element of a rising list is the least above an element
-next-least : (l : List ℕ) → RisingFrom 0 l → (j n : ℕ) → j + 1 < length l → Member n l → getD l j 0 < n → getD l (j + 1) 0 ≤ n
-next-least l r j n h (k, c, e) above =
+-- the next element of a list in order is the least above an element
+next-least : (l : List ℕ) → InOrder _<_ l → (j n : ℕ) → j + 1 < length l → Member n l → getD l j 0 < n → getD l (j + 1) 0 ≤ n
+next-least l order j n h (k, c, e) above =
     ⊎-elim
-    (λ (before : k ≤ j). omega (arith, rising-le 0 l r k j before (omega arith)))
-    (λ (after : j < k). omega (arith, rising-le 0 l r (j + 1) k (omega arith) c))
+    (λ (before : k ≤ j). omega (arith, in-order-le order k j before (omega arith)))
+    (λ (after : j < k). omega (arith, in-order-le order (j + 1) k (omega arith) c))
     (le-or-lt k j)
 
 -- each coarse count is at most twice one more than the one before
@@ -132,7 +135,8 @@ coarse-doubling m some j b =
     let (e, above, most) = power-above (countAtPlace l j) in
     let stands = coarse-member m (2 ^ e) .1 in
     ⊎-elim
-    (λ (fits : 2 ^ e ≤ m). le-trans (next-least l (coarse-rising m) j (2 ^ e) b (stands (fits, inr (inr (e, refl)))) above) most)
+    (λ (fits : 2 ^ e ≤ m).
+    le-trans (next-least l (coarse-in-order m) j (2 ^ e) b (stands (fits, inr (inr (e, refl)))) above) most)
     (λ (beyond : m < 2 ^ e). omega (arith, coarse-member m (countAtPlace l (j + 1)) .0 (j + 1, b, refl) .0))
     (le-or-lt (2 ^ e) m)
 
@@ -152,5 +156,5 @@ rounded-least m n some h =
       leb-true n _ above,
       λ a member not-below.
           let (k, c, same) = kept a .1 (member, le-leb n a not-below) in
-          rw same at (rising-le 0 l (keep-rising (leb n) 0 (coarseCounts m) (coarse-rising m)) 0 k (omega arith) c),
+          rw same at (in-order-le (in-order-keep (leb n) (coarse-in-order m)) 0 k (omega arith) c),
     )

@@ -10,7 +10,7 @@ use lib.Seq.{getD-at}
 use borrow.Author.Tests.{le-leb}
 use Rattle.lists.specs.Numbers.{le-or-lt}
 use Rattle.lists.specs.Tests.{every-at, every-all}
-use Rattle.lists.specs.Members.{rising-far, snoc-before}
+use Rattle.lists.specs.Members.{InOrder, rising-in-order, in-order-at, in-order-le, snoc-before}
 use Rattle.model.specs.Instance.{Instance}
 use Rattle.model.specs.Counts.{canServe}
 use Rattle.model.specs.Plans.{Allowed, planServes}
@@ -18,21 +18,17 @@ use Rattle.columns.specs.Column.{countAtPlace, lastPlace}
 use Rattle.theory.specs.Setting.{Ascending}
 
 module _ {counts : List ℕ} {m : ℕ} (asc : Ascending counts m) where
-  -- a higher place has a greater count
-  count-above : (j k : ℕ) → j < k → k < length counts → countAtPlace counts j < countAtPlace counts k
-  count-above = rising-far (countAtPlace counts) (length counts) (asc .rises)
+  in-order : InOrder _<_ counts
+  in-order = rising-in-order counts (asc .rises)
 
+  -- a higher place has no lower count
   pub count-rises : (j k : ℕ) → j ≤ k → k < length counts → countAtPlace counts j ≤ countAtPlace counts k
-  count-rises j k h inside =
-      ⊎-elim
-      (λ (g : k ≤ j). let same : j ≡ k = omega arith in rw same (omega arith))
-      (λ (g : j < k). omega (arith, count-above j k g inside))
-      (le-or-lt k j)
+  count-rises = in-order-le in-order
 
   -- of two counts the lower stands at the lower place
   pub place-below : (j k : ℕ) → j < length counts → countAtPlace counts j ≤ countAtPlace counts k → j ≤ k
   place-below j k inside h =
-      ⊎-elim (λ (g : j ≤ k). g) (λ (g : k < j). omega (arith, count-above k j g inside)) (le-or-lt j k)
+      ⊎-elim (λ (g : j ≤ k). g) (λ (g : k < j). omega (arith, in-order-at in-order 0 k j g inside)) (le-or-lt j k)
 
   pub last-inside : lastPlace counts < length counts
   last-inside = omega (arith, asc .two)

@@ -8,9 +8,10 @@ use native.Mathlib.Omega.{arith}
 use lib.ListN.{length}
 use Rattle.lists.specs.Numbers.{le-or-lt}
 use Rattle.lists.specs.Products.{line-moved}
-use Rattle.lists.specs.Kept.{neighbours-rise, between}
+use Rattle.lists.specs.Rising.{between}
 use Rattle.columns.specs.Column.{countAtPlace, lastPlace}
 use Rattle.theory.specs.Setting.{Ascending}
+use Rattle.theory.specs.Places.{count-rises}
 
 -- a column that rises with the places, by at most the price a module
 pub record Gradual (price : ℕ) (counts : List ℕ) (f : ℕ → ℕ) : Type 0 where
@@ -42,12 +43,6 @@ pub line-of-counts : {counts : List ℕ} {y : ℕ} (s : Block counts y) → line
 line-of-counts s = omega (arith, ap (λ (n : ℕ). s .over * n) (s .from), ap (λ (n : ℕ). s .under * n) (s .to))
 
 module _ {counts : List ℕ} {m : ℕ} (asc : Ascending counts m) where
-  counts-rise : (j k : ℕ) → j ≤ k → k < length counts → countAtPlace counts j ≤ countAtPlace counts k
-  counts-rise = neighbours-rise counts (asc .rises)
-
-  pub count-in-rack : (k : ℕ) → k < length counts → countAtPlace counts k ≤ m
-  count-in-rack k b = rw (asc .last) at (counts-rise k (lastPlace counts) (omega arith) (omega arith))
-
   -- every y in the rack lies in a block
   block : (y : ℕ) → y ≤ m → Block counts y
   block y h =
@@ -73,7 +68,7 @@ module _ {counts : List ℕ} {m : ℕ} (asc : Ascending counts m) where
 
       value-after : (s : Block counts y) → s .place < j → width s * f j ≤ width s * (c + price * d)
       value-after s after =
-          let reach : s .over ≤ d = omega (arith, counts-rise (s .place + 1) j (omega arith) b) in
+          let reach : s .over ≤ d = omega (arith, count-rises asc (s .place + 1) j (omega arith) b) in
           let (e, rest) = le-dest reach in
           let low = mul-le-mul-left (s .over) (slope-by (s .place) j (s .under + d) (omega arith) b (omega arith)) in
           let high = mul-le-mul-left (s .under) (slope-by (s .place + 1) j e (omega arith) b (omega arith)) in

@@ -6,7 +6,6 @@ use mathlib.Core.List.{List}
 use mathlib.Core.Logic.{⊎-elim}
 use native.Mathlib.Nat.{sub-self, sub-le, min-le-left, min-le-right, mul-zero, add-zero, zero-add, le-refl, le-trans}
 use native.Mathlib.Nat.{mul-le-mul-left, mul-le-mul-right, le-of-mul-le-mul-left}
-use native.Mathlib.Numerals.{add-one}
 use native.Mathlib.Omega.{arith}
 use lib.ListN.{length, getD}
 use borrow.Author.Tests.{leb-true, le-leb}
@@ -17,51 +16,43 @@ use Rattle.model.specs.Instance.{Instance}
 use Rattle.model.specs.Counts.{canServe, operatingCost}
 use Rattle.model.specs.Thesis.{switchingPrice, countAt, stepUp, countsCost}
 use Rattle.model.specs.Plans.{planServes}
-use Rattle.columns.specs.Column.{countAtPlace}
-use Rattle.theory.specs.Setting.{NeverFalls, Ascending}
+use Rattle.columns.specs.Column.{countAtPlace, column, searchedCost}
+use Rattle.theory.specs.Setting.{NeverFalls, LoadsFit, Ascending, costOfFirst}
+use Rattle.theory.specs.Places.{count-fits}
+use Rattle.theory.specs.Steps.{column-step, column-rises, column-slope}
 use Rattle.theory.specs.Average.{average-falls}
-use Rattle.theory.specs.Potential.{Gradual, Block, width, lineAt, LineBelow, line-of-counts, count-in-rack, value-below, move}
+use Rattle.theory.specs.Potential.{Gradual, Block, width, lineAt, LineBelow, line-of-counts, value-below, move}
 
--- What the ratio needs to know of the columns: `column t j` is the value at place j after t slots.
-pub record Columns (i : Instance) (counts : List ℕ) (start : ℕ) (column : ℕ → ℕ → ℕ) : Type 0 where
-  pub start-is : (j : ℕ) → j < length counts → column 0 j ≡ switchingPrice i * (countAtPlace counts j - start)
-  pub step :
-      (t : ℕ) → t < i .slots → (j k : ℕ) → j < length counts → k < length counts →
-      canServe i (countAtPlace counts k) (i .load t) ≡ true →
-      column (t + 1) j ≤
-      column t k + operatingCost i (countAtPlace counts k) (i .load t) +
-      switchingPrice i * (countAtPlace counts j - countAtPlace counts k)
-  pub rises : (t j k : ℕ) → t ≤ i .slots → j ≤ k → k < length counts → column t j ≤ column t k
-  pub slope :
-      (t j k : ℕ) → t ≤ i .slots → j ≤ k → k < length counts →
-      column t k ≤ column t j + switchingPrice i * (countAtPlace counts k - countAtPlace counts j)
-
-module _ (i : Instance) (counts : List ℕ) (start : ℕ) (column : ℕ → ℕ → ℕ) (columns : Columns i counts start column)
-    (asc : Ascending counts (i .modules)) (rises : NeverFalls (i .topStep) (i .table)) (r : ℕ) (one : 1 ≤ r)
+module _ (i : Instance) (counts : List ℕ) (start : ℕ) (asc : Ascending counts (i .modules)) (loads : LoadsFit i)
+    (rises : NeverFalls (i .topStep) (i .table)) (r : ℕ) (one : 1 ≤ r)
     (gaps : (j : ℕ) → j + 1 < length counts → countAtPlace counts (j + 1) ≤ r * (countAtPlace counts j + 1)) where
-  gradual : (t : ℕ) → t ≤ i .slots → Gradual (switchingPrice i) counts (column t)
-  gradual t h = record { rises = λ j k. columns .rises t j k h; slope = λ j k. columns .slope t j k h }
+  -- the column after t slots
+  abbrev after : ℕ → ℕ → ℕ
+  after t = column i counts start t
+
+  gradual : (t : ℕ) → t ≤ i .slots → Gradual (switchingPrice i) counts (after t)
+  gradual t h =
+      record { rises = λ j k. column-rises i counts start asc loads t j k h; slope = λ j k. column-slope i counts start asc loads t j k h }
 
   -- r times a count, or the full rack: where the column is compared with a plan that has the count
   abbrev point : ℕ → ℕ
   point x = min (r * x) (i .modules)
 
   -- before the first slot
-  line-start : LineBelow counts (column 0) (point start) (r * (switchingPrice i * start))
+  start-at-most : (k : ℕ) → after 0 k ≤ switchingPrice i * countAtPlace counts k
+  unfolding column
+  start-at-most k = mul-le-mul-left (switchingPrice i) (sub-le _ start)
+
+  line-start : LineBelow counts (after 0) (point start) (r * (switchingPrice i * start))
   line-start = record { line = at }
     where
-      price : ℕ
-      price = switchingPrice i
-
-      value : (k : ℕ) → k < length counts → column 0 k ≤ price * countAtPlace counts k
-      value k b = rw (columns .start-is k b) (mul-le-mul-left price (sub-le _ start))
-
-      at : (s : Block counts (point start)) → lineAt s (column 0) ≤ width s * (r * (price * start))
+      at : (s : Block counts (point start)) → lineAt s (after 0) ≤ width s * (r * (switchingPrice i * start))
       at s =
+          let price = switchingPrice i in
           omega (
             arith,
-            mul-le-mul-left (s .over) (value (s .place) (omega arith)),
-            mul-le-mul-left (s .under) (value (s .place + 1) (s .inside)),
+            mul-le-mul-left (s .over) (start-at-most (s .place)),
+            mul-le-mul-left (s .under) (start-at-most (s .place + 1)),
             ap (λ (n : ℕ). price * n) (line-of-counts s),
             mul-le-mul-left (price * width s) (min-le-left (r * start) (i .modules)),
           )
@@ -77,7 +68,7 @@ module _ (i : Instance) (counts : List ℕ) (start : ℕ) (column : ℕ → ℕ 
     -- Of the two counts around the point those that weigh are at least x: where the lower one is less, the point is the upper one.
     upper-alone : (s : Block counts (point x)) → countAtPlace counts (s .place) < x → s .over ≡ 0
     upper-alone s less =
-        omega (arith, gaps (s .place) (s .inside), mul-le-mul-left r less, count-in-rack asc (s .place + 1) (s .inside))
+        omega (arith, gaps (s .place) (s .inside), mul-le-mul-left r less, count-fits asc (s .place + 1) (s .inside))
 
     line-le :
         (s : Block counts (point x)) (f g : ℕ → ℕ) → ((k : ℕ) → k < length counts → x ≤ countAtPlace counts k → f k ≤ g k) →
@@ -90,11 +81,11 @@ module _ (i : Instance) (counts : List ℕ) (start : ℕ) (column : ℕ → ℕ 
         (le-or-lt x (countAtPlace counts (s .place)))
 
     -- serving and staying at a place
-    stay : (k : ℕ) → k < length counts → x ≤ countAtPlace counts k → column (t + 1) k ≤ column t k + costs k
+    stay : (k : ℕ) → k < length counts → x ≤ countAtPlace counts k → after (suc t) k ≤ after t k + costs k
     unfolding canServe
     stay k b above =
         let serves = le-leb _ _ (le-trans fits (mul-le-mul-right (i .topStep) above)) in
-        simp (sub-self, mul-zero, add-zero) at (columns .step t h k k b b serves)
+        simp (sub-self, mul-zero, add-zero) at (column-step i counts start asc loads t h .at-most k k b b serves)
 
     costs-fall : 0 < x → (k : ℕ) → k < length counts → x ≤ countAtPlace counts k → x * costs k ≤ countAtPlace counts k * cost x
     costs-fall some k b above = average-falls i rises x (countAtPlace counts k) (i .load t) some above fits
@@ -115,21 +106,19 @@ module _ (i : Instance) (counts : List ℕ) (start : ℕ) (column : ℕ → ℕ 
         le-of-mul-le-mul-left {k = x} (omega (arith, ap (λ (n : ℕ). cost x * n) (line-of-counts s))) some
 
     -- so the slot raises the bound by r times the cost of x
-    line-served : {c : ℕ} → LineBelow counts (column t) (point x) c → LineBelow counts (column (t + 1)) (point x) (c + r * cost x)
+    line-served : {c : ℕ} → LineBelow counts (after t) (point x) c → LineBelow counts (after (suc t)) (point x) (c + r * cost x)
     line-served {c} below = record { line = at }
       where
-        at : (s : Block counts (point x)) → lineAt s (column (t + 1)) ≤ width s * (c + r * cost x)
+        at : (s : Block counts (point x)) → lineAt s (after (suc t)) ≤ width s * (c + r * cost x)
         at s =
-            let served = line-le s (column (t + 1)) (λ k. column t k + costs k) stay in
+            let served = line-le s (after (suc t)) (λ k. after t k + costs k) stay in
             omega (arith, below .line s, ⊎-elim (costs-none s) (costs-some s) (le-or-lt x 0))
 
   module _ (p : List ℕ) (in-rack : (t : ℕ) → t < i .slots → getD p t 0 ≤ i .modules) (served : planServes i p ≡ true) where
-    -- what the plan has cost after t slots
-    abbrev paid : ℕ → ℕ
-    paid t = sum t (λ u. stepUp i (countAt start p u) (countAt start p (suc u)) (i .load u))
-
     -- after t slots the column, at the point of the plan's last count, is at most r times what the plan has cost
-    line-after : (t : ℕ) → t ≤ i .slots → LineBelow counts (column t) (point (countAt start p t)) (r * (paid t + switchingPrice i * start))
+    line-after :
+        (t : ℕ) → t ≤ i .slots →
+        LineBelow counts (after t) (point (countAt start p t)) (r * (costOfFirst i start p t + switchingPrice i * start))
     unfolding sum countAt stepUp planServes canServe
     line-after zero h = rw zero-add line-start
     line-after (suc t) h =
@@ -142,14 +131,15 @@ module _ (i : Instance) (counts : List ℕ) (start : ℕ) (column : ℕ → ℕ 
         let near : point z ≤ point x + r * e = omega (arith, mul-le-mul-left r up) in
         let before = line-after t (omega arith) in
         let moved = move asc (gradual t (omega arith)) (r * e) (min-le-right (r * x) (i .modules)) near before in
-        let after = line-served t h z (in-rack t h) (leb-true _ _ (every-at (i .slots) _ served t h)) moved in
-        let old = paid t + price * start in
-        let bound : r * old + price * (r * e) + r * cost ≡ r * (paid t + (cost + price * e) + price * start) = omega arith in
-        rw (add-one, bound) at after
+        let served-so = line-served t h z (in-rack t h) (leb-true _ _ (every-at (i .slots) _ served t h)) moved in
+        let paid = costOfFirst i start p t in
+        let bound : r * (paid + price * start) + price * (r * e) + r * cost ≡ r * (paid + (cost + price * e) + price * start) =
+        omega arith in
+        rw bound at served-so
 
     -- The least cost over the list, from any start, is at most r times the cost of every plan that serves, with the price of the start.
-    pub ratio : column (i .slots) 0 ≤ r * (countsCost i start p + switchingPrice i * start)
-    unfolding countsCost
+    pub ratio : searchedCost i counts start ≤ r * (countsCost i start p + switchingPrice i * start)
+    unfolding searchedCost countsCost
     ratio =
         let end = line-after (i .slots) (le-refl (i .slots)) in
         omega (arith, value-below asc (gradual (i .slots) (le-refl (i .slots))) end 0 0 (omega arith) (omega arith) (min-le-right _ _))

@@ -5,10 +5,12 @@ use mathlib.Core.Bool.{Bool, true, false, cond, _||_, or-true}
 use mathlib.Core.Logic.{_⊎_, inl, inr, ⊎-elim}
 use lib.Dec.{leb, eqb, eqb·suc-zero}
 use borrow.Author.Tests.{leb-true, le-leb, lt-ltb, le-ltb, ne-eqb}
-use native.Mathlib.Nat.{zero-mul, add-mul, sub-add-cancel, add-sub-of-le, mod-zero, mod-lt, div-add-mod, div-le-of-le-mul}
+use native.Mathlib.Nat.{zero-mul, add-sub-of-le, mod-zero, mod-lt, div-add-mod, div-le-of-le-mul}
 use native.Mathlib.Nat.{le-of-lt, eq-or-lt-of-le, eq-zero-or-pos, mul-le-mul-left, mul-le-mul-right}
 use native.Mathlib.Omega.{arith}
 use Rattle.lists.specs.Numbers.{le-or-lt, true-or-false}
+use Rattle.lists.specs.Products.{mul-le-mul-some}
+use Rattle.lists.specs.Division.{remainder-le, quotient-lt, part-and-rest}
 use Rattle.lists.specs.Sums.{sum, sum-const, sum-from}
 use Rattle.model.specs.Instance.{Instance}
 use Rattle.model.specs.Counts.{operatingCost}
@@ -17,37 +19,33 @@ use Rattle.model.specs.Plans.{moduleByte}
 use Rattle.theory.specs.Setting.{Convex, Entry, activeIn, lightIn, costIn}
 use Rattle.theory.specs.Tables.{supporting-line}
 
--- Quotient and remainder of a load that n modules can serve: q is at most the top step, and below it where some is left over.
-remainder-le : (n l q : ℕ) → l ≤ n * q → l % n ≤ n
-remainder-le zero l q h = omega (arith, mod-zero l)
-remainder-le (suc n) l q h = le-of-lt (mod-lt l (omega arith))
-
-quotient-le : (n l q : ℕ) → l ≤ n * q → l / n ≤ q
-quotient-le n l q h = div-le-of-le-mul n h
-
-quotient-lt : (n l q : ℕ) → l ≤ n * q → 0 < l % n → l / n < q
-quotient-lt n l q h p =
-    ⊎-elim
-    (λ (g : q ≤ l / n). absurd (omega (arith, mul-le-mul-left n g, div-add-mod l n)))
-    (λ (g : l / n < q). g)
-    (le-or-lt q (l / n))
-
-part-and-rest : (n r x : ℕ) → r ≤ n → (n - r) * x + r * x ≡ n * x
-part-and-rest n r x h = sym (add-mul (n - r) r x) ∙ ap (λ (y : ℕ). y * x) (sub-add-cancel h)
-
--- The three cases of the running cost are one formula.
-pub running-formula : (i : Instance) (n l : ℕ) → l ≤ n * i .topStep →
+-- The three cases of the running cost are one formula,
+pub running-some : (i : Instance) (n l : ℕ) → 0 < n →
     operatingCost i n l ≡ (n - l % n) * i .table (l / n) + l % n * i .table (l / n + 1)
 unfolding operatingCost
-running-formula i zero l h = let none : l % 0 ≡ 0 = omega (arith, mod-zero l) in rw none (omega arith)
-running-formula i (suc n) l h = rw (eqb·suc-zero n, second-term (l % suc n) (i .table (l / suc n + 1)))
+running-some i n l some = rw (ne-eqb n 0 (omega arith), second-term (l % n) (i .table (l / n + 1)))
   where
     second-term : (r x : ℕ) → cond (eqb r 0) 0 (r * x) ≡ r * x
     second-term zero x = sym (zero-mul x)
     second-term (suc r) x = rw (eqb·suc-zero r)
 
+-- also for no module, which serves no load but 0.
+running-formula : (i : Instance) (n l : ℕ) → l ≤ n * i .topStep →
+    operatingCost i n l ≡ (n - l % n) * i .table (l / n) + l % n * i .table (l / n + 1)
+unfolding operatingCost
+running-formula i zero l h = let none : l % 0 ≡ 0 = omega (arith, mod-zero l) in rw none (omega arith)
+running-formula i (suc n) l h = running-some i (suc n) l (omega arith)
+
+-- Where no entry of the table exceeds f, n modules cost at most n times f.
+pub running-bound : (i : Instance) (f : ℕ) → ((k : ℕ) → k ≤ i .topStep → i .table k ≤ f) → (n l : ℕ) → l ≤ n * i .topStep →
+    operatingCost i n l ≤ n * f
+running-bound i f table n l h =
+    let low = mul-le-mul-left (n - l % n) (table (l / n) (div-le-of-le-mul n h)) in
+    let high = mul-le-mul-some (l % n) (λ some. table (l / n + 1) (omega (arith, quotient-lt n l (i .topStep) h some))) in
+    omega (arith, running-formula i n l h, part-and-rest n (l % n) f (remainder-le n l (i .topStep) h))
+
 -- n times the straight line between F(q) and F(q + 1) at l / n, without division.
-pub straight-line : (i : Instance) (n l : ℕ) → 0 < n → l ≤ n * i .topStep →
+straight-line : (i : Instance) (n l : ℕ) → 0 < n → l ≤ n * i .topStep →
     operatingCost i n l + l % n * i .table (l / n) ≡ n * i .table (l / n) + l % n * i .table (l / n + 1)
 straight-line i n l p h = omega (arith, running-formula i n l h, part-and-rest n (l % n) (i .table (l / n)) (le-of-lt (mod-lt l p)))
 
@@ -69,7 +67,7 @@ module _ (i : Instance) (n l cost : ℕ) (fits : l ≤ n * i .topStep)
   -- all at the top step
   at-top : 0 < n → i .topStep ≤ l / n → operatingCost i n l ≤ cost
   at-top p h =
-      let top : l / n ≡ i .topStep = omega (arith, quotient-le n l (i .topStep) fits) in
+      let top : l / n ≡ i .topStep = omega (arith, div-le-of-le-mul n fits) in
       let none : l % n ≡ 0 = omega (arith, mul-le-mul-left n h, div-add-mod l n) in
       let full : l ≡ n * i .topStep = omega (arith, mul-le-mul-left n h, div-add-mod l n) in
       let line = above _ _ _ _ (line-at-top i) in
@@ -172,7 +170,7 @@ module _ (i : Instance) (n l : ℕ) (fits : l ≤ n * i .topStep) where
   byte-step : (k : ℕ) → k < n → moduleByte n l k ≤ i .topStep
   byte-step k h =
       ⊎-elim
-      (λ (g : l % n ≤ k). rw (byte-at n l k g h) (quotient-le n l (i .topStep) fits))
+      (λ (g : l % n ≤ k). rw (byte-at n l k g h) (div-le-of-le-mul n fits))
       (λ (g : k < l % n). rw (byte-above n l k g h) (above-step (omega arith)))
       (le-or-lt (l % n) k)
 
@@ -201,7 +199,7 @@ module _ (i : Instance) (n l : ℕ) (fits : l ≤ n * i .topStep) where
       above k a c = ap g (byte-above n l k a c) ∙ steps (l / n + 1) (above-step (omega arith))
 
       at-step : (k : ℕ) → l % n ≤ k → k < n → g (moduleByte n l k) ≡ h (l / n)
-      at-step k a c = ap g (byte-at n l k a c) ∙ steps (l / n) (quotient-le n l (i .topStep) fits)
+      at-step k a c = ap g (byte-at n l k a c) ∙ steps (l / n) (div-le-of-le-mul n fits)
 
 -- In a rack of m, where no step is the byte for off, it has n active modules, its light is l and its cost the running cost.
 module _ (i : Instance) (m n l : ℕ) (steps : i .topStep < off) (rack : n ≤ m) (fits : l ≤ n * i .topStep) where

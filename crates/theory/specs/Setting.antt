@@ -1,5 +1,5 @@
 -- The hypotheses that the theorems share, as propositions.
-use Prim.Native.Nat.{ℕ, _+_, _-_, _*_, _≤_, _<_}
+use Prim.Native.Nat.{ℕ, suc, _+_, _-_, _*_, _≤_, _<_}
 use mathlib.Core.Path.{_≡_}
 use mathlib.Core.Bool.{true, cond, _||_}
 use mathlib.Core.List.{List}
@@ -9,7 +9,7 @@ use Rattle.lists.specs.Sums.{sum}
 use Rattle.model.specs.Instance.{Instance}
 use Rattle.model.specs.Counts.{canServe, operatingCost}
 use Rattle.model.specs.Sheets.{isOff, stepOf, stepCost, off}
-use Rattle.model.specs.Thesis.{switchingPrice, countsCost}
+use Rattle.model.specs.Thesis.{switchingPrice, countAt, stepUp, countsCost}
 use Rattle.model.specs.Plans.{Allowed, NotAfter, planServes}
 use Rattle.columns.specs.Column.{countAtPlace, lastPlace}
 
@@ -23,6 +23,13 @@ NeverFalls q f = (k : ℕ) → k < q → f k ≤ f (k + 1)
 -- the full rack serves every load
 abbrev pub LoadsFit : Instance → Type 0
 LoadsFit i = (t : ℕ) → t < i .slots → i .load t ≤ i .modules * i .topStep
+
+-- Shows that can be planned: of an accepted card all this holds.
+pub record Plannable (i : Instance) : Type 0 where
+  pub some : 1 ≤ i .modules
+  pub steps : i .topStep < off
+  pub loads : LoadsFit i
+  pub convex : Convex (i .topStep) (i .table)
 
 -- Rows of bytes, one for each of m modules.
 abbrev pub Entry : Instance → ℕ → Type 0
@@ -67,6 +74,10 @@ pub record SlotStep (i : Instance) (counts : List ℕ) (l : ℕ) (before after c
       (j k : ℕ) → j < length counts → k < length counts → canServe i (countAtPlace counts k) l ≡ true →
       after j ≡ before k + operatingCost i (countAtPlace counts k) l + switchingPrice i * (countAtPlace counts j - countAtPlace counts k) →
       chosen j ≤ k
+
+-- the cost by counts of a plan's first t slots
+abbrev pub costOfFirst : Instance → ℕ → List ℕ → ℕ → ℕ
+costOfFirst i start p t = sum t (λ u. stepUp i (countAt start p u) (countAt start p (suc u)) (i .load u))
 
 -- The least plan by counts from a start count, with the tie rule.
 pub record LeastByCounts (i : Instance) (counts : List ℕ) (start : ℕ) (p : List ℕ) : Type 0 where

@@ -104,15 +104,15 @@ state-difference false false = refl
 
 module _ (i : Instance) (s : List ℕ) where
   -- the three parts of `serves`
-  serves-length : serves i s ≡ true → sheetLength i s ≡ true
+  pub serves-length : serves i s ≡ true → sheetLength i s ≡ true
   unfolding serves
   serves-length e = and-left (sheetLength i s) _ e
 
-  serves-entries : serves i s ≡ true → sheetEntries i s ≡ true
+  pub serves-entries : serves i s ≡ true → sheetEntries i s ≡ true
   unfolding serves
   serves-entries e = and-left (sheetEntries i s) _ (and-right (sheetLength i s) _ e)
 
-  serves-light : serves i s ≡ true → sheetLight i s ≡ true
+  pub serves-light : serves i s ≡ true → sheetLight i s ≡ true
   unfolding serves
   serves-light e = and-right (sheetEntries i s) _ (and-right (sheetLength i s) _ e)
 

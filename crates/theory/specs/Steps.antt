@@ -1,19 +1,18 @@
 -- One slot's two passes give the least over all places that serve, and the smallest place that attains it; what follows for columns.
-use Prim.Native.Nat.{ℕ, zero, suc, _+_, _-_, _*_, _/_, _%_, _≤_, _<_}
-use mathlib.Core.Path.{_≡_, refl, sym, ap, _∙_}
+use Prim.Native.Nat.{ℕ, zero, suc, _+_, _-_, _*_, _≤_, _<_}
+use mathlib.Core.Path.{_≡_, refl, sym, _∙_}
 use mathlib.Core.Bool.{Bool, true, false, cond, false≢true}
 use mathlib.Core.List.{List}
 use native.Mathlib.Nat.{mul-le-mul-left, mul-le-mul-right, mul-zero, sub-eq-zero-of-le}
-use native.Mathlib.Nat.{div-add-mod, mod-lt, div-le-of-le-mul, lt-of-mul-lt-mul-left}
 use native.Mathlib.Omega.{arith}
 use lib.ListN.{length}
-use lib.Dec.{eqb, eqb·suc-zero}
-use borrow.Author.Tests.{leb-true, eqb-false}
+use borrow.Author.Tests.{leb-true}
 use Rattle.model.specs.Instance.{Instance}
 use Rattle.model.specs.Counts.{canServe, operatingCost}
 use Rattle.model.specs.Thesis.{switchingPrice}
 use Rattle.columns.specs.Column.{countAtPlace, lastPlace, Choice, cheaper, own, fromTop, downward, upward, column, selection}
 use Rattle.theory.specs.Setting.{Ascending, LoadsFit, SlotStep}
+use Rattle.theory.specs.Running.{running-bound}
 use Rattle.theory.specs.Choices.{Best, best-own, best-skip, best-raised}
 use Rattle.theory.specs.Places.{count-rises, count-fits, last-inside, last-serves}
 
@@ -141,38 +140,6 @@ module _
           triangle (switchingPrice i) (countAtPlace counts k) (countAtPlace counts j) (countAtPlace counts c),
         )
 
--- where no entry of the table exceeds f, n modules cost at most n times f
-operating-bound :
-    (i : Instance) (f : ℕ) → ((k : ℕ) → k ≤ i .topStep → i .table k ≤ f) → (n l : ℕ) → l ≤ n * i .topStep →
-    operatingCost i n l ≤ n * f
-unfolding operatingCost
-operating-bound i f table zero l fits = omega arith
-operating-bound i f table (suc n) l fits = rw (eqb·suc-zero n) (go (eqb (l % suc n) 0) refl)
-  where
-    q : ℕ
-    q = l / suc n
-
-    r : ℕ
-    r = l % suc n
-
-    whole : (suc n - r) * f + r * f ≡ suc n * f
-    whole =
-        let small = mod-lt l {m = suc n} (omega arith) in
-        let e : suc n - r + r ≡ suc n = omega arith in
-        omega (arith, ap (λ (x : ℕ). x * f) e)
-
-    low : (suc n - r) * i .table q ≤ (suc n - r) * f
-    low = mul-le-mul-left (suc n - r) (table q (div-le-of-le-mul (suc n) fits))
-
-    high : ¬ (r ≡ 0) → r * i .table (q + 1) ≤ r * f
-    high some =
-        let less : suc n * q < suc n * i .topStep = omega (arith, div-add-mod l (suc n)) in
-        mul-le-mul-left r (table (q + 1) (omega (arith, lt-of-mul-lt-mul-left (suc n) less)))
-
-    go : (b : Bool) → eqb r 0 ≡ b → (suc n - r) * i .table q + cond b 0 (r * i .table (q + 1)) ≤ suc n * f
-    go true e = omega (arith, low, whole)
-    go false e = omega (arith, low, high (eqb-false r 0 e), whole)
-
 -- The columns from a start count.
 module _ (i : Instance) (counts : List ℕ) (start : ℕ) (asc : Ascending counts (i .modules)) (loads : LoadsFit i) where
   -- each slot's column and selections are a step
@@ -202,7 +169,7 @@ module _ (i : Instance) (counts : List ℕ) (start : ℕ) (asc : Ascending count
   module _ (f : ℕ) (table : (k : ℕ) → k ≤ i .topStep → i .table k ≤ f) where
     -- serving with the full rack
     full-bound : (t : ℕ) → t < i .slots → operatingCost i (countAtPlace counts (lastPlace counts)) (i .load t) ≤ i .modules * f
-    full-bound t h = rw (asc .last) (operating-bound i f table (i .modules) (i .load t) (loads t h))
+    full-bound t h = rw (asc .last) (running-bound i f table (i .modules) (i .load t) (loads t h))
 
     -- a column's values are bounded
     pub column-bound :
@@ -245,6 +212,6 @@ module _ (i : Instance) (counts : List ℕ) (start : ℕ) (asc : Ascending count
         omega (
           arith,
           column-bound t j (omega arith) inside,
-          operating-bound i f table n (i .load t) (leb-true (i .load t) (n * i .topStep) serves),
+          running-bound i f table n (i .load t) (leb-true (i .load t) (n * i .topStep) serves),
           mul-le-mul-right f (count-fits asc j inside),
         )

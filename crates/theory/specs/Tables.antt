@@ -2,7 +2,7 @@
 use Prim.Native.Nat.{ℕ, zero, suc, _+_, _-_, _*_, _≤_, _<_}
 use mathlib.Core.Path.{_≡_}
 use mathlib.Core.Bool.{true}
-use mathlib.Core.Logic.{⊎-elim}
+use mathlib.Core.Logic.{_↔_, ⊎-elim}
 use lib.Dec.{leb}
 use borrow.Author.Tests.{leb-true, le-leb}
 use native.Mathlib.Nat.{add-zero, le-dest, le-of-lt}
@@ -13,21 +13,19 @@ use Rattle.model.specs.Instance.{bendsUp, convex, neverFalls}
 use Rattle.theory.specs.Setting.{Convex, NeverFalls}
 
 -- A table passes a test exactly if it has the property.
-pub convex-test : (q : ℕ) (f : ℕ → ℕ) → convex q f ≡ true → Convex q f
+pub convex-test : (q : ℕ) (f : ℕ → ℕ) → convex q f ≡ true ↔ Convex q f
 unfolding convex bendsUp
-convex-test q f e k h = leb-true _ _ (every-at (q - 1) (bendsUp f) e k (omega arith))
+convex-test q f = (
+  λ e k h. leb-true _ _ (every-at (q - 1) (bendsUp f) e k (omega arith)),
+  λ c. every-all (q - 1) (bendsUp f) (λ k h. le-leb _ _ (c k (omega arith))),
+)
 
-pub convex-tested : (q : ℕ) (f : ℕ → ℕ) → Convex q f → convex q f ≡ true
-unfolding convex bendsUp
-convex-tested q f c = every-all (q - 1) (bendsUp f) (λ k h. le-leb _ _ (c k (omega arith)))
-
-pub never-falls-test : (q : ℕ) (f : ℕ → ℕ) → neverFalls q f ≡ true → NeverFalls q f
+pub never-falls-test : (q : ℕ) (f : ℕ → ℕ) → neverFalls q f ≡ true ↔ NeverFalls q f
 unfolding neverFalls
-never-falls-test q f e k h = leb-true _ _ (every-at q (λ j. leb (f j) (f (j + 1))) e k h)
-
-pub never-falls-tested : (q : ℕ) (f : ℕ → ℕ) → NeverFalls q f → neverFalls q f ≡ true
-unfolding neverFalls
-never-falls-tested q f c = every-all q (λ j. leb (f j) (f (j + 1))) (λ k h. le-leb _ _ (c k h))
+never-falls-test q f = (
+  λ e k h. leb-true _ _ (every-at q (λ j. leb (f j) (f (j + 1))) e k h),
+  λ c. every-all q (λ j. leb (f j) (f (j + 1))) (λ k h. le-leb _ _ (c k h)),
+)
 
 module _ (q : ℕ) (f : ℕ → ℕ) (c : Convex q f) where
   -- the slopes of a convex table rise

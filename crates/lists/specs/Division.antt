@@ -1,0 +1,23 @@
+-- Quotient and remainder.
+use Prim.Native.Nat.{ℕ, zero, suc, _+_, _-_, _*_, _/_, _%_, _≤_, _<_}
+use mathlib.Core.Path.{_≡_, ap, sym, _∙_}
+use mathlib.Core.Logic.{⊎-elim}
+use native.Mathlib.Nat.{add-mul, sub-add-cancel, mod-zero, mod-lt, div-add-mod, le-of-lt, mul-le-mul-left}
+use native.Mathlib.Omega.{arith}
+use Rattle.lists.specs.Numbers.{le-or-lt}
+
+-- what n parts of at most q each hold leaves a remainder of at most n,
+pub remainder-le : (n l q : ℕ) → l ≤ n * q → l % n ≤ n
+remainder-le zero l q h = omega (arith, mod-zero l)
+remainder-le (suc n) l q h = le-of-lt (mod-lt l (omega arith))
+
+-- and where some is left over, a quotient below q
+pub quotient-lt : (n l q : ℕ) → l ≤ n * q → 0 < l % n → l / n < q
+quotient-lt n l q h p =
+    ⊎-elim
+    (λ (g : q ≤ l / n). absurd (omega (arith, mul-le-mul-left n g, div-add-mod l n)))
+    (λ (g : l / n < q). g)
+    (le-or-lt q (l / n))
+
+pub part-and-rest : (n r x : ℕ) → r ≤ n → (n - r) * x + r * x ≡ n * x
+part-and-rest n r x h = sym (add-mul (n - r) r x) ∙ ap (λ (y : ℕ). y * x) (sub-add-cancel h)

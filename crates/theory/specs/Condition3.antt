@@ -1,0 +1,114 @@
+-- Condition 3: the least plan over all counts costs no more than any sheet that serves, and over the coarse counts at most twice that.
+use Prim.Native.Nat.{ℕ, _+_, _*_, _≤_, _<_}
+use mathlib.Core.Path.{_≡_, refl, sym, ap, _∙_}
+use mathlib.Core.Bool.{true, false}
+use mathlib.Core.List.{List}
+use native.Mathlib.Nat.{mul-le-mul-left}
+use native.Mathlib.Omega.{arith}
+use lib.ListN.{length}
+use borrow.Author.Tests.{not-false}
+use Rattle.model.specs.declared.Refusal.the-variants.{NotMonotone}
+use Rattle.model.specs.declared.Answer.the-variants.{Cost}
+use Rattle.model.specs.Instance.{Instance, instanceOf}
+use Rattle.model.specs.Counts.{allCounts, coarseCounts}
+use Rattle.model.specs.Sheets.{serves, sheetCost}
+use Rattle.model.specs.Thesis.{countsCost}
+use Rattle.model.specs.Plans.{Allowed, LeastPlan, sheetOf, planCost, leastPlan}
+use Rattle.model.specs.Calls.{checkCard, planCoarse, requestOf, applies, answer}
+use Rattle.laws.specs.Acceptance.{modules-range, top-range, load-range, table-convex}
+use Rattle.columns.specs.Column.{countAtPlace, searchedPlan, searchedCost}
+use Rattle.theory.specs.Setting.{NeverFalls, PlanFits, Plannable, Ascending, LeastByCounts}
+use Rattle.theory.specs.Tables.{convex-test, never-falls-test}
+use Rattle.theory.specs.Sheets.{countsOf, counts-fit, sheet-at-least, plan-sheet-serves, plan-cost-counts}
+use Rattle.theory.specs.Places.{count-fits}
+use Rattle.theory.specs.Least.{searched-least, searched-cost}
+use Rattle.theory.specs.Enumeration.{least-plan, least-plan-unique}
+use Rattle.theory.specs.Ratio.{ratio}
+use Rattle.theory.specs.Lists.{all-member, all-ascending, coarse-ascending, coarse-doubling}
+
+module _ {i : Instance} (ready : Plannable i) where
+  -- Plans over any list of allowed counts.
+  module _ (counts : List ℕ) (asc : Ascending counts (i .modules)) where
+    -- an allowed plan has a sheet, and costs what its counts cost
+    allowed-fits : {p : List ℕ} → Allowed i counts p → PlanFits i p
+    allowed-fits a =
+        record {
+          steps = ready .steps;
+          slotwise = a .slotwise;
+          in-rack = λ t h. let (k, inside, here) = a .member t h in rw here at (count-fits asc k inside);
+          served = a .served;
+        }
+
+    allowed-cost : (p : List ℕ) → Allowed i counts p → planCost i p ≡ countsCost i 0 p
+    allowed-cost p a = plan-cost-counts i p (allowed-fits a)
+
+    -- the least plan by counts is the least plan
+    by-counts-least : {p : List ℕ} → LeastByCounts i counts 0 p → LeastPlan i counts p
+    by-counts-least {p} L =
+        record {
+          allowed = L .allowed;
+          least = λ r a. omega (arith, allowed-cost p (L .allowed), allowed-cost r a, L .least r a);
+          first = λ r a e. L .first r a (omega (arith, allowed-cost p (L .allowed), allowed-cost r a));
+        }
+
+    -- The search finds the least plan and its cost.
+    pub searched-plan : (searchedPlan i counts 0 ≡ leastPlan i counts) × (searchedCost i counts 0 ≡ planCost i (leastPlan i counts))
+    searched-plan =
+        let L = searched-least i counts 0 asc (ready .loads) in
+        let same = least-plan-unique i counts _ _ (by-counts-least L) (least-plan i counts asc (ready .loads)) in
+        let cost = searched-cost i counts 0 asc (ready .loads) ∙ sym (allowed-cost (searchedPlan i counts 0) (L .allowed)) in
+        (same, cost ∙ ap (planCost i) same)
+
+    -- The sheet of the least plan can be written, serves, and costs what the plan costs.
+    pub least-plan-fits : PlanFits i (leastPlan i counts)
+    least-plan-fits = allowed-fits (least-plan i counts asc (ready .loads) .allowed)
+
+    pub least-sheet :
+        (serves i (sheetOf i (leastPlan i counts)) ≡ true) ×
+        (sheetCost i (sheetOf i (leastPlan i counts)) ≡ planCost i (leastPlan i counts))
+    unfolding planCost
+    least-sheet = (plan-sheet-serves i (leastPlan i counts) least-plan-fits, refl)
+
+  -- Over all counts no sheet that serves costs less.
+  pub exact-least : (s : List ℕ) → serves i s ≡ true → planCost i (leastPlan i (allCounts (i .modules))) ≤ sheetCost i s
+  exact-least s e =
+      let fit = counts-fit i s (ready .steps) e in
+      let counted : Allowed i (allCounts (i .modules)) (countsOf i s) =
+      record { slotwise = fit .slotwise; member = λ t h. all-member (i .modules) _ .0 (fit .in-rack t h); served = fit .served } in
+      let least = least-plan i (allCounts (i .modules)) (all-ascending (i .modules) (ready .some)) (ready .loads) .least _ counted in
+      omega (arith, plan-cost-counts i (countsOf i s) fit, sheet-at-least i (ready .convex) s e)
+
+  -- Over a list in which each count is at most r times one more than the one before it, the least plan costs at most r times as
+  -- much as any sheet that serves, if the table never falls.
+  pub list-ratio :
+      NeverFalls (i .topStep) (i .table) → (counts : List ℕ) → Ascending counts (i .modules) → (r : ℕ) → 1 ≤ r →
+      ((j : ℕ) → j + 1 < length counts → countAtPlace counts (j + 1) ≤ r * (countAtPlace counts j + 1)) →
+      (s : List ℕ) → serves i s ≡ true → planCost i (leastPlan i counts) ≤ r * sheetCost i s
+  list-ratio rises counts asc r one gaps s e =
+      let fit = counts-fit i s (ready .steps) e in
+      let bound = ratio i counts 0 asc (ready .loads) rises r one gaps (countsOf i s) (fit .in-rack) (fit .served) in
+      omega (arith, searched-plan counts asc .1, mul-le-mul-left r (sheet-at-least i (ready .convex) s e))
+
+  -- Over the coarse counts it costs at most twice as much.
+  pub coarse-twice :
+      NeverFalls (i .topStep) (i .table) → (s : List ℕ) → serves i s ≡ true →
+      planCost i (leastPlan i (coarseCounts (i .modules))) ≤ 2 * sheetCost i s
+  coarse-twice rises =
+      list-ratio rises (coarseCounts (i .modules)) (coarse-ascending (i .modules) (ready .some)) 2 (omega arith)
+      (coarse-doubling (i .modules) (ready .some))
+
+-- An accepted card meets the hypotheses;
+pub accepted-plannable : (c : List ℕ) → answer (checkCard c) ≡ Cost 0 → Plannable (instanceOf c)
+accepted-plannable c e =
+    record {
+      some = modules-range c e .0;
+      steps = omega (arith, top-range c e .1);
+      loads = load-range c e;
+      convex = convex-test _ _ .0 (table-convex c e);
+    }
+
+-- and where refusal 9 does not apply, its table never falls.
+pub monotone-never-falls :
+    (c p w : List ℕ) → applies (requestOf (planCoarse c p w)) NotMonotone ≡ false → NeverFalls (instanceOf c .topStep) (instanceOf c .table)
+unfolding applies requestOf
+monotone-never-falls c p w e = never-falls-test _ _ .0 (not-false _ e)
