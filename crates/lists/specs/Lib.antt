@@ -3,8 +3,10 @@ pub mod Numbers
 pub mod Products
 pub mod Tests
 pub mod Sums
+pub mod Summing
 pub mod Lists
 pub mod Members
 pub mod Kept
 pub mod Bytes
 pub mod Filling
+pub mod Parts

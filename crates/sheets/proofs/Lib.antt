@@ -1,0 +1,3 @@
+pub mod Row
+pub mod Bytes
+pub mod Slots
