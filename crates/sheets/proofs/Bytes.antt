@@ -1,20 +1,26 @@
 -- A sheet's byte: whether it is an entry, its step and its cost.
-use Prim.Native.Nat.{ℕ, _+_, _≤_}
-use mathlib.Core.Path.{_≡_, sym, _∙_}
+use Prim.Native.Nat.{ℕ, _+_, _≤_, _<_}
+use mathlib.Core.Path.{_≡_, ap, _∙_}
 use mathlib.Core.Bool.{Bool, true, false, cond, _||_, or-true, or-false}
 use mathlib.Core.List.{List}
 use mathlib.Core.Logic.{⊎-elim}
+use native.Mathlib.Nat.{mul-le-mul}
 use native.Mathlib.Omega.{arith}
+use lib.ListN.{length, getD}
 use lib.Dec.{leb}
+use mir.Syntax.{w8}
+use mir.Val.{Fits}
 use borrow.Author.Tests.{leb-true, eq-eqb, ne-eqb, eqb-true, eqb-false}
 use Rattle.lists.specs.Numbers.{true-or-false}
+use Rattle.lists.specs.Tests.{every-at}
+use Rattle.lists.specs.Parts.{getD-within}
 use Rattle.model.specs.Instance.{Instance, instanceOf}
-use Rattle.model.specs.Sheets.{off, isOff, stepCost, changeCost}
+use Rattle.model.specs.Sheets.{off, isOff, stepOf, sheetEntries, stepCost, changeCost}
 use Rattle.card.specs.declared.Header.{Header}
 use Rattle.card.specs.Checking.{Ready}
-use Rattle.laws.specs.Acceptance.{table-range, up-range, down-range}
-use Rattle.sheets.specs.Marks.{isEntry, byteCost, stopCost}
-use Rattle.sheets.specs.Asked.{ByteReady}
+use Rattle.laws.specs.Acceptance.{modules-range, slots-range, table-range, up-range, down-range}
+use Rattle.sheets.specs.Marks.{isEntry, stateBefore, byteCost, stopCost}
+use Rattle.sheets.specs.Asked.{ByteReady, SheetReady}
 
 module _ {b : ℕ} (is-off : b ≡ off) where
   pub off-entry : (top : ℕ) → true ≡ isEntry top b
@@ -35,6 +41,32 @@ module _ {b : ℕ} (active : b ≡ off → ⊥) where
   pub active-step : (top : ℕ) → isEntry top b ≡ true → b ≤ top
   active-step top e = leb-true b top (rw (ne-eqb b off active, or-false (leb b top)) at e)
 
+-- a byte of a sheet, read inside it
+pub entry-read :
+    (top : ℕ) (sheet : List ℕ) {x : ℕ} {t : Bool} → x < length sheet → isEntry top (getD sheet x 0) ≡ t → isEntry top (getD sheet x off) ≡ t
+entry-read top sheet {x} h e = rw (getD-within sheet x off 0 h) e
+
+pub byte-ready : {s : List ℕ} {h : Header} {sheet : List ℕ} {x : ℕ} → SheetReady s h sheet → x < length sheet → ByteReady s h (getD sheet x 0)
+unfolding sheetEntries
+byte-ready {s} {h} {sheet} {x} given below =
+    record {
+      ready = given .sized .ready;
+      in-range = rw (getD-within sheet x 0 off below) (every-at (length sheet) _ (given .entries) x below);
+    }
+
+pub byte-is :
+    (i : Instance) (sheet : List ℕ) (x b : ℕ) {m prev r : ℕ} → m ≡ i .modules → prev ≡ stateBefore m sheet x → r ≡ byteCost i prev b →
+    r ≡ byteCost i (stateBefore (i .modules) sheet x) b
+byte-is i sheet x b {m} {prev} e f g =
+    let before : prev ≡ stateBefore (i .modules) sheet x = f ∙ ap (λ (n : ℕ). stateBefore n sheet x) e in
+    rw (← before) g
+
+-- a sheet has at most 200 × 1,024 bytes
+pub sheet-short : {s : List ℕ} {h : Header} {sheet : List ℕ} → SheetReady s h sheet → length sheet ≤ 204800
+sheet-short {s} given =
+    let a = given .sized .ready .accepted in
+    omega (arith, given .sized .size, mul-le-mul (modules-range s a .1) (slots-range s a))
+
 -- The three ways through a byte's cost.
 module _ (i : Instance) (prev b : ℕ) where
   pub cost-stopped : b ≡ off → {down r : ℕ} → down ≡ i .powerDown → r ≡ stopCost down prev → r ≡ byteCost i prev b
@@ -49,6 +81,23 @@ module _ (i : Instance) (prev b : ℕ) where
     pub cost-kept : (prev ≡ off → ⊥) → run ≡ byteCost i prev b
     unfolding byteCost stepCost changeCost
     cost-kept n = rw (ne-eqb prev off n, ne-eqb b off active, run-is) (omega arith)
+
+-- the step of any byte is at most 255, and its change to off costs at most the price
+at-most : (b : ℕ) {x y : ℕ} → x ≤ y → cond (isOff b) 0 x ≤ y
+at-most b {x} {y} h = go (isOff b)
+  where
+    go : (t : Bool) → cond t 0 x ≤ y
+    go true = omega arith
+    go false = h
+
+pub byte-small : {b x : ℕ} → Fits w8 b → x ≡ b → x ≤ 255
+byte-small f e = omega arith
+
+pub step-bound : {b : ℕ} → Fits w8 b → stepOf b ≤ 255
+step-bound {b} f = at-most b (omega arith)
+
+pub stop-bound : (row : List ℕ) (k : ℕ) {down most : ℕ} → down ≤ most → stopCost down (getD row k 0) ≤ most
+stop-bound row k h = at-most (getD row k 0) h
 
 -- A byte costs at most 501,000,000.
 module _ (s : List ℕ) (h : Header) (prev b : ℕ) (given : ByteReady s h b) where

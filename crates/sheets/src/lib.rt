@@ -6,10 +6,10 @@ ghost use lib.ListN.{length};
 ghost use Rattle.lists.specs.Lists.{tabulate};
 ghost use Rattle.model.specs.Instance.{instanceOf};
 ghost use Rattle.model.specs.Sheets.{stepOf};
-ghost use Rattle.model.specs.Plans.{moduleByte};
-ghost use Rattle.model.specs.Thesis.{stepUp};
-ghost use Rattle.sheets.specs.Marks.{isEntry, stateBefore, byteCost, stopCost};
-ghost use Rattle.sheets.specs.Asked.{RowFits, SlotReady, ByteReady};
+ghost use Rattle.model.specs.Plans.{moduleByte, planServes};
+ghost use Rattle.model.specs.Thesis.{stepUp, countsCost};
+ghost use Rattle.sheets.specs.Marks.{countsUpTo, isEntry, entriesUpTo, rowLight, stateBefore, byteCost, bytesCost, stopCost, rowStopCost};
+ghost use Rattle.sheets.specs.Asked.{RowFits, SlotReady, PlanSized, PlanReady, ByteReady, RowShort, RowPriced, SheetReady};
 
 fn wide(x: u8) -> u64
     ensures { λ r. ⌜ r ≡ x ⌝ }
@@ -47,6 +47,56 @@ fn slot_cost(card: &[u8], h: Header, prev: u64, n: u64, l: u64) -> u64
     run + price * (n - prev)
 }
 
+// The cost of a plan by its counts.
+pub fn plan_cost(card: &[u8], h: Header, plan: &[u8]) -> u64
+    requires { ⌜ PlanReady (now card) h (now plan) ⌝ }
+    ensures { λ r. ⌜ r ≡ countsCost (instanceOf (now (card .entry))) 0 (now (plan .entry)) ⌝ }
+{
+    let top = h.top;
+    let mut cost: u64 = 0;
+    let mut prev: u64 = 0;
+    let mut t = 0;
+    while t < plan.len() {
+        let n = wide(plan[t]);
+        cost += slot_cost(card, h, prev, n, card::load(card, top, t as u64));
+        prev = n;
+        t += 1;
+    }
+    cost
+}
+
+// Each count of the plan is at most m.
+pub fn plan_in_rack(h: Header, plan: &[u8]) -> bool
+    ensures { λ r. ⌜ r ≡ countsUpTo (h .modules) (now (plan .entry)) ⌝ }
+{
+    let modules = h.modules;
+    let mut t = 0;
+    while t < plan.len() {
+        if modules < wide(plan[t]) {
+            return false;
+        }
+        t += 1;
+    }
+    true
+}
+
+// Each count of the plan can serve its slot's load.
+pub fn plan_serves(card: &[u8], h: Header, plan: &[u8]) -> bool
+    requires { ⌜ PlanSized (now card) h (now plan) ⌝ }
+    ensures { λ r. ⌜ r ≡ planServes (instanceOf (now (card .entry))) (now (plan .entry)) ⌝ }
+{
+    let top = h.top;
+    let mut t = 0;
+    while t < plan.len() {
+        let most = wide(plan[t]) * top;
+        if most < card::load(card, top, t as u64) {
+            return false;
+        }
+        t += 1;
+    }
+    true
+}
+
 // The byte is a step up to top, or off.
 fn is_entry(top: u64, byte: u8) -> bool
     ensures { λ r. ⌜ r ≡ isEntry top byte ⌝ }
@@ -57,6 +107,20 @@ fn is_entry(top: u64, byte: u8) -> bool
     wide(byte) <= top
 }
 
+// Each byte of the sheet is a step up to top, or off.
+pub fn sheet_entries(top: u64, sheet: &[u8]) -> bool
+    ensures { λ r. ⌜ r ≡ entriesUpTo top (now (sheet .entry)) ⌝ }
+{
+    let mut x = 0;
+    while x < sheet.len() {
+        if !is_entry(top, sheet[x]) {
+            return false;
+        }
+        x += 1;
+    }
+    true
+}
+
 // The step of a byte, 0 for off.
 fn step_of(byte: u8) -> u64
     ensures { λ r. ⌜ r ≡ stepOf byte ⌝ }
@@ -65,6 +129,20 @@ fn step_of(byte: u8) -> u64
         return 0;
     }
     wide(byte)
+}
+
+// The steps of a row's active modules, summed.
+fn slot_light(row: &[u8]) -> u64
+    requires { ⌜ RowShort (now row) ⌝ }
+    ensures { λ r. ⌜ r ≡ rowLight (now (row .entry)) ⌝ }
+{
+    let mut light: u64 = 0;
+    let mut k = 0;
+    while k < row.len() {
+        light += step_of(row[k]);
+        k += 1;
+    }
+    light
 }
 
 // The byte of the same module in the slot before, off before the first slot.
@@ -101,4 +179,33 @@ fn byte_cost(card: &[u8], h: Header, prev: u8, byte: u8) -> u64
         return run + h.up;
     }
     run
+}
+
+// The cost of all bytes, each with the change to it.
+fn bytes_cost(card: &[u8], h: Header, sheet: &[u8]) -> u64
+    requires { ⌜ SheetReady (now card) h (now sheet) ⌝ }
+    ensures { λ r. ⌜ r ≡ bytesCost (instanceOf (now (card .entry))) (now (sheet .entry)) ⌝ }
+{
+    let modules = h.modules as usize;
+    let mut cost: u64 = 0;
+    let mut x = 0;
+    while x < sheet.len() {
+        cost += byte_cost(card, h, state_before(sheet, modules, x), sheet[x]);
+        x += 1;
+    }
+    cost
+}
+
+// The price of all changes to off after a row.
+fn row_stop_cost(down: u64, row: &[u8]) -> u64
+    requires { ⌜ RowPriced down (now row) ⌝ }
+    ensures { λ r. ⌜ r ≡ rowStopCost down (now (row .entry)) ⌝ }
+{
+    let mut cost: u64 = 0;
+    let mut k = 0;
+    while k < row.len() {
+        cost += stop_cost(down, row[k]);
+        k += 1;
+    }
+    cost
 }

@@ -1,0 +1,73 @@
+-- A plan's slot: its load can be read, and its count serves it.
+use Prim.Native.Nat.{ℕ, suc, _+_, _*_, _≤_, _<_}
+use mathlib.Core.Path.{_≡_, refl, sym, _∙_}
+use mathlib.Core.Bool.{true, false}
+use mathlib.Core.List.{List}
+use native.Mathlib.Numerals.{add-one}
+use native.Mathlib.Omega.{arith}
+use lib.ListN.{length, getD}
+use borrow.Author.Tests.{leb-true, le-leb, lt-leb}
+use Rattle.lists.specs.Tests.{every-at}
+use Rattle.model.specs.Instance.{Instance, instanceOf, loadPlace}
+use Rattle.model.specs.Counts.{canServe}
+use Rattle.model.specs.Plans.{planServes}
+use Rattle.model.specs.Thesis.{countAt, stepUp}
+use Rattle.card.specs.declared.Header.{Header}
+use Rattle.card.specs.Reading.{Within}
+use Rattle.card.specs.Checking.{Ready}
+use Rattle.card.proofs.Room.{load-within}
+use Rattle.counts.specs.Serving.{Served}
+use Rattle.sheets.specs.Asked.{PlanSized, PlanReady, SlotReady}
+use Rattle.sheets.proofs.Slots.{slot-most}
+
+-- a place in the plan is a slot
+pub in-slots : {s : List ℕ} {h : Header} {p : List ℕ} {t : ℕ} → PlanSized s h p → t < length p → t < instanceOf s .slots
+in-slots given below = omega (arith, given .slotwise)
+
+pub no-more-slots : {s : List ℕ} {h : Header} {p : List ℕ} {t : ℕ} → PlanSized s h p → length p ≤ t → instanceOf s .slots ≤ t
+no-more-slots given past = omega (arith, given .slotwise)
+
+pub load-there : {s : List ℕ} {h : Header} {t : ℕ} → Ready s h → t < instanceOf s .slots → Within s (loadPlace (h .top) t) 2
+load-there {s} {h} {t} given below = rw (given .header .top-is) (load-within s (given .accepted) t below)
+
+-- the test of a count against a load
+module _ (i : Instance) (n l : ℕ) {x y top : ℕ} (x-is : x ≡ n) (y-is : y ≡ l) (top-is : top ≡ i .topStep) where
+  pub serve-failed : x * top < y → canServe i n l ≡ false
+  unfolding canServe
+  serve-failed h = rw (← x-is, ← y-is, ← top-is) (lt-leb y (x * top) h)
+
+  pub serve-passed : y ≤ x * top → canServe i n l ≡ true
+  unfolding canServe
+  serve-passed h = rw (← x-is, ← y-is, ← top-is) (le-leb y (x * top) h)
+
+-- the cost of slot t by counts
+abbrev pub slotAt : Instance → List ℕ → ℕ → ℕ
+slotAt i p t = stepUp i (countAt 0 p t) (countAt 0 p (suc t)) (i .load t)
+
+module _ {s : List ℕ} {h : Header} {p : List ℕ} (given : PlanReady s h p) where
+  served-at : (t : ℕ) → t < instanceOf s .slots → Served s (getD p t 0) (instanceOf s .load t)
+  unfolding planServes canServe
+  served-at t below =
+      record {
+        accepted = given .sized .ready .accepted;
+        in-rack = given .in-rack t below;
+        serves = leb-true _ _ (every-at (instanceOf s .slots) _ (given .served) t below);
+      }
+
+  pub slot-ready : {t n l : ℕ} → t < instanceOf s .slots → n ≡ getD p t 0 → l ≡ instanceOf s .load t → SlotReady s h n l
+  slot-ready {t} below e f = record { ready = given .sized .ready; served = rw (e, f) (served-at t below) }
+
+  pub slot-at-most : (t : ℕ) → t < instanceOf s .slots → slotAt (instanceOf s) p t ≤ 200200000000
+  unfolding countAt
+  slot-at-most t below = slot-most (served-at t below) (countAt 0 p t)
+
+-- one slot's cost from what the loop has at hand, and the count that it keeps for the next
+pub slot-is :
+    (i : Instance) (p : List ℕ) {t prev n l r : ℕ} → prev ≡ countAt 0 p t → n ≡ getD p t 0 → l ≡ i .load t → r ≡ stepUp i prev n l →
+    r ≡ slotAt i p t
+unfolding countAt
+slot-is i p {t} e f g k = rw (← e, ← f, ← g) k
+
+pub count-next : (p : List ℕ) (t : ℕ) {n : ℕ} → n ≡ getD p t 0 → n ≡ countAt 0 p (t + 1)
+unfolding countAt
+count-next p t e = rw (add-one t) e
