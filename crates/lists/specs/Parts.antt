@@ -6,7 +6,7 @@ use mathlib.Core.List.{List, [], _∷_, _++_, append-assoc}
 use lib.ListN.{length, getD, take, drop, replicate, length-append, length-drop, length-replicate, getD-replicate, List·getD-append}
 use lib.Seq.{length-take-le, take-at, drop-append-add, drop-drop, getD-append-add, getD-take, getD-drop}
 use borrow.Rule.Slice.PartMut.{midOf, putMid, post-is, mid-len, same-len-mid, take-put, drop-put}
-use native.Mathlib.Nat.{not-suc-le-zero, sub-zero, le-dest}
+use native.Mathlib.Nat.{not-suc-le-zero, sub-zero, add-sub-cancel-left, le-dest, mul-le-mul-left}
 use native.Mathlib.Numerals.{add-one}
 use native.Mathlib.Omega.{arith}
 use Rattle.lists.specs.Numbers.{le-or-lt}
@@ -18,6 +18,10 @@ pub getD-within : (l : List ℕ) (k d e : ℕ) → k < length l → getD l k d �
 getD-within [] k d e h = absurd (not-suc-le-zero h)
 getD-within (x ∷ l) zero d e h = refl
 getD-within (x ∷ l) (suc k) d e h = getD-within l k d e (omega arith)
+
+-- the length of the part of m entries from a on
+pub part-length : (a m : ℕ) (l : List ℕ) → a + m ≤ length l → length (midOf a (a + m - a) l) ≡ m
+part-length a m l h = mid-len a (a + m) l h ∙ add-sub-cancel-left a m
 
 -- entry k of the part from a to e
 pub part-at : (a e : ℕ) (l : List ℕ) (k d : ℕ) → k < e - a → getD (midOf a (e - a) l) k d ≡ getD l (a + k) d
@@ -80,6 +84,10 @@ pub tabulate-same : (n : ℕ) {f : ℕ → ℕ} {x : ℕ} → ((k : ℕ) → k <
 unfolding tabulate
 tabulate-same zero h = refl
 tabulate-same (suc n) h = rw (h 0 (omega arith), tabulate-same n (λ k g. h (suc k) (omega arith)))
+
+-- row t of n rows of length m lies inside
+pub row-within : (m : ℕ) {n t size : ℕ} → t < n → m * n ≤ size → t * m + m ≤ size
+row-within m {n} {t} {size} h g = omega (arith, mul-le-mul-left m h)
 
 -- Filling row by row: n rows of length m stand at the front, the rest is as it was.
 module _ (m n : ℕ) (f : ℕ → List ℕ) (even : (t : ℕ) → length (f t) ≡ m) (old : List ℕ) where

@@ -1,5 +1,5 @@
 -- A sheet's byte: whether it is an entry, its step and its cost.
-use Prim.Native.Nat.{ℕ, _+_, _≤_, _<_}
+use Prim.Native.Nat.{ℕ, _+_, _*_, _≤_, _<_}
 use mathlib.Core.Path.{_≡_, ap, _∙_}
 use mathlib.Core.Bool.{Bool, true, false, cond, _||_, or-true, or-false}
 use mathlib.Core.List.{List}
@@ -16,8 +16,9 @@ use Rattle.lists.specs.Tests.{every-at}
 use Rattle.lists.specs.Parts.{getD-within}
 use Rattle.model.specs.Instance.{Instance, instanceOf}
 use Rattle.model.specs.Sheets.{off, isOff, stepOf, sheetEntries, stepCost, changeCost}
+use Rattle.model.specs.declared.Answer.the-variants.{Cost}
+use Rattle.model.specs.Calls.{checkCard, answer}
 use Rattle.card.specs.declared.Header.{Header}
-use Rattle.card.specs.Checking.{Ready}
 use Rattle.laws.specs.Acceptance.{modules-range, slots-range, table-range, up-range, down-range}
 use Rattle.sheets.specs.Marks.{isEntry, stateBefore, byteCost, stopCost}
 use Rattle.sheets.specs.Asked.{ByteReady, SheetReady}
@@ -62,10 +63,11 @@ byte-is i sheet x b {m} {prev} e f g =
     rw (← before) g
 
 -- a sheet has at most 200 × 1,024 bytes
+pub area-small : (s : List ℕ) → answer (checkCard s) ≡ Cost 0 → instanceOf s .modules * instanceOf s .slots ≤ 204800
+area-small s accepted = mul-le-mul (modules-range s accepted .1) (slots-range s accepted)
+
 pub sheet-short : {s : List ℕ} {h : Header} {sheet : List ℕ} → SheetReady s h sheet → length sheet ≤ 204800
-sheet-short {s} given =
-    let a = given .sized .ready .accepted in
-    omega (arith, given .sized .size, mul-le-mul (modules-range s a .1) (slots-range s a))
+sheet-short {s} given = omega (arith, given .sized .size, area-small s (given .sized .ready .accepted))
 
 -- The three ways through a byte's cost.
 module _ (i : Instance) (prev b : ℕ) where

@@ -1,13 +1,16 @@
 -- A plan's slot: its load can be read, and its count serves it.
-use Prim.Native.Nat.{ℕ, suc, _+_, _*_, _≤_, _<_}
-use mathlib.Core.Path.{_≡_, refl, sym, _∙_}
+use Prim.Native.Nat.{ℕ, suc, _+_, _-_, _*_, _≤_, _<_}
+use mathlib.Core.Path.{_≡_}
 use mathlib.Core.Bool.{true, false}
 use mathlib.Core.List.{List}
+use native.Mathlib.Nat.{mul-le-mul-left}
 use native.Mathlib.Numerals.{add-one}
 use native.Mathlib.Omega.{arith}
 use lib.ListN.{length, getD}
 use borrow.Author.Tests.{leb-true, le-leb, lt-leb}
+use borrow.Rule.Slice.PartMut.{midOf}
 use Rattle.lists.specs.Tests.{every-at}
+use Rattle.lists.specs.Parts.{part-length, row-within}
 use Rattle.model.specs.Instance.{Instance, instanceOf, loadPlace}
 use Rattle.model.specs.Counts.{canServe}
 use Rattle.model.specs.Plans.{planServes}
@@ -16,8 +19,10 @@ use Rattle.card.specs.declared.Header.{Header}
 use Rattle.card.specs.Reading.{Within}
 use Rattle.card.specs.Checking.{Ready}
 use Rattle.card.proofs.Room.{load-within}
+use Rattle.laws.specs.Acceptance.{modules-range, top-range}
 use Rattle.counts.specs.Serving.{Served}
-use Rattle.sheets.specs.Asked.{PlanSized, PlanReady, SlotReady}
+use Rattle.sheets.specs.Asked.{RowFits, PlanSized, PlanReady, SlotReady, RowShort}
+use Rattle.sheets.proofs.Bytes.{area-small}
 use Rattle.sheets.proofs.Slots.{slot-most}
 
 -- a place in the plan is a slot
@@ -26,6 +31,24 @@ in-slots given below = omega (arith, given .slotwise)
 
 pub no-more-slots : {s : List ℕ} {h : Header} {p : List ℕ} {t : ℕ} → PlanSized s h p → length p ≤ t → instanceOf s .slots ≤ t
 no-more-slots given past = omega (arith, given .slotwise)
+
+pub in-header : {s : List ℕ} {h : Header} {t : ℕ} → Ready s h → t < h .slots → t < instanceOf s .slots
+in-header given below = omega (arith, given .header .slots-is)
+
+pub past-header : {s : List ℕ} {h : Header} {t : ℕ} → Ready s h → h .slots ≤ t → instanceOf s .slots ≤ t
+past-header given past = omega (arith, given .header .slots-is)
+
+-- the row of slot t lies inside an area of m × T bytes, which are at most 200 × 1,024
+pub row-there : {s : List ℕ} {h : Header} {t size : ℕ} → Ready s h → t < instanceOf s .slots →
+    instanceOf s .modules * instanceOf s .slots ≤ size → t * h .modules + h .modules ≤ size
+row-there {s} given below room = rw (given .header .modules-is) (row-within (instanceOf s .modules) below room)
+
+pub row-small : {s : List ℕ} {h : Header} {t : ℕ} → Ready s h → t < instanceOf s .slots → t * h .modules + h .modules ≤ 204800
+row-small {s} given below = row-there given below (area-small s (given .accepted))
+
+pub row-short : {s : List ℕ} {h : Header} (l : List ℕ) (a : ℕ) → Ready s h → a + h .modules ≤ length l → RowShort (midOf a (a + h .modules - a) l)
+row-short {s} {h} l a given inside =
+    record { short = omega (arith, part-length a (h .modules) l inside, given .header .modules-is, modules-range s (given .accepted) .1) }
 
 pub load-there : {s : List ℕ} {h : Header} {t : ℕ} → Ready s h → t < instanceOf s .slots → Within s (loadPlace (h .top) t) 2
 load-there {s} {h} {t} given below = rw (given .header .top-is) (load-within s (given .accepted) t below)
@@ -67,6 +90,17 @@ pub slot-is :
     r ≡ slotAt i p t
 unfolding countAt
 slot-is i p {t} e f g k = rw (← e, ← f, ← g) k
+
+-- a slot's row has room for its count
+pub row-fits :
+    {s : List ℕ} {h : Header} {p : List ℕ} {t n load : ℕ} (l : List ℕ) (a : ℕ) → PlanReady s h p → t < instanceOf s .slots → a + h .modules ≤ length l →
+    n ≡ getD p t 0 → load ≡ instanceOf s .load t → RowFits (midOf a (a + h .modules - a) l) n load
+row-fits {s} {h} {p} {t} {n} {load} l a given below inside e f =
+    let slot = slot-ready given below e f .served in
+    record {
+      in-row = omega (arith, part-length a (h .modules) l inside, given .sized .ready .header .modules-is, slot .in-rack);
+      serves = omega (arith, slot .serves, mul-le-mul-left n (top-range s (given .sized .ready .accepted) .1));
+    }
 
 pub count-next : (p : List ℕ) (t : ℕ) {n : ℕ} → n ≡ getD p t 0 → n ≡ countAt 0 p (t + 1)
 unfolding countAt

@@ -2,14 +2,15 @@
 use card::Header;
 ghost use mathlib.Core.Path.{_≡_};
 ghost use Prim.Native.Nat.{_<_};
-ghost use lib.ListN.{length};
+ghost use mathlib.Core.List.{_++_};
+ghost use lib.ListN.{length, drop};
 ghost use Rattle.lists.specs.Lists.{tabulate};
 ghost use Rattle.model.specs.Instance.{instanceOf};
-ghost use Rattle.model.specs.Sheets.{stepOf};
-ghost use Rattle.model.specs.Plans.{moduleByte, planServes};
+ghost use Rattle.model.specs.Sheets.{stepOf, sheetLight, sheetCost};
+ghost use Rattle.model.specs.Plans.{moduleByte, sheetOf, planServes};
 ghost use Rattle.model.specs.Thesis.{stepUp, countsCost};
 ghost use Rattle.sheets.specs.Marks.{countsUpTo, isEntry, entriesUpTo, rowLight, stateBefore, byteCost, bytesCost, stopCost, rowStopCost};
-ghost use Rattle.sheets.specs.Asked.{RowFits, SlotReady, PlanSized, PlanReady, ByteReady, RowShort, RowPriced, SheetReady};
+ghost use Rattle.sheets.specs.Asked.{RowFits, SlotReady, PlanSized, PlanReady, SheetRoom, ByteReady, RowShort, RowPriced, SheetSized, SheetReady};
 
 fn wide(x: u8) -> u64
     ensures { λ r. ⌜ r ≡ x ⌝ }
@@ -32,6 +33,25 @@ fn fill_slot(row: &mut [u8], n: u64, l: u64)
     buffers::fill(&mut row[..rest], step + 1);
     buffers::fill(&mut row[rest..active], step);
     buffers::fill(&mut row[active..], 255);
+}
+
+// The sheet of a plan, slot by slot.
+pub fn write_sheet(card: &[u8], h: Header, plan: &[u8], sheet: &mut [u8])
+    requires { ⌜ PlanReady (now card) h (now plan) ⌝ }
+    requires { ⌜ SheetRoom (now card) (now sheet) ⌝ }
+    ensures { λ _. ⌜ now (sheet .exit) ≡ sheetOf (instanceOf (now (card .entry))) (now (plan .entry)) ++ drop (length (sheetOf (instanceOf (now (card .entry))) (now (plan .entry)))) (now (sheet .entry)) ⌝ }
+{
+    let modules = h.modules as usize;
+    let top = h.top;
+    let mut t = 0;
+    while t < plan.len() {
+        let n = wide(plan[t]);
+        let l = card::load(card, top, t as u64);
+        let start = t * modules;
+        let end = start + modules;
+        fill_slot(&mut sheet[start..end], n, l);
+        t += 1;
+    }
 }
 
 // The cost of a slot by counts, where prev modules were active before it.
@@ -145,6 +165,27 @@ fn slot_light(row: &[u8]) -> u64
     light
 }
 
+// In every slot the steps of the active modules sum to the load.
+pub fn sheet_light(card: &[u8], h: Header, sheet: &[u8]) -> bool
+    requires { ⌜ SheetSized (now card) h (now sheet) ⌝ }
+    ensures { λ r. ⌜ r ≡ sheetLight (instanceOf (now (card .entry))) (now (sheet .entry)) ⌝ }
+{
+    let modules = h.modules as usize;
+    let slots = h.slots as usize;
+    let top = h.top;
+    let mut t = 0;
+    while t < slots {
+        let start = t * modules;
+        let end = start + modules;
+        let light = slot_light(&sheet[start..end]);
+        if light != card::load(card, top, t as u64) {
+            return false;
+        }
+        t += 1;
+    }
+    true
+}
+
 // The byte of the same module in the slot before, off before the first slot.
 fn state_before(sheet: &[u8], modules: usize, x: usize) -> u8
     requires { ⌜ x < length (now sheet) ⌝ }
@@ -208,4 +249,17 @@ fn row_stop_cost(down: u64, row: &[u8]) -> u64
         k += 1;
     }
     cost
+}
+
+// The cost of a sheet: of its bytes, and of the changes to off after the last slot.
+pub fn sheet_cost(card: &[u8], h: Header, sheet: &[u8]) -> u64
+    requires { ⌜ SheetReady (now card) h (now sheet) ⌝ }
+    ensures { λ r. ⌜ r ≡ sheetCost (instanceOf (now (card .entry))) (now (sheet .entry)) ⌝ }
+{
+    if h.slots == 0 {
+        return 0;
+    }
+    let cost = bytes_cost(card, h, sheet);
+    let last = ((h.slots - 1) * h.modules) as usize;
+    cost + row_stop_cost(h.down, &sheet[last..])
 }
