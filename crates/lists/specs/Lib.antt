@@ -5,9 +5,11 @@ pub mod Division
 pub mod Rising
 pub mod Tests
 pub mod Sums
+pub mod Summing
 pub mod Lists
 pub mod Members
 pub mod Bytes
 pub mod Filling
 pub mod Prefixes
 pub mod Searching
+pub mod Parts

@@ -1,7 +1,7 @@
 -- Sums of a function over the indices below a bound.
 use Prim.Native.Nat.{ℕ, zero, suc, _+_, _*_, _≤_, _<_}
 use mathlib.Core.Path.{_≡_, refl}
-use native.Mathlib.Nat.{add-suc, add-zero, zero-add, le-refl}
+use native.Mathlib.Nat.{add-suc, add-zero, zero-add, suc-mul, zero-mul, le-refl}
 use native.Mathlib.Omega.{arith}
 
 -- f 0 + .. + f (n - 1)
@@ -41,3 +41,20 @@ sum-from a (suc d) b e h =
 pub sum-const : (n : ℕ) {f : ℕ → ℕ} {c : ℕ} → ((k : ℕ) → k < n → f k ≡ c) → sum n f ≡ n * c
 unfolding sum
 sum-const n h = omega (arith, sum-from 0 n n (zero-add n) (λ k g. h k))
+
+pub sum-at-most : (n : ℕ) {f : ℕ → ℕ} {c : ℕ} → ((k : ℕ) → k < n → f k ≤ c) → sum n f ≤ n * c
+unfolding sum
+sum-at-most zero h = omega arith
+sum-at-most (suc n) h = omega (arith, sum-at-most n (λ k l. h k (omega arith)), h n (omega arith))
+
+-- the first a terms and the b after them
+pub sum-join : (a b : ℕ) (f : ℕ → ℕ) → sum (a + b) f ≡ sum a f + sum b (λ k. f (a + k))
+unfolding sum
+sum-join a zero f = rw (add-zero a) (omega arith)
+sum-join a (suc b) f = rw (add-suc a b) (omega (arith, sum-join a b f))
+
+-- n blocks of m terms
+pub sum-blocks : (n m : ℕ) (f : ℕ → ℕ) → sum n (λ t. sum m (λ k. f (t * m + k))) ≡ sum (n * m) f
+unfolding sum
+sum-blocks zero m f = rw (zero-mul m)
+sum-blocks (suc n) m f = rw (suc-mul n m) (omega (arith, sum-blocks n m f, sum-join (n * m) m f))

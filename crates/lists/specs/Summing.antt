@@ -1,0 +1,29 @@
+-- A loop that adds one term a turn: after k of n turns the total is the sum of the first k terms.
+use Prim.Native.Nat.{ℕ, _+_, _*_, _≤_, _<_}
+use mathlib.Core.Path.{_≡_, refl}
+use native.Mathlib.Nat.{mul-le-mul-right}
+use native.Mathlib.Numerals.{add-one}
+use native.Mathlib.Omega.{arith}
+use Rattle.lists.specs.Sums.{sum, sum-at-most}
+
+pub record Summed (n : ℕ) (f : ℕ → ℕ) (k total : ℕ) : Type 0 where
+  pub within : k ≤ n
+  pub so-far : total ≡ sum k f
+
+pub summed-none : (n : ℕ) (f : ℕ → ℕ) → Summed n f 0 0
+unfolding sum
+summed-none n f = record { within = omega arith; so-far = refl }
+
+pub summed-more : {n k x y : ℕ} {f : ℕ → ℕ} → Summed n f k x → k < n → y ≡ f k → Summed n f (k + 1) (x + y)
+unfolding sum
+summed-more {n} {k} {x} {y} {f} s h e = record { within = omega arith; so-far = rw (add-one k) (omega (arith, s .so-far)) }
+
+pub summed-all : {n k x : ℕ} {f : ℕ → ℕ} → Summed n f k x → n ≤ k → x ≡ sum n f
+summed-all {n} {k} {x} {f} s h = let same : n ≡ k = omega arith in rw same (s .so-far)
+
+-- where each term is at most c, one more total is at most n * c
+pub summed-room :
+    {n k x y c : ℕ} {f : ℕ → ℕ} → Summed n f k x → k < n → y ≡ f k → ((j : ℕ) → j < n → f j ≤ c) → x + y ≤ n * c
+summed-room {n} {k} {x} {y} {c} {f} s h e bound =
+    let sofar = sum-at-most k (λ j g. bound j (omega arith)) in
+    omega (arith, s .so-far, bound k h, mul-le-mul-right c h)

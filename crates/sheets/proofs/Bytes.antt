@@ -1,0 +1,126 @@
+-- A sheet's byte: whether it is an entry, its step and its cost.
+use Prim.Native.Nat.{ℕ, _+_, _*_, _≤_, _<_}
+use mathlib.Core.Path.{_≡_, ap, _∙_}
+use mathlib.Core.Bool.{Bool, true, false, cond, _||_, or-true, or-false}
+use mathlib.Core.List.{List}
+use mathlib.Core.Logic.{⊎-elim}
+use native.Mathlib.Nat.{mul-le-mul}
+use native.Mathlib.Omega.{arith}
+use lib.ListN.{length, getD}
+use lib.Dec.{leb}
+use mir.Syntax.{w8}
+use mir.Val.{Fits}
+use borrow.Author.Tests.{leb-true, eq-eqb, ne-eqb, eqb-true, eqb-false}
+use Rattle.lists.specs.Numbers.{true-or-false}
+use Rattle.lists.specs.Tests.{every-at}
+use Rattle.lists.specs.Parts.{getD-within}
+use Rattle.model.specs.Instance.{Instance, instanceOf}
+use Rattle.model.specs.Sheets.{off, isOff, stepOf, sheetEntries, stepCost, changeCost}
+use Rattle.model.specs.declared.Answer.the-variants.{Cost}
+use Rattle.model.specs.Calls.{checkCard, answer}
+use Rattle.card.specs.declared.Header.{Header}
+use Rattle.laws.specs.Acceptance.{modules-range, slots-range, table-range, up-range, down-range}
+use Rattle.sheets.specs.Marks.{isEntry, stateBefore, byteCost, stopCost}
+use Rattle.sheets.specs.Asked.{ByteReady, SheetReady}
+
+module _ {b : ℕ} (is-off : b ≡ off) where
+  pub off-entry : (top : ℕ) → true ≡ isEntry top b
+  off-entry top = rw (eq-eqb b off is-off, or-true (leb b top))
+
+  -- what only active modules have
+  pub off-none : (x : ℕ) → 0 ≡ cond (isOff b) 0 x
+  off-none x = rw (eq-eqb b off is-off)
+
+module _ {b : ℕ} (active : b ≡ off → ⊥) where
+  pub active-entry : (top : ℕ) {x : ℕ} → x ≡ b → leb x top ≡ isEntry top b
+  active-entry top {x} e = rw (ne-eqb b off active, or-false (leb b top), e)
+
+  pub active-all : (x : ℕ) → x ≡ cond (isOff b) 0 x
+  active-all x = rw (ne-eqb b off active)
+
+  -- the step of an active module is at most the top step
+  pub active-step : (top : ℕ) → isEntry top b ≡ true → b ≤ top
+  active-step top e = leb-true b top (rw (ne-eqb b off active, or-false (leb b top)) at e)
+
+-- a byte of a sheet, read inside it
+pub entry-read :
+    (top : ℕ) (sheet : List ℕ) {x : ℕ} {t : Bool} → x < length sheet → isEntry top (getD sheet x 0) ≡ t → isEntry top (getD sheet x off) ≡ t
+entry-read top sheet {x} h e = rw (getD-within sheet x off 0 h) e
+
+pub byte-ready : {s : List ℕ} {h : Header} {sheet : List ℕ} {x : ℕ} → SheetReady s h sheet → x < length sheet → ByteReady s h (getD sheet x 0)
+unfolding sheetEntries
+byte-ready {s} {h} {sheet} {x} given below =
+    record {
+      ready = given .sized .ready;
+      in-range = rw (getD-within sheet x 0 off below) (every-at (length sheet) _ (given .entries) x below);
+    }
+
+pub byte-is :
+    (i : Instance) (sheet : List ℕ) (x b : ℕ) {m prev r : ℕ} → m ≡ i .modules → prev ≡ stateBefore m sheet x → r ≡ byteCost i prev b →
+    r ≡ byteCost i (stateBefore (i .modules) sheet x) b
+byte-is i sheet x b {m} {prev} e f g =
+    let before : prev ≡ stateBefore (i .modules) sheet x = f ∙ ap (λ (n : ℕ). stateBefore n sheet x) e in
+    rw (← before) g
+
+-- a sheet has at most 200 × 1,024 bytes
+pub area-small : (s : List ℕ) → answer (checkCard s) ≡ Cost 0 → instanceOf s .modules * instanceOf s .slots ≤ 204800
+area-small s accepted = mul-le-mul (modules-range s accepted .1) (slots-range s accepted)
+
+pub sheet-short : {s : List ℕ} {h : Header} {sheet : List ℕ} → SheetReady s h sheet → length sheet ≤ 204800
+sheet-short {s} given = omega (arith, given .sized .size, area-small s (given .sized .ready .accepted))
+
+-- The three ways through a byte's cost.
+module _ (i : Instance) (prev b : ℕ) where
+  pub cost-stopped : b ≡ off → {down r : ℕ} → down ≡ i .powerDown → r ≡ stopCost down prev → r ≡ byteCost i prev b
+  unfolding byteCost stepCost changeCost
+  cost-stopped is-off p e = rw (eq-eqb b off is-off, e, p) (omega arith)
+
+  module _ (active : b ≡ off → ⊥) {run : ℕ} (run-is : run ≡ i .table b) where
+    pub cost-started : prev ≡ off → {up : ℕ} → up ≡ i .powerUp → run + up ≡ byteCost i prev b
+    unfolding byteCost stepCost changeCost
+    cost-started e p = rw (eq-eqb prev off e, ne-eqb b off active, run-is, p)
+
+    pub cost-kept : (prev ≡ off → ⊥) → run ≡ byteCost i prev b
+    unfolding byteCost stepCost changeCost
+    cost-kept n = rw (ne-eqb prev off n, ne-eqb b off active, run-is) (omega arith)
+
+-- the step of any byte is at most 255, and its change to off costs at most the price
+at-most : (b : ℕ) {x y : ℕ} → x ≤ y → cond (isOff b) 0 x ≤ y
+at-most b {x} {y} h = go (isOff b)
+  where
+    go : (t : Bool) → cond t 0 x ≤ y
+    go true = omega arith
+    go false = h
+
+pub byte-small : {b x : ℕ} → Fits w8 b → x ≡ b → x ≤ 255
+byte-small f e = omega arith
+
+pub step-bound : {b : ℕ} → Fits w8 b → stepOf b ≤ 255
+step-bound {b} f = at-most b (omega arith)
+
+pub stop-bound : (row : List ℕ) (k : ℕ) {down most : ℕ} → down ≤ most → stopCost down (getD row k 0) ≤ most
+stop-bound row k h = at-most (getD row k 0) h
+
+-- A byte costs at most 501,000,000.
+module _ (s : List ℕ) (h : Header) (prev b : ℕ) (given : ByteReady s h b) where
+  step-most : stepCost (instanceOf s) b ≤ 1000000
+  unfolding stepCost
+  step-most =
+      ⊎-elim
+      (λ (t : isOff b ≡ true). rw t (omega arith))
+      (λ (t : isOff b ≡ false). rw t (table-range s (given .ready .accepted) b (active-step (eqb-false b off t) _ (given .in-range))))
+      (true-or-false (isOff b))
+
+  change-most : changeCost (instanceOf s) prev b ≤ 500000000
+  unfolding changeCost
+  change-most = go (isOff prev) (isOff b)
+    where
+      go : (x y : Bool) → cond x (cond y 0 (instanceOf s .powerUp)) (cond y (instanceOf s .powerDown) 0) ≤ 500000000
+      go true true = omega arith
+      go true false = up-range s (given .ready .accepted)
+      go false true = down-range s (given .ready .accepted)
+      go false false = omega arith
+
+  pub byte-most : byteCost (instanceOf s) prev b ≤ 501000000
+  unfolding byteCost
+  byte-most = omega (arith, step-most, change-most)

@@ -1,0 +1,7 @@
+pub mod Row
+pub mod Bytes
+pub mod Slots
+pub mod Loads
+pub mod Filled
+pub mod States
+pub mod Totals

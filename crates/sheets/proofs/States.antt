@@ -1,0 +1,53 @@
+-- The bytes of a sheet of m × T bytes are its states, slot by slot and module by module.
+use Prim.Native.Nat.{ℕ, zero, suc, _+_, _-_, _*_, _≤_, _<_}
+use mathlib.Core.Path.{_≡_, refl, ap, sym, _∙_}
+use mathlib.Core.Bool.{true, false}
+use mathlib.Core.List.{List}
+use native.Mathlib.Omega.{arith}
+use lib.ListN.{length, getD}
+use lib.Arith.{digits-lt}
+use lib.Dec.{eqb}
+use borrow.Author.Tests.{lt-ltb, le-ltb, eq-eqb, ne-eqb}
+use borrow.Rule.Slice.PartMut.{midOf}
+use Rattle.lists.specs.Sums.{sum, sum-ext}
+use Rattle.lists.specs.Parts.{getD-within, part-length, part-at, row-within}
+use Rattle.model.specs.Instance.{Instance}
+use Rattle.model.specs.Sheets.{stepOf, stateAt, lightAt}
+use Rattle.sheets.specs.Marks.{rowLight, stateBefore}
+
+module _ (i : Instance) (s : List ℕ) (size : length s ≡ i .modules * i .slots) where
+  place-within : (t k : ℕ) → t < i .slots → k < i .modules → t * i .modules + k < length s
+  place-within t k h g = omega (arith, size, digits-lt h g)
+
+  pub state-is : (t k : ℕ) → t < i .slots → k < i .modules → stateAt i s (suc t) k ≡ getD s (t * i .modules + k) 0
+  unfolding stateAt
+  state-is t k h g = rw (lt-ltb t (i .slots) h) (getD-within s (t * i .modules + k) _ 0 (place-within t k h g))
+
+  pub before-is : (t k : ℕ) → t < i .slots → k < i .modules → stateBefore (i .modules) s (t * i .modules + k) ≡ stateAt i s t k
+  unfolding stateBefore stateAt
+  before-is zero k h g =
+      let first : zero * i .modules + k < i .modules = omega arith in
+      rw (lt-ltb (zero * i .modules + k) (i .modules) first)
+  before-is (suc t) k h g =
+      let later : i .modules ≤ suc t * i .modules + k = omega arith in
+      let place : suc t * i .modules + k - i .modules ≡ t * i .modules + k = omega arith in
+      rw (le-ltb (suc t * i .modules + k) (i .modules) later, place) (sym (state-is t k (omega arith) g))
+
+  -- a row's light, and the test of it
+  pub row-light-is : {m t : ℕ} → m ≡ i .modules → t < i .slots → rowLight (midOf (t * m) (t * m + m - t * m) s) ≡ lightAt i s (suc t)
+  unfolding rowLight lightAt
+  row-light-is {m} {t} m-is h =
+      rw m-is
+      (ap (λ (x : ℕ). sum x (λ k. stepOf (getD (midOf (t * i .modules) (t * i .modules + i .modules - t * i .modules) s) k 0))) count ∙
+      sum-ext (i .modules) (λ k g. ap stepOf (part-at _ _ s k 0 (omega arith) ∙ sym (state-is t k h g))))
+    where
+      count : length (midOf (t * i .modules) (t * i .modules + i .modules - t * i .modules) s) ≡ i .modules
+      count = part-length _ _ s (row-within (i .modules) h (omega (arith, size)))
+
+  module _ {m t x y : ℕ} (m-is : m ≡ i .modules) (below : t < i .slots)
+      (x-is : x ≡ rowLight (midOf (t * m) (t * m + m - t * m) s)) (y-is : y ≡ i .load t) where
+    pub light-failed : (x ≡ y → ⊥) → eqb (lightAt i s (suc t)) (i .load t) ≡ false
+    light-failed h = rw (← row-light-is m-is below, ← x-is, ← y-is) (ne-eqb x y h)
+
+    pub light-passed : x ≡ y → eqb (lightAt i s (suc t)) (i .load t) ≡ true
+    light-passed h = rw (← row-light-is m-is below, ← x-is, ← y-is) (eq-eqb x y h)

@@ -1,0 +1,68 @@
+use Prim.Native.Nat.{_-_}
+use native.Mathlib.Omega.{arith}
+use lib.ListN.{length, getD}
+use lib.Dec.{leb}
+use borrow.Author.Tests.{le-leb, lt-leb}
+use borrow.Author.Needs.{needs}
+use Rattle.lists.specs.Tests.{Passed, passed-none, passed-more, passed-all, passed-not}
+use Rattle.sheets.specs.Marks.{countsUpTo}
+use Rattle.sheets.proofs.plan_in_rack.Statement.{statement}
+use Rattle.sheets.proofs.plan_in_rack.Tie as tie
+use Rattle.sheets.proofs.plan_in_rack.Reads as reads
+use Rattle.sheets.proofs.plan_in_rack.Lts as lts
+use Rattle.sheets.proofs.wide.Reads as wide-reads
+
+abbrev Inv-loop : tie.InvT-loop
+Inv-loop plan modules t₀ t = Passed (length plan) (λ u. leb (getD plan u 0) modules) t
+
+abbrev μ-loop : tie.MeasureT-loop
+μ-loop plan modules t₀ t = length plan - t
+
+-- src/lib.rt:74:5
+loop-holds : tie.Need-loop-holds Inv-loop μ-loop
+loop-holds c = passed-none _ _
+
+-- src/lib.rt:75:27
+shared-slice-read-wide : tie.Need-shared-slice-read-wide Inv-loop μ-loop
+shared-slice-read-wide c = omega arith
+
+-- src/lib.rt:75:22
+wide-requires : tie.Need-wide-requires Inv-loop μ-loop
+wide-requires c κs = search needs
+
+-- src/lib.rt:76:13
+returns : tie.Need-returns Inv-loop μ-loop
+unfolding countsUpTo
+returns c = passed-not (c .before .before .before .before .loop .inv) (c .before .before .before .loop-test .taken) (rw (← (c .before .wide .ensures)) (lt-leb _ _ (c .if1 .taken)))
+
+-- src/lib.rt:78:9
+add-t : tie.Need-add-t Inv-loop μ-loop
+add-t c = omega arith
+
+-- src/lib.rt:74:5
+loop-less : tie.Need-loop-less Inv-loop μ-loop
+loop-less c = omega arith
+
+-- src/lib.rt:74:5
+loop-again : tie.Need-loop-again Inv-loop μ-loop
+loop-again c = passed-more (c .before .before .before .before .loop .inv) (c .before .before .before .loop-test .taken) (rw (← (c .before .wide .ensures)) (le-leb _ _ (c .if1 .left)))
+
+-- src/lib.rt:69:1
+returns-2 : tie.Need-returns-2 Inv-loop μ-loop
+unfolding countsUpTo
+returns-2 c = passed-all (c .before .loop .inv) (c .loop-test .left)
+
+pub plan-in-rack-spec : {M : Type 1} → statement M
+plan-in-rack-spec =
+    tie.close
+    (tie.spec
+    Inv-loop
+    μ-loop
+    loop-holds
+    shared-slice-read-wide
+    wide-requires
+    returns
+    add-t
+    loop-less
+    loop-again
+    returns-2)

@@ -1,0 +1,72 @@
+use Prim.Native.Nat.{_-_}
+use native.Mathlib.Omega.{arith}
+use lib.ListN.{length, getD}
+use borrow.Author.Needs.{needs}
+use Rattle.lists.specs.Summing.{Summed, summed-none, summed-more, summed-all, summed-room}
+use Rattle.sheets.specs.Marks.{stopCost, rowStopCost}
+use Rattle.sheets.proofs.Bytes.{stop-bound}
+use Rattle.sheets.proofs.row_stop_cost.Statement.{statement}
+use Rattle.sheets.proofs.row_stop_cost.Tie as tie
+use Rattle.sheets.proofs.row_stop_cost.Reads as reads
+use Rattle.sheets.proofs.row_stop_cost.Lts as lts
+use Rattle.sheets.proofs.stop_cost.Reads as stop-cost-reads
+
+abbrev Inv-loop : tie.InvT-loop
+Inv-loop down row cost₀ k₀ cost k = Summed (length row) (λ j. stopCost down (getD row j 0)) k cost
+
+abbrev μ-loop : tie.MeasureT-loop
+μ-loop down row cost₀ k₀ cost k = length row - k
+
+-- src/lib.rt:206:5
+loop-holds : tie.Need-loop-holds Inv-loop μ-loop
+loop-holds c = summed-none _ _
+
+-- src/lib.rt:207:33
+shared-slice-read-stop-cost : tie.Need-shared-slice-read-stop-cost Inv-loop μ-loop
+shared-slice-read-stop-cost c = omega arith
+
+-- src/lib.rt:207:17
+stop-cost-requires : tie.Need-stop-cost-requires Inv-loop μ-loop
+stop-cost-requires c κs = search needs
+
+-- src/lib.rt:207:9
+add-cost : tie.Need-add-cost Inv-loop μ-loop
+add-cost c =
+    let p = c .before .before .before .before .before .pre in
+    record {
+      fits =
+          omega
+          (arith, summed-room (c .before .before .before .loop .inv) (c .before .before .loop-test .taken) (c .stop-cost .ensures) (λ j h. stop-bound (c .before .before .before .before .before .args .row .now) j (p .priced)), p .short);
+    }
+
+-- src/lib.rt:208:9
+add-k : tie.Need-add-k Inv-loop μ-loop
+add-k c = omega arith
+
+-- src/lib.rt:206:5
+loop-less : tie.Need-loop-less Inv-loop μ-loop
+loop-less c = omega arith
+
+-- src/lib.rt:206:5
+loop-again : tie.Need-loop-again Inv-loop μ-loop
+loop-again c = summed-more (c .before .before .before .loop .inv) (c .before .before .loop-test .taken) (c .stop-cost .ensures)
+
+-- src/lib.rt:200:1
+returns : tie.Need-returns Inv-loop μ-loop
+unfolding rowStopCost
+returns c = summed-all (c .before .loop .inv) (c .loop-test .left)
+
+pub row-stop-cost-spec : {M : Type 1} → statement M
+row-stop-cost-spec =
+    tie.close
+    (tie.spec
+    Inv-loop
+    μ-loop
+    loop-holds
+    shared-slice-read-stop-cost
+    stop-cost-requires
+    add-cost
+    add-k
+    loop-less
+    loop-again
+    returns)

@@ -1,0 +1,73 @@
+use Prim.Native.Nat.{_-_}
+use native.Mathlib.Omega.{arith}
+use lib.ListN.{length, getD}
+use borrow.Author.Needs.{needs}
+use Rattle.lists.specs.Summing.{Summed, summed-none, summed-more, summed-all, summed-room}
+use Rattle.model.specs.Sheets.{stepOf}
+use Rattle.sheets.specs.Marks.{rowLight}
+use Rattle.sheets.proofs.Bytes.{step-bound}
+use Rattle.sheets.proofs.slot_light.Statement.{statement}
+use Rattle.sheets.proofs.slot_light.Tie as tie
+use Rattle.sheets.proofs.slot_light.Reads as reads
+use Rattle.sheets.proofs.slot_light.Lts as lts
+use Rattle.sheets.proofs.step_of.Reads as step-of-reads
+
+abbrev Inv-loop : tie.InvT-loop
+Inv-loop row light₀ k₀ light k = Summed (length row) (λ j. stepOf (getD row j 0)) k light
+
+abbrev μ-loop : tie.MeasureT-loop
+μ-loop row light₀ k₀ light k = length row - k
+
+-- src/lib.rt:141:5
+loop-holds : tie.Need-loop-holds Inv-loop μ-loop
+loop-holds c = summed-none _ _
+
+-- src/lib.rt:142:26
+shared-slice-read-step-of : tie.Need-shared-slice-read-step-of Inv-loop μ-loop
+shared-slice-read-step-of c = omega arith
+
+-- src/lib.rt:142:18
+step-of-requires : tie.Need-step-of-requires Inv-loop μ-loop
+step-of-requires c κs = search needs
+
+-- src/lib.rt:142:9
+add-light : tie.Need-add-light Inv-loop μ-loop
+add-light c =
+    let l = c .before .before .before .loop in
+    record {
+      fits =
+          omega
+          (arith, summed-room (l .inv) (c .before .before .loop-test .taken) (c .step-of .ensures) (λ j h. step-bound (c .before .shared-slice-known2 .given j)), c .before .before .before .before .before .pre .short);
+    }
+
+-- src/lib.rt:143:9
+add-k : tie.Need-add-k Inv-loop μ-loop
+add-k c = omega arith
+
+-- src/lib.rt:141:5
+loop-less : tie.Need-loop-less Inv-loop μ-loop
+loop-less c = omega arith
+
+-- src/lib.rt:141:5
+loop-again : tie.Need-loop-again Inv-loop μ-loop
+loop-again c = summed-more (c .before .before .before .loop .inv) (c .before .before .loop-test .taken) (c .step-of .ensures)
+
+-- src/lib.rt:135:1
+returns : tie.Need-returns Inv-loop μ-loop
+unfolding rowLight
+returns c = summed-all (c .before .loop .inv) (c .loop-test .left)
+
+pub slot-light-spec : {M : Type 1} → statement M
+slot-light-spec =
+    tie.close
+    (tie.spec
+    Inv-loop
+    μ-loop
+    loop-holds
+    shared-slice-read-step-of
+    step-of-requires
+    add-light
+    add-k
+    loop-less
+    loop-again
+    returns)

@@ -1,0 +1,62 @@
+-- What the functions of this crate ask for.
+use Prim.Native.Nat.{ℕ, _*_, _≤_, _<_}
+use mathlib.Core.Path.{_≡_}
+use mathlib.Core.Bool.{true}
+use mathlib.Core.List.{List}
+use lib.ListN.{length, getD}
+use Rattle.model.specs.Instance.{instanceOf}
+use Rattle.model.specs.Sheets.{sheetEntries}
+use Rattle.model.specs.Plans.{planServes}
+use Rattle.card.specs.declared.Header.{Header}
+use Rattle.card.specs.Checking.{Ready}
+use Rattle.counts.specs.Serving.{Served}
+use Rattle.sheets.specs.Marks.{isEntry}
+
+-- a row with room for n active modules, which serve the load l at steps up to 200
+pub record RowFits (row : List ℕ) (n l : ℕ) : Type 0 where
+  pub in-row : n ≤ length row
+  pub serves : l ≤ n * 200
+
+-- an accepted card with its header, and a count that serves a load
+pub record SlotReady (s : List ℕ) (h : Header) (n l : ℕ) : Type 0 where
+  pub ready : Ready s h
+  pub served : Served s n l
+
+-- an accepted card with its header, and a plan of one count a slot,
+pub record PlanSized (s : List ℕ) (h : Header) (p : List ℕ) : Type 0 where
+  pub ready : Ready s h
+  pub slotwise : length p ≡ instanceOf s .slots
+
+-- whose counts are in the rack and serve the loads
+pub record PlanReady (s : List ℕ) (h : Header) (p : List ℕ) : Type 0 where
+  pub sized : PlanSized s h p
+  pub in-rack : (t : ℕ) → t < instanceOf s .slots → getD p t 0 ≤ instanceOf s .modules
+  pub served : planServes (instanceOf s) p ≡ true
+
+-- a sheet buffer of at least m × T bytes
+pub record SheetRoom (s sheet : List ℕ) : Type 0 where
+  pub room : instanceOf s .modules * instanceOf s .slots ≤ length sheet
+
+-- an accepted card with its header, and a byte that is 0 to Q or 255
+pub record ByteReady (s : List ℕ) (h : Header) (byte : ℕ) : Type 0 where
+  pub ready : Ready s h
+  pub in-range : isEntry (instanceOf s .topStep) byte ≡ true
+
+-- a row of at most 200 bytes
+pub record RowShort (row : List ℕ) : Type 0 where
+  pub short : length row ≤ 200
+
+-- a row of at most 200 bytes, and a price in range
+pub record RowPriced (price : ℕ) (row : List ℕ) : Type 0 where
+  pub short : length row ≤ 200
+  pub priced : price ≤ 500000000
+
+-- an accepted card with its header, and a sheet of m × T bytes,
+pub record SheetSized (s : List ℕ) (h : Header) (sheet : List ℕ) : Type 0 where
+  pub ready : Ready s h
+  pub size : length sheet ≡ instanceOf s .modules * instanceOf s .slots
+
+-- each 0 to Q or 255
+pub record SheetReady (s : List ℕ) (h : Header) (sheet : List ℕ) : Type 0 where
+  pub sized : SheetSized s h sheet
+  pub entries : sheetEntries (instanceOf s) sheet ≡ true

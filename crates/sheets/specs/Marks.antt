@@ -1,0 +1,43 @@
+-- What the functions of this crate give where the model's definitions take a whole card or sheet.
+use Prim.Native.Nat.{ℕ, _+_, _-_}
+use mathlib.Core.Bool.{Bool, cond, _||_}
+use mathlib.Core.List.{List}
+use lib.ListN.{length, getD}
+use lib.Dec.{leb, ltb}
+use Rattle.lists.specs.Tests.{every}
+use Rattle.lists.specs.Sums.{sum}
+use Rattle.model.specs.Instance.{Instance}
+use Rattle.model.specs.Sheets.{off, isOff, stepOf, stepCost, changeCost}
+
+-- Each count of a plan is at most m: entriesInRange of a plan of T bytes.
+unfoldable pub countsUpTo : ℕ → List ℕ → Bool
+countsUpTo m p = every (length p) (λ t. leb (getD p t 0) m)
+
+-- Each byte of a sheet is 0 to top or 255: sheetEntries.
+abbrev pub isEntry : ℕ → ℕ → Bool
+isEntry top b = leb b top || isOff b
+
+unfoldable pub entriesUpTo : ℕ → List ℕ → Bool
+entriesUpTo top s = every (length s) (λ k. isEntry top (getD s k off))
+
+-- the steps of a row's active modules, summed: lightAt of one slot
+unfoldable pub rowLight : List ℕ → ℕ
+rowLight row = sum (length row) (λ k. stepOf (getD row k 0))
+
+-- The cost of a sheet, byte by byte. The state before byte x, of the same module, where a row has m bytes,
+unfoldable pub stateBefore : ℕ → List ℕ → ℕ → ℕ
+stateBefore m s x = cond (ltb x m) off (getD s (x - m) 0)
+
+-- the cost of a byte: of its step, and of the change to it,
+unfoldable pub byteCost : Instance → ℕ → ℕ → ℕ
+byteCost i prev b = stepCost i b + changeCost i prev b
+
+unfoldable pub bytesCost : Instance → List ℕ → ℕ
+bytesCost i s = sum (length s) (λ x. byteCost i (stateBefore (i .modules) s x) (getD s x 0))
+
+-- and the price of a byte's change to off, for the last row.
+abbrev pub stopCost : ℕ → ℕ → ℕ
+stopCost down prev = cond (isOff prev) 0 down
+
+unfoldable pub rowStopCost : ℕ → List ℕ → ℕ
+rowStopCost down row = sum (length row) (λ k. stopCost down (getD row k 0))

@@ -1,0 +1,265 @@
+// The sheet of a plan and its cost, and the marking of a sheet that is handed in.
+use card::Header;
+ghost use mathlib.Core.Path.{_≡_};
+ghost use Prim.Native.Nat.{_<_};
+ghost use mathlib.Core.List.{_++_};
+ghost use lib.ListN.{length, drop};
+ghost use Rattle.lists.specs.Lists.{tabulate};
+ghost use Rattle.model.specs.Instance.{instanceOf};
+ghost use Rattle.model.specs.Sheets.{stepOf, sheetLight, sheetCost};
+ghost use Rattle.model.specs.Plans.{moduleByte, sheetOf, planServes};
+ghost use Rattle.model.specs.Thesis.{stepUp, countsCost};
+ghost use Rattle.sheets.specs.Marks.{countsUpTo, isEntry, entriesUpTo, rowLight, stateBefore, byteCost, bytesCost, stopCost, rowStopCost};
+ghost use Rattle.sheets.specs.Asked.{RowFits, SlotReady, PlanSized, PlanReady, SheetRoom, ByteReady, RowShort, RowPriced, SheetSized, SheetReady};
+
+fn wide(x: u8) -> u64
+    ensures { λ r. ⌜ r ≡ x ⌝ }
+{
+    x as u64
+}
+
+// A slot's row: the first n modules are active, the first l mod n of these at step l div n + 1, the others at l div n.
+fn fill_slot(row: &mut [u8], n: u64, l: u64)
+    requires { ⌜ RowFits (now row) n l ⌝ }
+    ensures { λ _. ⌜ now (row .exit) ≡ tabulate (length (now (row .entry))) (moduleByte n l) ⌝ }
+{
+    if n == 0 {
+        buffers::fill(row, 255);
+        return;
+    }
+    let active = n as usize;
+    let step = (l / n) as u8;
+    let rest = (l % n) as usize;
+    buffers::fill(&mut row[..rest], step + 1);
+    buffers::fill(&mut row[rest..active], step);
+    buffers::fill(&mut row[active..], 255);
+}
+
+// The sheet of a plan, slot by slot.
+pub fn write_sheet(card: &[u8], h: Header, plan: &[u8], sheet: &mut [u8])
+    requires { ⌜ PlanReady (now card) h (now plan) ⌝ }
+    requires { ⌜ SheetRoom (now card) (now sheet) ⌝ }
+    ensures { λ _. ⌜ now (sheet .exit) ≡ sheetOf (instanceOf (now (card .entry))) (now (plan .entry)) ++ drop (length (sheetOf (instanceOf (now (card .entry))) (now (plan .entry)))) (now (sheet .entry)) ⌝ }
+{
+    let modules = h.modules as usize;
+    let top = h.top;
+    let mut t = 0;
+    while t < plan.len() {
+        let n = wide(plan[t]);
+        let l = card::load(card, top, t as u64);
+        let start = t * modules;
+        let end = start + modules;
+        fill_slot(&mut sheet[start..end], n, l);
+        t += 1;
+    }
+}
+
+// The cost of a slot by counts, where prev modules were active before it.
+fn slot_cost(card: &[u8], h: Header, prev: u64, n: u64, l: u64) -> u64
+    requires { ⌜ SlotReady (now card) h n l ⌝ }
+    ensures { λ r. ⌜ r ≡ stepUp (instanceOf (now (card .entry))) prev n l ⌝ }
+{
+    let run = counts::operating_cost(card, n, l);
+    if n <= prev {
+        return run;
+    }
+    let price = h.up + h.down;
+    run + price * (n - prev)
+}
+
+// The cost of a plan by its counts.
+pub fn plan_cost(card: &[u8], h: Header, plan: &[u8]) -> u64
+    requires { ⌜ PlanReady (now card) h (now plan) ⌝ }
+    ensures { λ r. ⌜ r ≡ countsCost (instanceOf (now (card .entry))) 0 (now (plan .entry)) ⌝ }
+{
+    let top = h.top;
+    let mut cost: u64 = 0;
+    let mut prev: u64 = 0;
+    let mut t = 0;
+    while t < plan.len() {
+        let n = wide(plan[t]);
+        cost += slot_cost(card, h, prev, n, card::load(card, top, t as u64));
+        prev = n;
+        t += 1;
+    }
+    cost
+}
+
+// Each count of the plan is at most m.
+pub fn plan_in_rack(h: Header, plan: &[u8]) -> bool
+    ensures { λ r. ⌜ r ≡ countsUpTo (h .modules) (now (plan .entry)) ⌝ }
+{
+    let modules = h.modules;
+    let mut t = 0;
+    while t < plan.len() {
+        if modules < wide(plan[t]) {
+            return false;
+        }
+        t += 1;
+    }
+    true
+}
+
+// Each count of the plan can serve its slot's load.
+pub fn plan_serves(card: &[u8], h: Header, plan: &[u8]) -> bool
+    requires { ⌜ PlanSized (now card) h (now plan) ⌝ }
+    ensures { λ r. ⌜ r ≡ planServes (instanceOf (now (card .entry))) (now (plan .entry)) ⌝ }
+{
+    let top = h.top;
+    let mut t = 0;
+    while t < plan.len() {
+        let most = wide(plan[t]) * top;
+        if most < card::load(card, top, t as u64) {
+            return false;
+        }
+        t += 1;
+    }
+    true
+}
+
+// The byte is a step up to top, or off.
+fn is_entry(top: u64, byte: u8) -> bool
+    ensures { λ r. ⌜ r ≡ isEntry top byte ⌝ }
+{
+    if byte == 255 {
+        return true;
+    }
+    wide(byte) <= top
+}
+
+// Each byte of the sheet is a step up to top, or off.
+pub fn sheet_entries(top: u64, sheet: &[u8]) -> bool
+    ensures { λ r. ⌜ r ≡ entriesUpTo top (now (sheet .entry)) ⌝ }
+{
+    let mut x = 0;
+    while x < sheet.len() {
+        if !is_entry(top, sheet[x]) {
+            return false;
+        }
+        x += 1;
+    }
+    true
+}
+
+// The step of a byte, 0 for off.
+fn step_of(byte: u8) -> u64
+    ensures { λ r. ⌜ r ≡ stepOf byte ⌝ }
+{
+    if byte == 255 {
+        return 0;
+    }
+    wide(byte)
+}
+
+// The steps of a row's active modules, summed.
+fn slot_light(row: &[u8]) -> u64
+    requires { ⌜ RowShort (now row) ⌝ }
+    ensures { λ r. ⌜ r ≡ rowLight (now (row .entry)) ⌝ }
+{
+    let mut light: u64 = 0;
+    let mut k = 0;
+    while k < row.len() {
+        light += step_of(row[k]);
+        k += 1;
+    }
+    light
+}
+
+// In every slot the steps of the active modules sum to the load.
+pub fn sheet_light(card: &[u8], h: Header, sheet: &[u8]) -> bool
+    requires { ⌜ SheetSized (now card) h (now sheet) ⌝ }
+    ensures { λ r. ⌜ r ≡ sheetLight (instanceOf (now (card .entry))) (now (sheet .entry)) ⌝ }
+{
+    let modules = h.modules as usize;
+    let slots = h.slots as usize;
+    let top = h.top;
+    let mut t = 0;
+    while t < slots {
+        let start = t * modules;
+        let end = start + modules;
+        let light = slot_light(&sheet[start..end]);
+        if light != card::load(card, top, t as u64) {
+            return false;
+        }
+        t += 1;
+    }
+    true
+}
+
+// The byte of the same module in the slot before, off before the first slot.
+fn state_before(sheet: &[u8], modules: usize, x: usize) -> u8
+    requires { ⌜ x < length (now sheet) ⌝ }
+    ensures { λ r. ⌜ r ≡ stateBefore modules (now (sheet .entry)) x ⌝ }
+{
+    if x < modules {
+        return 255;
+    }
+    sheet[x - modules]
+}
+
+// The price of a change to off.
+fn stop_cost(down: u64, prev: u8) -> u64
+    ensures { λ r. ⌜ r ≡ stopCost down prev ⌝ }
+{
+    if prev == 255 {
+        return 0;
+    }
+    down
+}
+
+// The cost of a byte's step, and of the change to it from the byte before it.
+fn byte_cost(card: &[u8], h: Header, prev: u8, byte: u8) -> u64
+    requires { ⌜ ByteReady (now card) h byte ⌝ }
+    ensures { λ r. ⌜ r ≡ byteCost (instanceOf (now (card .entry))) prev byte ⌝ }
+{
+    if byte == 255 {
+        return stop_cost(h.down, prev);
+    }
+    let run = card::entry(card, wide(byte));
+    if prev == 255 {
+        return run + h.up;
+    }
+    run
+}
+
+// The cost of all bytes, each with the change to it.
+fn bytes_cost(card: &[u8], h: Header, sheet: &[u8]) -> u64
+    requires { ⌜ SheetReady (now card) h (now sheet) ⌝ }
+    ensures { λ r. ⌜ r ≡ bytesCost (instanceOf (now (card .entry))) (now (sheet .entry)) ⌝ }
+{
+    let modules = h.modules as usize;
+    let mut cost: u64 = 0;
+    let mut x = 0;
+    while x < sheet.len() {
+        cost += byte_cost(card, h, state_before(sheet, modules, x), sheet[x]);
+        x += 1;
+    }
+    cost
+}
+
+// The price of all changes to off after a row.
+fn row_stop_cost(down: u64, row: &[u8]) -> u64
+    requires { ⌜ RowPriced down (now row) ⌝ }
+    ensures { λ r. ⌜ r ≡ rowStopCost down (now (row .entry)) ⌝ }
+{
+    let mut cost: u64 = 0;
+    let mut k = 0;
+    while k < row.len() {
+        cost += stop_cost(down, row[k]);
+        k += 1;
+    }
+    cost
+}
+
+// The cost of a sheet: of its bytes, and of the changes to off after the last slot.
+pub fn sheet_cost(card: &[u8], h: Header, sheet: &[u8]) -> u64
+    requires { ⌜ SheetReady (now card) h (now sheet) ⌝ }
+    ensures { λ r. ⌜ r ≡ sheetCost (instanceOf (now (card .entry))) (now (sheet .entry)) ⌝ }
+{
+    if h.slots == 0 {
+        return 0;
+    }
+    let cost = bytes_cost(card, h, sheet);
+    let last = ((h.slots - 1) * h.modules) as usize;
+    cost + row_stop_cost(h.down, &sheet[last..])
+}
