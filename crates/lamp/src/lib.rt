@@ -1,11 +1,13 @@
 // The public calls: numbers and byte slices over the C boundary. Each answers every input.
 use card::Checked;
 use card::Header;
+use model::Answer;
 use model::Refusal;
 ghost use mathlib.Core.Path.{_≡_};
 ghost use Rattle.model.specs.Answers.{refusalNumber};
 ghost use Rattle.model.specs.declared.Answer.the-variants.{Refused};
-ghost use Rattle.model.specs.Calls.{Gives, answer, checkCard, runningCost, roundCount};
+ghost use Rattle.model.specs.Calls.{Gives, answer, checkCard, runningCost, makeSheet, markSheet, roundCount, sheetAtExit};
+ghost use Rattle.model.specs.Promises.{MarkedAlike, AcceptsExactly};
 ghost use Rattle.card.specs.Checking.{Ready};
 
 // What every call returns: a refusal's number and cost 0, or number 0 and the cost.
@@ -100,5 +102,89 @@ pub extern "C" fn lamp_rounded_count(count: u64, modules: u64) -> LampAnswer
     LampAnswer {
         number: 0,
         cost: counts::rounded(count, modules),
+    }
+}
+
+// Refusals 10 to 13 of the sheet call on an accepted card, or the plan's cost.
+fn check_plan(card: &[u8], h: Header, plan: &[u8], sheet: &[u8]) -> Answer
+    requires { ⌜ Ready (now card) h ⌝ }
+    ensures { λ r. ⌜ r ≡ answer (makeSheet (now (card .entry)) (now (plan .entry)) (now (sheet .entry))) ⌝ }
+{
+    let size = (h.modules * h.slots) as usize;
+    if sheet.len() < size {
+        return Answer::Refused(Refusal::BufferTooShort);
+    }
+    let slots = h.slots as usize;
+    if plan.len() != slots {
+        return Answer::Refused(Refusal::WrongLength);
+    }
+    if !sheets::plan_in_rack(h, plan) {
+        return Answer::Refused(Refusal::EntryRange);
+    }
+    if !sheets::plan_serves(card, h, plan) {
+        return Answer::Refused(Refusal::LoadNotServed);
+    }
+    Answer::Cost(sheets::plan_cost(card, h, plan))
+}
+
+// The sheet call on an accepted card: the plan is checked whole before the first byte is written.
+fn make_sheet(card: &[u8], h: Header, plan: &[u8], sheet: &mut [u8]) -> LampAnswer
+    requires { ⌜ Ready (now card) h ⌝ }
+    ensures { λ r. ⌜ Gives (answer (makeSheet (now (card .entry)) (now (plan .entry)) (now (sheet .entry)))) (r .number) (r .cost) ⌝ }
+    ensures { λ r. ⌜ now (sheet .exit) ≡ sheetAtExit (now (card .entry)) (now (plan .entry)) (now (sheet .entry)) ⌝ }
+{
+    let found = check_plan(card, h, plan, &sheet[..]);
+    match found {
+        Answer::Cost(cost) => {
+            sheets::write_sheet(card, h, plan, sheet);
+            LampAnswer { number: 0, cost }
+        }
+        Answer::Refused(x) => refused(x),
+    }
+}
+
+// The sheet of a handed-in plan: refusals 1 to 8, 10 to 13.
+#[no_mangle]
+pub extern "C" fn lamp_sheet(card: &[u8], plan: &[u8], sheet: &mut [u8]) -> LampAnswer
+    ensures outcome { λ r. ⌜ Gives (answer (makeSheet (now (card .entry)) (now (plan .entry)) (now (sheet .entry)))) (r .number) (r .cost) ⌝ }
+    ensures sheet_bytes { λ r. ⌜ now (sheet .exit) ≡ sheetAtExit (now (card .entry)) (now (plan .entry)) (now (sheet .entry)) ⌝ }
+    ensures marked_alike { λ r. ⌜ MarkedAlike (now (card .entry)) (now (sheet .exit)) (r .number) (r .cost) ⌝ }
+{
+    match card::check(card) {
+        Checked::Accepted(h) => make_sheet(card, h, plan, sheet),
+        Checked::NotAccepted(x) => refused(x),
+    }
+}
+
+// Marking on an accepted card.
+fn mark(card: &[u8], h: Header, sheet: &[u8]) -> LampAnswer
+    requires { ⌜ Ready (now card) h ⌝ }
+    ensures { λ r. ⌜ Gives (answer (markSheet (now (card .entry)) (now (sheet .entry)))) (r .number) (r .cost) ⌝ }
+{
+    let size = (h.modules * h.slots) as usize;
+    if sheet.len() != size {
+        return refused(Refusal::WrongLength);
+    }
+    if !sheets::sheet_entries(h.top, sheet) {
+        return refused(Refusal::EntryRange);
+    }
+    if !sheets::sheet_light(card, h, sheet) {
+        return refused(Refusal::LoadNotServed);
+    }
+    LampAnswer {
+        number: 0,
+        cost: sheets::sheet_cost(card, h, sheet),
+    }
+}
+
+// The cost of a handed-in sheet, module by module: refusals 1 to 8, 11 to 13.
+#[no_mangle]
+pub extern "C" fn lamp_mark(card: &[u8], sheet: &[u8]) -> LampAnswer
+    ensures outcome { λ r. ⌜ Gives (answer (markSheet (now (card .entry)) (now (sheet .entry)))) (r .number) (r .cost) ⌝ }
+    ensures accepts { λ r. ⌜ AcceptsExactly (now (card .entry)) (now (sheet .entry)) (r .number) ⌝ }
+{
+    match card::check(card) {
+        Checked::Accepted(h) => mark(card, h, sheet),
+        Checked::NotAccepted(x) => refused(x),
     }
 }

@@ -9,7 +9,7 @@ use Rattle.model.specs.declared.Answer.the-variants.{Cost}
 use Rattle.model.specs.Instance.{Instance, instanceOf}
 use Rattle.model.specs.Sheets.{serves, sheetCost}
 use Rattle.model.specs.Plans.{sheetOf}
-use Rattle.model.specs.Calls.{answer, markSheet}
+use Rattle.model.specs.Calls.{answer, checkCard, markSheet}
 
 -- the sheet that the first T plan bytes make
 abbrev pub madeSheet : List ℕ → List ℕ → List ℕ
@@ -30,3 +30,8 @@ AtMostTimes r card number cost =
 abbrev pub MarkedAlike : (card sheet : List ℕ) → (number cost : ℕ) → Type 0
 MarkedAlike card sheet number cost =
     number ≡ 0 → answer (markSheet card (take (instanceOf card .modules * instanceOf card .slots) sheet)) ≡ Cost cost
+
+-- 'a sheet is accepted exactly if it serves the show', in both directions
+pub record AcceptsExactly (card sheet : List ℕ) (number : ℕ) : Type 0 where
+  pub only-serving : number ≡ 0 → (answer (checkCard card) ≡ Cost 0) × (serves (instanceOf card) sheet ≡ true)
+  pub every-serving : answer (checkCard card) ≡ Cost 0 → serves (instanceOf card) sheet ≡ true → number ≡ 0

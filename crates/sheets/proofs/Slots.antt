@@ -25,7 +25,7 @@ module _ (s : List ℕ) (n l : ℕ) (given : Served s n l) where
       let step = step-within n l some _ (given .serves) in
       let at-step = table-range s (given .accepted) (l / n) step in
       ⊎-elim
-      (λ (e : l % n ≡ 0). rw (← cost-even (instanceOf s) n l some refl e) (omega (arith, mul-le-mul-left (n - l % n) at-step)))
+      (λ (e : l % n ≡ 0). rw (← cost-even (instanceOf s) n l some refl e) (mul-le-mul-left n at-step))
       (λ (p : 0 < l % n).
       let rest : l % n ≡ 0 → ⊥ = omega arith in
       let next = table-range s (given .accepted) (l / n + 1) (next-within n l some _ (given .serves) rest) in

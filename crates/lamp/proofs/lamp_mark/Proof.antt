@@ -1,0 +1,48 @@
+use borrow.Author.Needs.{needs}
+use Rattle.lamp.proofs.lamp_mark.Statement.{statement}
+use Rattle.lamp.proofs.lamp_mark.Tie as tie
+use Rattle.lamp.proofs.lamp_mark.Reads as reads
+use Rattle.lamp.proofs.lamp_mark.Lts as lts
+use Rattle.card.proofs.check.Reads as check-reads
+use Rattle.lamp.proofs.mark.Reads as mark-reads
+use Rattle.lamp.proofs.refused.Reads as refused-reads
+
+-- src/lib.rt:186:11
+check-requires : tie.Need-check-requires
+check-requires c κs = search needs
+
+-- src/lib.rt:187:27
+enum-known-h : tie.Need-enum-known-h
+enum-known-h c = search needs
+
+-- src/lib.rt:187:33
+mark-requires : tie.Need-mark-requires
+mark-requires c κs = ?
+
+-- src/lib.rt:188:30
+enum-known-x : tie.Need-enum-known-x
+enum-known-x c = search needs
+
+-- src/lib.rt:188:36
+refused-requires : tie.Need-refused-requires
+refused-requires c κs = search needs
+
+-- src/lib.rt:181:1
+returns : tie.Need-returns
+returns c = ?
+
+-- src/lib.rt:181:1
+returns-2 : tie.Need-returns-2
+returns-2 c = ?
+
+pub lamp-mark-spec : {M : Type 1} → statement M
+lamp-mark-spec =
+    tie.close
+    (tie.spec
+    check-requires
+    enum-known-h
+    mark-requires
+    enum-known-x
+    refused-requires
+    returns
+    returns-2)
