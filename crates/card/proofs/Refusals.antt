@@ -11,7 +11,7 @@ use lib.Dec.{eqb, leb, ltb}
 use borrow.Author.Tests.{lt-ltb, le-ltb, ltb-false, le-leb, lt-leb, leb-true, eq-eqb, ne-eqb, eqb-true, not-false}
 use Rattle.lists.specs.Numbers.{true-or-false}
 use Rattle.lists.specs.Lists.{sameList}
-use Rattle.lists.specs.Tests.{every, and-both, and-left, and-right}
+use Rattle.lists.specs.Tests.{every, or-left}
 use Rattle.model.specs.declared.Refusal.{Refusal}
 use Rattle.model.specs.declared.Refusal.the-variants.{NotACard, Version, RackSize, SlotCount, CardLength, PriceRange, NotConvex, LoadRange}
 use Rattle.model.specs.declared.Answer.{Answer}
@@ -55,10 +55,6 @@ module _ (s : List ℕ) where
   pub front-length : {n : ℕ} → found s frontRefusals ≡ Cost n → 17 ≤ length s
   unfolding found applies requestOf
   front-length e = ltb-false _ _ (or-left _ _ (lowest-passed _ _ _ e .0))
-    where
-      or-left : (a b : Bool) → (a || b) ≡ false → a ≡ false
-      or-left true b f = f
-      or-left false b f = refl
 
   module _ (h : Header) (given : HeaderOf s h) where
     rack-applies : {b : Bool} → rackInRange (h .modules) (h .top) ≡ b → applies (requestOf req) RackSize ≡ not b

@@ -1,4 +1,5 @@
 mod Answering
+mod Areas
 mod Running
 mod Rounding
 mod Marking

@@ -7,8 +7,8 @@ use mathlib.Core.List.{List, [], _∷_}
 use lib.ListN.{length, getD, take}
 use lib.Dec.{leb}
 use lib.Seq.{take-at}
-use borrow.Author.Tests.{leb-true, le-leb, le-ltb, eqb-true, eq-eqb, not-false}
-use Rattle.lists.specs.Tests.{every-at, every-all, and-both}
+use borrow.Author.Tests.{leb-true, le-leb, le-ltb, ltb-false, eqb-true, eq-eqb, not-false}
+use Rattle.lists.specs.Tests.{every-at, every-all, and-both, or-left}
 use Rattle.model.specs.declared.Refusal.the-variants.{NotMonotone, BufferTooShort, WrongLength, EntryRange, LoadNotServed}
 use Rattle.model.specs.declared.Answer.{Answer}
 use Rattle.model.specs.declared.Answer.the-variants.{Cost}
@@ -93,7 +93,12 @@ module _ (c p s : List ℕ) where
     make-tests = on-card-passed c _ _ _ _ given
 
     -- they pass where there is room and the plan has a sheet
-    made-fits : {n : ℕ} → answer (makeSheet c p s) ≡ Cost n → PlanFits (instanceOf c) p
+    -- what a plan and an area that the sheet call accepts are known to be
+    pub made-room : {n : ℕ} → answer (makeSheet c p s) ≡ Cost n → sheetBytes (instanceOf c) ≤ length s
+    unfolding applies anyShort
+    made-room e = ltb-false _ _ (or-left _ _ (lowest-passed _ _ _ (sym make-tests ∙ e) .0))
+
+    pub made-fits : {n : ℕ} → answer (makeSheet c p s) ≡ Cost n → PlanFits (instanceOf c) p
     unfolding applies rightLength entriesInRange loadsServed
     made-fits e =
         let room = lowest-passed _ _ _ (sym make-tests ∙ e) in

@@ -1,3 +1,7 @@
+use mathlib.Core.Path.{sym, _∙_}
+use Rattle.card.proofs.Groups.{refused-answer, ready}
+use Rattle.lamp.proofs.Answering.{gives-as}
+use Rattle.lamp.proofs.Marking.{mark-refused, accepts-exactly}
 use borrow.Author.Needs.{needs}
 use Rattle.lamp.proofs.lamp_mark.Statement.{statement}
 use Rattle.lamp.proofs.lamp_mark.Tie as tie
@@ -17,7 +21,7 @@ enum-known-h c = search needs
 
 -- src/lib.rt:187:33
 mark-requires : tie.Need-mark-requires
-mark-requires c κs = ?
+mark-requires c κs = ready _ (sym (c .before .before .before .check .ensures) ∙ c .before .h .given .1)
 
 -- src/lib.rt:188:30
 enum-known-x : tie.Need-enum-known-x
@@ -29,11 +33,13 @@ refused-requires c κs = search needs
 
 -- src/lib.rt:181:1
 returns : tie.Need-returns
-returns c = ?
+returns c = (c .mark .ensures, accepts-exactly _ _ (c .mark .ensures))
 
 -- src/lib.rt:181:1
 returns-2 : tie.Need-returns-2
-returns-2 c = ?
+returns-2 c =
+    let g = gives-as (mark-refused _ _ (refused-answer _ (sym (c .before .before .before .before .check .ensures) ∙ c .before .before .x .given .1))) (c .refused .ensures) in
+    (g, accepts-exactly _ _ g)
 
 pub lamp-mark-spec : {M : Type 1} → statement M
 lamp-mark-spec =

@@ -1,3 +1,7 @@
+use mathlib.Core.Path.{sym, _∙_}
+use Rattle.card.proofs.Groups.{refused-answer, ready}
+use Rattle.lamp.proofs.Answering.{gives-as}
+use Rattle.lamp.proofs.Making.{make-refused, sheet-kept, marked-alike}
 use borrow.Author.Needs.{needs}
 use Rattle.lamp.proofs.lamp_sheet.Statement.{statement}
 use Rattle.lamp.proofs.lamp_sheet.Tie as tie
@@ -17,7 +21,7 @@ enum-known-h c = search needs
 
 -- src/lib.rt:154:33
 make-sheet-requires : tie.Need-make-sheet-requires
-make-sheet-requires c κs = ?
+make-sheet-requires c κs = ready _ (sym (c .before .before .before .before .check .ensures) ∙ c .before .before .h .given .1)
 
 -- src/lib.rt:155:30
 enum-known-x : tie.Need-enum-known-x
@@ -33,11 +37,18 @@ same-length c = search needs
 
 -- src/lib.rt:147:1
 returns : tie.Need-returns
-returns c = ?
+returns c =
+    let g = c .before .before .make-sheet .ensures .0 in
+    let e = c .before .before .make-sheet .ensures .1 in
+    (g, (e, marked-alike _ _ _ g e))
 
 -- src/lib.rt:147:1
 returns-2 : tie.Need-returns-2
-returns-2 c = ?
+returns-2 c =
+    let a = make-refused _ _ _ (refused-answer _ (sym (c .before .before .before .before .check .ensures) ∙ c .before .before .x .given .1)) in
+    let g = gives-as a (c .refused .ensures) in
+    let e = sheet-kept _ _ _ a in
+    (g, (e, marked-alike _ _ _ g e))
 
 pub lamp-sheet-spec : {M : Type 1} → statement M
 lamp-sheet-spec =

@@ -1,3 +1,6 @@
+use mathlib.Core.Path.{refl, sym, _∙_}
+use Rattle.lamp.proofs.Answering.{gives-as, gives-cost}
+use Rattle.lamp.proofs.Making.{made-plan, made-area, sheet-written, sheet-kept}
 use borrow.Author.Needs.{needs}
 use Rattle.lamp.proofs.make_sheet.Statement.{statement}
 use Rattle.lamp.proofs.make_sheet.Tie as tie
@@ -17,7 +20,9 @@ enum-known-found c = search needs
 
 -- src/lib.rt:139:13
 write-sheet-requires : tie.Need-write-sheet-requires
-write-sheet-requires c κs = ?
+write-sheet-requires c κs =
+    let e = sym (c .before .before .before .before .check-plan .ensures) ∙ c .before .before .found .given .1 in
+    (made-plan _ _ _ _ (c .before .before .before .before .before .before .before .before .before .pre) e, made-area _ _ _ _ (c .before .before .before .before .before .before .before .before .before .pre) e)
 
 -- src/lib.rt:142:25
 enum-known-found-2 : tie.Need-enum-known-found-2
@@ -33,7 +38,9 @@ same-length c = search needs
 
 -- src/lib.rt:131:1
 returns : tie.Need-returns
-returns c = ?
+returns c =
+    let e = sym (c .before .before .before .before .before .before .before .check-plan .ensures) ∙ c .before .before .before .before .before .found .given .1 in
+    (gives-cost e refl, c .before .before .write-sheet .ensures ∙ sheet-written _ _ _ e)
 
 -- src/lib.rt:131:1
 same-length-2 : tie.Need-same-length-2
@@ -41,7 +48,9 @@ same-length-2 c = search needs
 
 -- src/lib.rt:131:1
 returns-2 : tie.Need-returns-2
-returns-2 c = ?
+returns-2 c =
+    let e = sym (c .before .before .before .before .check-plan .ensures) ∙ c .before .before .found2 .given .1 in
+    (gives-as e (c .refused .ensures), sheet-kept _ _ _ e)
 
 pub make-sheet-spec : {M : Type 1} → statement M
 make-sheet-spec =
