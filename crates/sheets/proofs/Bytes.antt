@@ -1,7 +1,7 @@
 -- A sheet's byte: whether it is an entry, its step and its cost.
 use Prim.Native.Nat.{ℕ, _+_, _*_, _≤_, _<_}
 use mathlib.Core.Path.{_≡_, ap, _∙_}
-use mathlib.Core.Bool.{Bool, true, false, cond, _||_, or-true, or-false}
+use mathlib.Core.Bool.{Bool, true, false, cond, or-true, or-false}
 use mathlib.Core.List.{List}
 use mathlib.Core.Logic.{⊎-elim}
 use native.Mathlib.Nat.{mul-le-mul}
@@ -10,7 +10,7 @@ use lib.ListN.{length, getD}
 use lib.Dec.{leb}
 use mir.Syntax.{w8}
 use mir.Val.{Fits}
-use borrow.Author.Tests.{leb-true, eq-eqb, ne-eqb, eqb-true, eqb-false}
+use borrow.Author.Tests.{leb-true, eq-eqb, ne-eqb, eqb-false}
 use Rattle.lists.specs.Numbers.{true-or-false}
 use Rattle.lists.specs.Tests.{every-at}
 use Rattle.lists.specs.Parts.{getD-within}

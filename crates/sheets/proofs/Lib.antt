@@ -1,3 +1,4 @@
+pub mod Tests
 pub mod Row
 pub mod Bytes
 pub mod Slots

@@ -1,6 +1,6 @@
 -- The cost of a sheet is that of its bytes and of the changes to off after its last slot.
-use Prim.Native.Nat.{ℕ, zero, suc, _+_, _-_, _*_, _≤_, _<_}
-use mathlib.Core.Path.{_≡_, refl, ap, ap₂, sym, _∙_}
+use Prim.Native.Nat.{ℕ, suc, _+_, _-_, _*_, _≤_, _<_}
+use mathlib.Core.Path.{_≡_, ap, ap₂, sym, _∙_}
 use mathlib.Core.List.{List}
 use native.Mathlib.Nat.{le-refl, mul-comm, mul-zero, mul-le-mul, mul-le-mul-left}
 use native.Mathlib.Numerals.{add-one}
@@ -11,7 +11,7 @@ use borrow.Rule.Slice.PartMut.{midOf, mid-len}
 use Rattle.lists.specs.Sums.{sum, sum-ext, sum-add, sum-const, sum-at-most, sum-blocks}
 use Rattle.lists.specs.Parts.{part-at}
 use Rattle.model.specs.Instance.{Instance, instanceOf}
-use Rattle.model.specs.Sheets.{off, stateAt, stepCost, changeCost, sheetCost}
+use Rattle.model.specs.Sheets.{stateAt, stepCost, changeCost, sheetCost}
 use Rattle.card.specs.declared.Header.{Header}
 use Rattle.card.specs.Checking.{HeaderOf}
 use Rattle.laws.specs.Acceptance.{modules-range, slots-range, down-range}

@@ -1,13 +1,17 @@
 -- What the functions of this crate give where the model's definitions take a whole card or sheet.
 use Prim.Native.Nat.{ℕ, _+_, _-_}
 use mathlib.Core.Bool.{Bool, cond, _||_}
-use mathlib.Core.List.{List}
-use lib.ListN.{length, getD}
+use mathlib.Core.List.{List, _++_}
+use lib.ListN.{length, getD, drop}
 use lib.Dec.{leb, ltb}
 use Rattle.lists.specs.Tests.{every}
 use Rattle.lists.specs.Sums.{sum}
 use Rattle.model.specs.Instance.{Instance}
 use Rattle.model.specs.Sheets.{off, isOff, stepOf, stepCost, changeCost}
+
+-- a buffer whose first bytes were written, the others are as they were
+abbrev pub written : List ℕ → List ℕ → List ℕ
+written new old = new ++ drop (length new) old
 
 -- Each count of a plan is at most m: entriesInRange of a plan of T bytes.
 unfoldable pub countsUpTo : ℕ → List ℕ → Bool

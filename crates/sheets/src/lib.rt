@@ -2,14 +2,13 @@
 use card::Header;
 ghost use mathlib.Core.Path.{_≡_};
 ghost use Prim.Native.Nat.{_<_};
-ghost use mathlib.Core.List.{_++_};
-ghost use lib.ListN.{length, drop};
+ghost use lib.ListN.{length};
 ghost use Rattle.lists.specs.Lists.{tabulate};
 ghost use Rattle.model.specs.Instance.{instanceOf};
 ghost use Rattle.model.specs.Sheets.{stepOf, sheetLight, sheetCost};
 ghost use Rattle.model.specs.Plans.{moduleByte, sheetOf, planServes};
 ghost use Rattle.model.specs.Thesis.{stepUp, countsCost};
-ghost use Rattle.sheets.specs.Marks.{countsUpTo, isEntry, entriesUpTo, rowLight, stateBefore, byteCost, bytesCost, stopCost, rowStopCost};
+ghost use Rattle.sheets.specs.Marks.{written, countsUpTo, isEntry, entriesUpTo, rowLight, stateBefore, byteCost, bytesCost, stopCost, rowStopCost};
 ghost use Rattle.sheets.specs.Asked.{RowFits, SlotReady, PlanSized, PlanReady, SheetRoom, ByteReady, RowShort, RowPriced, SheetSized, SheetReady};
 
 fn wide(x: u8) -> u64
@@ -39,7 +38,7 @@ fn fill_slot(row: &mut [u8], n: u64, l: u64)
 pub fn write_sheet(card: &[u8], h: Header, plan: &[u8], sheet: &mut [u8])
     requires { ⌜ PlanReady (now card) h (now plan) ⌝ }
     requires { ⌜ SheetRoom (now card) (now sheet) ⌝ }
-    ensures { λ _. ⌜ now (sheet .exit) ≡ sheetOf (instanceOf (now (card .entry))) (now (plan .entry)) ++ drop (length (sheetOf (instanceOf (now (card .entry))) (now (plan .entry)))) (now (sheet .entry)) ⌝ }
+    ensures { λ _. ⌜ now (sheet .exit) ≡ written (sheetOf (instanceOf (now (card .entry))) (now (plan .entry))) (now (sheet .entry)) ⌝ }
 {
     let modules = h.modules as usize;
     let top = h.top;
