@@ -5,4 +5,5 @@ pub mod Slots
 pub mod Loads
 pub mod Filled
 pub mod States
+pub mod Split
 pub mod Totals
