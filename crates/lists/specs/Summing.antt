@@ -21,9 +21,11 @@ summed-more {n} {k} {x} {y} {f} s h e = record { within = omega arith; so-far = 
 pub summed-all : {n k x : ℕ} {f : ℕ → ℕ} → Summed n f k x → n ≤ k → x ≡ sum n f
 summed-all {n} {k} {x} {f} s h = let same : n ≡ k = omega arith in rw same (s .so-far)
 
--- where each term is at most c, one more total is at most n * c
-pub summed-room :
-    {n k x y c : ℕ} {f : ℕ → ℕ} → Summed n f k x → k < n → y ≡ f k → ((j : ℕ) → j < n → f j ≤ c) → x + y ≤ n * c
-summed-room {n} {k} {x} {y} {c} {f} s h e bound =
-    let sofar = sum-at-most k (λ j g. bound j (omega arith)) in
-    omega (arith, s .so-far, bound k h, mul-le-mul-right c h)
+-- where each term is at most c, the total is at most n * c, and so is the next one
+pub summed-most : {n k x c : ℕ} {f : ℕ → ℕ} → Summed n f k x → ((j : ℕ) → j < n → f j ≤ c) → x ≤ n * c
+summed-most {n} {k} {x} {c} {f} s bound =
+    let so-far = sum-at-most k (λ j g. bound j (omega arith)) in
+    omega (arith, s .so-far, mul-le-mul-right c (s .within))
+
+pub summed-room : {n k x y c : ℕ} {f : ℕ → ℕ} → Summed n f k x → k < n → y ≡ f k → ((j : ℕ) → j < n → f j ≤ c) → x + y ≤ n * c
+summed-room s h e bound = summed-most (summed-more s h e) bound

@@ -1,7 +1,7 @@
 -- A sheet's byte: whether it is an entry, its step and its cost.
 use Prim.Native.Nat.{ℕ, _+_, _*_, _≤_, _<_}
-use mathlib.Core.Path.{_≡_, ap, _∙_}
-use mathlib.Core.Bool.{Bool, true, false, cond, _||_, or-true, or-false}
+use mathlib.Core.Path.{_≡_}
+use mathlib.Core.Bool.{Bool, true, false, cond, or-true, or-false}
 use mathlib.Core.List.{List}
 use mathlib.Core.Logic.{⊎-elim}
 use native.Mathlib.Nat.{mul-le-mul}
@@ -10,9 +10,10 @@ use lib.ListN.{length, getD}
 use lib.Dec.{leb}
 use mir.Syntax.{w8}
 use mir.Val.{Fits}
-use borrow.Author.Tests.{leb-true, eq-eqb, ne-eqb, eqb-true, eqb-false}
+use borrow.Author.Tests.{leb-true, eq-eqb, ne-eqb, eqb-false}
 use Rattle.lists.specs.Numbers.{true-or-false}
 use Rattle.lists.specs.Tests.{every-at}
+use Rattle.lists.specs.Sums.{sum-at-most}
 use Rattle.lists.specs.Parts.{getD-within}
 use Rattle.model.specs.Instance.{Instance, instanceOf}
 use Rattle.model.specs.Sheets.{off, isOff, stepOf, sheetEntries, stepCost, changeCost}
@@ -20,8 +21,8 @@ use Rattle.model.specs.declared.Answer.the-variants.{Cost}
 use Rattle.model.specs.Calls.{checkCard, answer}
 use Rattle.card.specs.declared.Header.{Header}
 use Rattle.laws.specs.Acceptance.{modules-range, slots-range, table-range, up-range, down-range}
-use Rattle.sheets.specs.Marks.{isEntry, stateBefore, byteCost, stopCost}
-use Rattle.sheets.specs.Asked.{ByteReady, SheetReady}
+use Rattle.sheets.specs.Marks.{isEntry, byteCost, bytesCost, stopCost}
+use Rattle.sheets.specs.Asked.{ByteReady, BytesReady, SheetReady}
 
 module _ {b : ℕ} (is-off : b ≡ off) where
   pub off-entry : (top : ℕ) → true ≡ isEntry top b
@@ -47,27 +48,26 @@ pub entry-read :
     (top : ℕ) (sheet : List ℕ) {x : ℕ} {t : Bool} → x < length sheet → isEntry top (getD sheet x 0) ≡ t → isEntry top (getD sheet x off) ≡ t
 entry-read top sheet {x} h e = rw (getD-within sheet x off 0 h) e
 
-pub byte-ready : {s : List ℕ} {h : Header} {sheet : List ℕ} {x : ℕ} → SheetReady s h sheet → x < length sheet → ByteReady s h (getD sheet x 0)
-unfolding sheetEntries
-byte-ready {s} {h} {sheet} {x} given below =
-    record {
-      ready = given .sized .ready;
-      in-range = rw (getD-within sheet x 0 off below) (every-at (length sheet) _ (given .entries) x below);
-    }
+pub byte-ready : {s : List ℕ} {h : Header} {bytes : List ℕ} (x : ℕ) → BytesReady s h bytes → x < length bytes → ByteReady s h (getD bytes x 0)
+byte-ready x given below = record { ready = given .ready; in-range = given .in-range x below }
 
-pub byte-is :
-    (i : Instance) (sheet : List ℕ) (x b : ℕ) {m prev r : ℕ} → m ≡ i .modules → prev ≡ stateBefore m sheet x → r ≡ byteCost i prev b →
-    r ≡ byteCost i (stateBefore (i .modules) sheet x) b
-byte-is i sheet x b {m} {prev} e f g =
-    let before : prev ≡ stateBefore (i .modules) sheet x = f ∙ ap (λ (n : ℕ). stateBefore n sheet x) e in
-    rw (← before) g
-
--- a sheet has at most 200 × 1,024 bytes
+-- m × T is at most 200 × 1,024
 pub area-small : (s : List ℕ) → answer (checkCard s) ≡ Cost 0 → instanceOf s .modules * instanceOf s .slots ≤ 204800
 area-small s accepted = mul-le-mul (modules-range s accepted .1) (slots-range s accepted)
 
-pub sheet-short : {s : List ℕ} {h : Header} {sheet : List ℕ} → SheetReady s h sheet → length sheet ≤ 204800
-sheet-short {s} given = omega (arith, given .sized .size, area-small s (given .sized .ready .accepted))
+-- a part of a sheet, from place a on
+pub part-ready :
+    {s : List ℕ} {h : Header} {sheet : List ℕ} → SheetReady s h sheet → (a : ℕ) (part : List ℕ) → a + length part ≤ length sheet →
+    ((x : ℕ) → x < length part → getD part x 0 ≡ getD sheet (a + x) 0) → BytesReady s h part
+unfolding sheetEntries
+part-ready {s} {h} {sheet} given a part inside same =
+    record {
+      ready = given .sized .ready;
+      few = omega (arith, given .sized .size, area-small s (given .sized .ready .accepted));
+      in-range = λ x below.
+          let place : a + x < length sheet = omega arith in
+          rw (same x below, getD-within sheet (a + x) 0 off place) (every-at (length sheet) _ (given .entries) (a + x) place);
+    }
 
 -- The three ways through a byte's cost.
 module _ (i : Instance) (prev b : ℕ) where
@@ -121,6 +121,14 @@ module _ (s : List ℕ) (h : Header) (prev b : ℕ) (given : ByteReady s h b) wh
       go false true = down-range s (given .ready .accepted)
       go false false = omega arith
 
-  pub byte-most : byteCost (instanceOf s) prev b ≤ 501000000
+  byte-most : byteCost (instanceOf s) prev b ≤ 501000000
   unfolding byteCost
   byte-most = omega (arith, step-most, change-most)
+
+module _ {s : List ℕ} {h : Header} {bytes : List ℕ} (given : BytesReady s h bytes) (before : ℕ → ℕ) where
+  pub bytes-each : (x : ℕ) → x < length bytes → byteCost (instanceOf s) (before x) (getD bytes x 0) ≤ 501000000
+  bytes-each x below = byte-most s h (before x) (getD bytes x 0) (byte-ready x given below)
+
+  pub bytes-most : {cost : ℕ} → cost ≡ bytesCost (instanceOf s) before bytes → cost ≤ 204800 * 501000000
+  unfolding bytesCost
+  bytes-most e = omega (arith, sum-at-most (length bytes) bytes-each, given .few)

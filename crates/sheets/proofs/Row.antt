@@ -1,8 +1,7 @@
 -- A slot's row, filled in three parts.
-use Prim.Native.Nat.{ℕ, _-_, _+_, _*_, _/_, _%_, _≤_, _<_}
+use Prim.Native.Nat.{ℕ, _-_, _+_, _/_, _%_, _≤_, _<_}
 use mathlib.Core.Path.{_≡_, sym, _∙_}
 use mathlib.Core.List.{List, _++_}
-use native.Mathlib.Nat.{le-refl}
 use native.Mathlib.Omega.{arith}
 use lib.ListN.{length, take, drop, replicate}
 use borrow.Author.Tests.{lt-ltb, le-ltb}
@@ -12,7 +11,7 @@ use Rattle.lists.specs.Filling.{Upto, upto-all}
 use Rattle.lists.specs.Parts.{upto-front, upto-part, tabulate-same}
 use Rattle.model.specs.Sheets.{off}
 use Rattle.model.specs.Plans.{moduleByte}
-use Rattle.counts.proofs.Division.{rest-below, step-within}
+use Rattle.counts.proofs.Division.{rest-below}
 
 byte-off : (n l k : ℕ) → n ≤ k → moduleByte n l k ≡ off
 unfolding moduleByte

@@ -7,7 +7,7 @@ use native.Mathlib.Nat.{mul-le-mul, mul-le-mul-left, le-of-lt, eq-zero-or-pos}
 use native.Mathlib.Omega.{arith}
 use Rattle.model.specs.Instance.{Instance, instanceOf}
 use Rattle.model.specs.Counts.{operatingCost}
-use Rattle.model.specs.Thesis.{switchingPrice, stepUp}
+use Rattle.model.specs.Thesis.{stepUp}
 use Rattle.laws.specs.Acceptance.{modules-range, table-range, up-range, down-range}
 use Rattle.counts.specs.Serving.{Served}
 use Rattle.counts.proofs.Division.{rest-below, step-within, next-within, cost-none, cost-even, cost-uneven}

@@ -1,19 +1,23 @@
 -- The bytes of a sheet of m × T bytes are its states, slot by slot and module by module.
 use Prim.Native.Nat.{ℕ, zero, suc, _+_, _-_, _*_, _≤_, _<_}
-use mathlib.Core.Path.{_≡_, refl, ap, sym, _∙_}
-use mathlib.Core.Bool.{true, false}
+use mathlib.Core.Path.{_≡_, ap, sym, _∙_}
+use mathlib.Core.Bool.{true, false, cond}
 use mathlib.Core.List.{List}
 use native.Mathlib.Omega.{arith}
 use lib.ListN.{length, getD}
 use lib.Arith.{digits-lt}
-use lib.Dec.{eqb}
+use lib.Dec.{eqb, ltb}
 use borrow.Author.Tests.{lt-ltb, le-ltb, eq-eqb, ne-eqb}
 use borrow.Rule.Slice.PartMut.{midOf}
 use Rattle.lists.specs.Sums.{sum, sum-ext}
 use Rattle.lists.specs.Parts.{getD-within, part-length, part-at, row-within}
 use Rattle.model.specs.Instance.{Instance}
-use Rattle.model.specs.Sheets.{stepOf, stateAt, lightAt}
-use Rattle.sheets.specs.Marks.{rowLight, stateBefore}
+use Rattle.model.specs.Sheets.{off, stepOf, stateAt, lightAt}
+use Rattle.sheets.specs.Marks.{rowLight}
+
+-- the byte of the same module in the slot before byte x, where a row has m bytes
+unfoldable pub stateBefore : ℕ → List ℕ → ℕ → ℕ
+stateBefore m s x = cond (ltb x m) off (getD s (x - m) 0)
 
 module _ (i : Instance) (s : List ℕ) (size : length s ≡ i .modules * i .slots) where
   place-within : (t k : ℕ) → t < i .slots → k < i .modules → t * i .modules + k < length s

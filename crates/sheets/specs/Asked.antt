@@ -42,6 +42,12 @@ pub record ByteReady (s : List ℕ) (h : Header) (byte : ℕ) : Type 0 where
   pub ready : Ready s h
   pub in-range : isEntry (instanceOf s .topStep) byte ≡ true
 
+-- an accepted card with its header, and at most 200 × 1,024 bytes, each 0 to Q or 255
+pub record BytesReady (s : List ℕ) (h : Header) (bytes : List ℕ) : Type 0 where
+  pub ready : Ready s h
+  pub few : length bytes ≤ 204800
+  pub in-range : (x : ℕ) → x < length bytes → isEntry (instanceOf s .topStep) (getD bytes x 0) ≡ true
+
 -- a row of at most 200 bytes
 pub record RowShort (row : List ℕ) : Type 0 where
   pub short : length row ≤ 200

@@ -1,16 +1,14 @@
 // The sheet of a plan and its cost, and the marking of a sheet that is handed in.
 use card::Header;
 ghost use mathlib.Core.Path.{_≡_};
-ghost use Prim.Native.Nat.{_<_};
-ghost use mathlib.Core.List.{_++_};
-ghost use lib.ListN.{length, drop};
+ghost use lib.ListN.{length};
 ghost use Rattle.lists.specs.Lists.{tabulate};
 ghost use Rattle.model.specs.Instance.{instanceOf};
 ghost use Rattle.model.specs.Sheets.{stepOf, sheetLight, sheetCost};
 ghost use Rattle.model.specs.Plans.{moduleByte, sheetOf, planServes};
 ghost use Rattle.model.specs.Thesis.{stepUp, countsCost};
-ghost use Rattle.sheets.specs.Marks.{countsUpTo, isEntry, entriesUpTo, rowLight, stateBefore, byteCost, bytesCost, stopCost, rowStopCost};
-ghost use Rattle.sheets.specs.Asked.{RowFits, SlotReady, PlanSized, PlanReady, SheetRoom, ByteReady, RowShort, RowPriced, SheetSized, SheetReady};
+ghost use Rattle.sheets.specs.Marks.{written, countsUpTo, isEntry, entriesUpTo, rowLight, allOff, byteAt, byteCost, bytesCost, stopCost, rowStopCost};
+ghost use Rattle.sheets.specs.Asked.{RowFits, SlotReady, PlanSized, PlanReady, SheetRoom, ByteReady, BytesReady, RowShort, RowPriced, SheetSized, SheetReady};
 
 fn wide(x: u8) -> u64
     ensures { λ r. ⌜ r ≡ x ⌝ }
@@ -39,7 +37,7 @@ fn fill_slot(row: &mut [u8], n: u64, l: u64)
 pub fn write_sheet(card: &[u8], h: Header, plan: &[u8], sheet: &mut [u8])
     requires { ⌜ PlanReady (now card) h (now plan) ⌝ }
     requires { ⌜ SheetRoom (now card) (now sheet) ⌝ }
-    ensures { λ _. ⌜ now (sheet .exit) ≡ sheetOf (instanceOf (now (card .entry))) (now (plan .entry)) ++ drop (length (sheetOf (instanceOf (now (card .entry))) (now (plan .entry)))) (now (sheet .entry)) ⌝ }
+    ensures { λ _. ⌜ now (sheet .exit) ≡ written (sheetOf (instanceOf (now (card .entry))) (now (plan .entry))) (now (sheet .entry)) ⌝ }
 {
     let modules = h.modules as usize;
     let top = h.top;
@@ -118,13 +116,13 @@ pub fn plan_serves(card: &[u8], h: Header, plan: &[u8]) -> bool
 }
 
 // The byte is a step up to top, or off.
-fn is_entry(top: u64, byte: u8) -> bool
-    ensures { λ r. ⌜ r ≡ isEntry top byte ⌝ }
+fn is_entry(top: u64, b: u8) -> bool
+    ensures { λ r. ⌜ r ≡ isEntry top b ⌝ }
 {
-    if byte == 255 {
+    if b == 255 {
         return true;
     }
-    wide(byte) <= top
+    wide(b) <= top
 }
 
 // Each byte of the sheet is a step up to top, or off.
@@ -142,27 +140,27 @@ pub fn sheet_entries(top: u64, sheet: &[u8]) -> bool
 }
 
 // The step of a byte, 0 for off.
-fn step_of(byte: u8) -> u64
-    ensures { λ r. ⌜ r ≡ stepOf byte ⌝ }
+fn step_of(b: u8) -> u16
+    ensures { λ r. ⌜ r ≡ stepOf b ⌝ }
 {
-    if byte == 255 {
+    if b == 255 {
         return 0;
     }
-    wide(byte)
+    b as u16
 }
 
-// The steps of a row's active modules, summed.
+// The steps of a row's active modules, summed: at most 200 × 255.
 fn slot_light(row: &[u8]) -> u64
     requires { ⌜ RowShort (now row) ⌝ }
     ensures { λ r. ⌜ r ≡ rowLight (now (row .entry)) ⌝ }
 {
-    let mut light: u64 = 0;
+    let mut light: u16 = 0;
     let mut k = 0;
     while k < row.len() {
         light += step_of(row[k]);
         k += 1;
     }
-    light
+    light as u64
 }
 
 // In every slot the steps of the active modules sum to the load.
@@ -184,17 +182,6 @@ pub fn sheet_light(card: &[u8], h: Header, sheet: &[u8]) -> bool
         t += 1;
     }
     true
-}
-
-// The byte of the same module in the slot before, off before the first slot.
-fn state_before(sheet: &[u8], modules: usize, x: usize) -> u8
-    requires { ⌜ x < length (now sheet) ⌝ }
-    ensures { λ r. ⌜ r ≡ stateBefore modules (now (sheet .entry)) x ⌝ }
-{
-    if x < modules {
-        return 255;
-    }
-    sheet[x - modules]
 }
 
 // The price of a change to off.
@@ -222,16 +209,30 @@ fn byte_cost(card: &[u8], h: Header, prev: u8, byte: u8) -> u64
     run
 }
 
-// The cost of all bytes, each with the change to it.
-fn bytes_cost(card: &[u8], h: Header, sheet: &[u8]) -> u64
-    requires { ⌜ SheetReady (now card) h (now sheet) ⌝ }
-    ensures { λ r. ⌜ r ≡ bytesCost (instanceOf (now (card .entry))) (now (sheet .entry)) ⌝ }
+// The cost of the first slot's row.
+fn row_start_cost(card: &[u8], h: Header, row: &[u8]) -> u64
+    requires { ⌜ BytesReady (now card) h (now row) ⌝ }
+    ensures { λ r. ⌜ r ≡ bytesCost (instanceOf (now (card .entry))) allOff (now (row .entry)) ⌝ }
 {
-    let modules = h.modules as usize;
+    let mut cost: u64 = 0;
+    let mut k = 0;
+    while k < row.len() {
+        cost += byte_cost(card, h, 255, row[k]);
+        k += 1;
+    }
+    cost
+}
+
+// The cost of the later slots' rows, each byte with the change from the byte of the same module in the slot before.
+fn rows_cost(card: &[u8], h: Header, earlier: &[u8], later: &[u8]) -> u64
+    requires { ⌜ BytesReady (now card) h (now later) ⌝ }
+    requires { ⌜ length (now earlier) ≡ length (now later) ⌝ }
+    ensures { λ r. ⌜ r ≡ bytesCost (instanceOf (now (card .entry))) (byteAt (now (earlier .entry))) (now (later .entry)) ⌝ }
+{
     let mut cost: u64 = 0;
     let mut x = 0;
-    while x < sheet.len() {
-        cost += byte_cost(card, h, state_before(sheet, modules, x), sheet[x]);
+    while x < later.len() {
+        cost += byte_cost(card, h, earlier[x], later[x]);
         x += 1;
     }
     cost
@@ -251,7 +252,7 @@ fn row_stop_cost(down: u64, row: &[u8]) -> u64
     cost
 }
 
-// The cost of a sheet: of its bytes, and of the changes to off after the last slot.
+// The cost of a sheet: of its first row, of the later rows, and of the changes to off after the last.
 pub fn sheet_cost(card: &[u8], h: Header, sheet: &[u8]) -> u64
     requires { ⌜ SheetReady (now card) h (now sheet) ⌝ }
     ensures { λ r. ⌜ r ≡ sheetCost (instanceOf (now (card .entry))) (now (sheet .entry)) ⌝ }
@@ -259,7 +260,10 @@ pub fn sheet_cost(card: &[u8], h: Header, sheet: &[u8]) -> u64
     if h.slots == 0 {
         return 0;
     }
-    let cost = bytes_cost(card, h, sheet);
+    let second = h.modules as usize;
     let last = ((h.slots - 1) * h.modules) as usize;
-    cost + row_stop_cost(h.down, &sheet[last..])
+    let start = row_start_cost(card, h, &sheet[..second]);
+    let rest = rows_cost(card, h, &sheet[..last], &sheet[second..]);
+    let stop = row_stop_cost(h.down, &sheet[last..]);
+    start + rest + stop
 }

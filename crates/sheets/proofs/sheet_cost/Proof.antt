@@ -1,70 +1,110 @@
+use mathlib.Core.Path.{sym}
 use native.Mathlib.Omega.{arith}
-use Rattle.sheets.proofs.Totals.{last-small, last-within, last-priced, bytes-most, row-stop-most, sheet-empty, sheet-whole}
+use Rattle.sheets.proofs.Bytes.{bytes-most}
+use Rattle.sheets.proofs.Split.{first-length, earlier-length}
+use Rattle.sheets.proofs.Totals.{header-rows, first-ready, later-ready, rows-paired, last-priced, row-stop-most, sheet-empty, sheet-whole}
 use borrow.Author.Needs.{needs}
 use Rattle.sheets.proofs.sheet_cost.Statement.{statement}
 use Rattle.sheets.proofs.sheet_cost.Tie as tie
 use Rattle.sheets.proofs.sheet_cost.Reads as reads
 use Rattle.sheets.proofs.sheet_cost.Lts as lts
-use Rattle.sheets.proofs.bytes_cost.Reads as bytes-cost-reads
+use Rattle.sheets.proofs.row_start_cost.Reads as row-start-cost-reads
 use Rattle.sheets.proofs.row_stop_cost.Reads as row-stop-cost-reads
+use Rattle.sheets.proofs.rows_cost.Reads as rows-cost-reads
 
--- src/lib.rt:260:9
+-- src/lib.rt:261:9
 returns : tie.Need-returns
 returns c = sheet-empty (c .before .before .before .before .pre) (c .if1 .taken)
 
--- src/lib.rt:262:9
-bytes-cost-requires : tie.Need-bytes-cost-requires
-bytes-cost-requires c κs = search needs
-
--- src/lib.rt:263:18
+-- src/lib.rt:264:18
 sub-last : tie.Need-sub-last
 sub-last c = search needs
 
--- src/lib.rt:263:17
+-- src/lib.rt:264:17
 mul-last : tie.Need-mul-last
-mul-last c = record { fits = omega (arith, last-small (c .before .before .before .before .before .before .before .pre)) }
+mul-last c = record { fits = omega (arith, header-rows (c .before .before .before .before .before .before .pre) (c .before .before .if1 .left)) }
 
--- src/lib.rt:264:34
+-- src/lib.rt:265:41
+slice-aggregate-row-start-cost : tie.Need-slice-aggregate-row-start-cost
+slice-aggregate-row-start-cost c = sym (first-length _ _ _ (header-rows (c .before .before .before .before .before .before .before .pre) (c .before .before .before .if1 .left)))
+
+-- src/lib.rt:265:9
+row-start-cost-requires : tie.Need-row-start-cost-requires
+row-start-cost-requires c κs = first-ready (c .before .before .before .before .before .before .before .pre) (c .before .before .before .if1 .left)
+
+-- src/lib.rt:266:35
+slice-aggregate-rows-cost : tie.Need-slice-aggregate-rows-cost
+slice-aggregate-rows-cost c = sym (earlier-length _ _ _ (header-rows (c .before .before .before .before .before .before .before .before .before .pre) (c .before .before .before .before .before .if1 .left)))
+
+-- src/lib.rt:266:51
+sub-rows-cost : tie.Need-sub-rows-cost
+sub-rows-cost c = omega (arith, header-rows (c .before .before .before .before .before .before .before .before .before .pre) (c .before .before .before .before .before .if1 .left))
+
+-- src/lib.rt:266:51
+part-rows-cost-start : tie.Need-part-rows-cost-start
+part-rows-cost-start c = omega (arith, header-rows (c .before .before .before .before .before .before .before .before .before .pre) (c .before .before .before .before .before .if1 .left))
+
+-- src/lib.rt:266:51
+part-rows-cost-end : tie.Need-part-rows-cost-end
+part-rows-cost-end c = search needs
+
+-- src/lib.rt:266:9
+rows-cost-requires : tie.Need-rows-cost-requires
+rows-cost-requires c κs = (later-ready (c .before .before .before .before .before .before .before .before .before .before .pre) (c .before .before .before .before .before .before .if1 .left), rows-paired (c .before .before .before .before .before .before .before .before .before .before .pre) (c .before .before .before .before .before .before .if1 .left))
+
+-- src/lib.rt:267:38
 sub-row-stop-cost : tie.Need-sub-row-stop-cost
-sub-row-stop-cost c = last-within (c .before .before .before .before .before .before .before .pre)
+sub-row-stop-cost c = omega (arith, header-rows (c .before .before .before .before .before .before .before .before .before .before .before .pre) (c .before .before .before .before .before .before .before .if1 .left))
 
--- src/lib.rt:264:34
+-- src/lib.rt:267:38
 part-row-stop-cost-start : tie.Need-part-row-stop-cost-start
-part-row-stop-cost-start c = last-within (c .before .before .before .before .before .before .before .pre)
+part-row-stop-cost-start c = omega (arith, header-rows (c .before .before .before .before .before .before .before .before .before .before .before .pre) (c .before .before .before .before .before .before .before .if1 .left))
 
--- src/lib.rt:264:34
+-- src/lib.rt:267:38
 part-row-stop-cost-end : tie.Need-part-row-stop-cost-end
 part-row-stop-cost-end c = search needs
 
--- src/lib.rt:264:12
+-- src/lib.rt:267:9
 row-stop-cost-requires : tie.Need-row-stop-cost-requires
-row-stop-cost-requires c κs = last-priced (c .before .before .before .before .before .before .before .before .pre) (c .before .before .before .before .if1 .left)
+row-stop-cost-requires c κs = last-priced (c .before .before .before .before .before .before .before .before .before .before .before .before .pre) (c .before .before .before .before .before .before .before .before .if1 .left)
 
--- src/lib.rt:264:5
+-- src/lib.rt:268:5
 add-result : tie.Need-add-result
 add-result c =
-    let p = c .before .before .before .before .before .before .before .before .before .pre in
-    record {
-      fits =
-          omega
-          (arith, bytes-most p (c .before .before .before .before .bytes-cost .ensures), row-stop-most (last-priced p (c .before .before .before .before .before .if1 .left)) (c .row-stop-cost .ensures));
-    }
+    let start = bytes-most (first-ready (c .before .before .before .before .before .before .before .before .before .before .before .before .before .pre) (c .before .before .before .before .before .before .before .before .before .if1 .left)) _ (c .before .before .before .before .before .row-start-cost .ensures) in
+    let rest = bytes-most (later-ready (c .before .before .before .before .before .before .before .before .before .before .before .before .before .pre) (c .before .before .before .before .before .before .before .before .before .if1 .left)) _ (c .before .before .rows-cost .ensures) in
+    record { fits = omega (arith, start, rest) }
 
--- src/lib.rt:255:1
+-- src/lib.rt:268:5
+add-result-2 : tie.Need-add-result-2
+add-result-2 c =
+    let start = bytes-most (first-ready (c .before .before .before .before .before .before .before .before .before .before .before .before .before .pre) (c .before .before .before .before .before .before .before .before .before .if1 .left)) _ (c .before .before .before .before .before .row-start-cost .ensures) in
+    let rest = bytes-most (later-ready (c .before .before .before .before .before .before .before .before .before .before .before .before .before .pre) (c .before .before .before .before .before .before .before .before .before .if1 .left)) _ (c .before .before .rows-cost .ensures) in
+    let stop = row-stop-most (last-priced (c .before .before .before .before .before .before .before .before .before .before .before .before .before .pre) (c .before .before .before .before .before .before .before .before .before .if1 .left)) (c .row-stop-cost .ensures) in
+    record { fits = omega (arith, start, rest, stop) }
+
+-- src/lib.rt:256:1
 returns-2 : tie.Need-returns-2
-returns-2 c = sheet-whole (c .before .before .before .before .before .before .before .before .before .pre) (c .before .before .before .before .before .if1 .left) (c .before .before .before .before .bytes-cost .ensures) (c .row-stop-cost .ensures)
+returns-2 c = sheet-whole (c .before .before .before .before .before .before .before .before .before .before .before .before .before .pre) (c .before .before .before .before .before .before .before .before .before .if1 .left) (c .before .before .before .before .before .row-start-cost .ensures) (c .before .before .rows-cost .ensures) (c .row-stop-cost .ensures)
 
 pub sheet-cost-spec : {M : Type 1} → statement M
 sheet-cost-spec =
     tie.close
     (tie.spec
     returns
-    bytes-cost-requires
     sub-last
     mul-last
+    slice-aggregate-row-start-cost
+    row-start-cost-requires
+    slice-aggregate-rows-cost
+    sub-rows-cost
+    part-rows-cost-start
+    part-rows-cost-end
+    rows-cost-requires
     sub-row-stop-cost
     part-row-stop-cost-start
     part-row-stop-cost-end
     row-stop-cost-requires
     add-result
+    add-result-2
     returns-2)

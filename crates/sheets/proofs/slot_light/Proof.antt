@@ -2,7 +2,7 @@ use Prim.Native.Nat.{_-_}
 use native.Mathlib.Omega.{arith}
 use lib.ListN.{length, getD}
 use borrow.Author.Needs.{needs}
-use Rattle.lists.specs.Summing.{Summed, summed-none, summed-more, summed-all, summed-room}
+use Rattle.lists.specs.Summing.{Summed, summed-none, summed-more, summed-all, summed-most, summed-room}
 use Rattle.model.specs.Sheets.{stepOf}
 use Rattle.sheets.specs.Marks.{rowLight}
 use Rattle.sheets.proofs.Bytes.{step-bound}
@@ -18,19 +18,19 @@ Inv-loop row light₀ k₀ light k = Summed (length row) (λ j. stepOf (getD row
 abbrev μ-loop : tie.MeasureT-loop
 μ-loop row light₀ k₀ light k = length row - k
 
--- src/lib.rt:141:5
+-- src/lib.rt:159:5
 loop-holds : tie.Need-loop-holds Inv-loop μ-loop
 loop-holds c = summed-none _ _
 
--- src/lib.rt:142:26
+-- src/lib.rt:160:26
 shared-slice-read-step-of : tie.Need-shared-slice-read-step-of Inv-loop μ-loop
 shared-slice-read-step-of c = omega arith
 
--- src/lib.rt:142:18
+-- src/lib.rt:160:18
 step-of-requires : tie.Need-step-of-requires Inv-loop μ-loop
 step-of-requires c κs = search needs
 
--- src/lib.rt:142:9
+-- src/lib.rt:160:9
 add-light : tie.Need-add-light Inv-loop μ-loop
 add-light c =
     let l = c .before .before .before .loop in
@@ -40,19 +40,28 @@ add-light c =
           (arith, summed-room (l .inv) (c .before .before .loop-test .taken) (c .step-of .ensures) (λ j h. step-bound (c .before .shared-slice-known2 .given j)), c .before .before .before .before .before .pre .short);
     }
 
--- src/lib.rt:143:9
+-- src/lib.rt:161:9
 add-k : tie.Need-add-k Inv-loop μ-loop
 add-k c = omega arith
 
--- src/lib.rt:141:5
+-- src/lib.rt:159:5
 loop-less : tie.Need-loop-less Inv-loop μ-loop
 loop-less c = omega arith
 
--- src/lib.rt:141:5
+-- src/lib.rt:159:5
 loop-again : tie.Need-loop-again Inv-loop μ-loop
 loop-again c = summed-more (c .before .before .before .loop .inv) (c .before .before .loop-test .taken) (c .step-of .ensures)
 
--- src/lib.rt:135:1
+-- src/lib.rt:163:5
+cast-result : tie.Need-cast-result Inv-loop μ-loop
+cast-result c =
+    record {
+      fits =
+          omega
+          (arith, summed-most (c .before .loop .inv) (λ j h. step-bound (c .before .before .shared-slice-known .given j)), c .before .before .before .pre .short);
+    }
+
+-- src/lib.rt:153:1
 returns : tie.Need-returns Inv-loop μ-loop
 unfolding rowLight
 returns c = summed-all (c .before .loop .inv) (c .loop-test .left)
@@ -70,4 +79,5 @@ slot-light-spec =
     add-k
     loop-less
     loop-again
+    cast-result
     returns)

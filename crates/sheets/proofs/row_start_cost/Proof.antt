@@ -1,0 +1,69 @@
+use Prim.Native.Nat.{_-_}
+use native.Mathlib.Omega.{arith}
+use lib.ListN.{length, getD}
+use Rattle.lists.specs.Summing.{Summed, summed-none, summed-more, summed-all, summed-room}
+use Rattle.model.specs.Instance.{instanceOf}
+use Rattle.sheets.specs.Marks.{byteCost, bytesCost, allOff}
+use Rattle.sheets.proofs.Bytes.{byte-ready, bytes-each}
+use Rattle.sheets.proofs.row_start_cost.Statement.{statement}
+use Rattle.sheets.proofs.row_start_cost.Tie as tie
+use Rattle.sheets.proofs.row_start_cost.Reads as reads
+use Rattle.sheets.proofs.row_start_cost.Lts as lts
+use Rattle.sheets.proofs.byte_cost.Reads as byte-cost-reads
+
+abbrev Inv-loop : tie.InvT-loop
+Inv-loop card h row cost₀ k₀ cost k = Summed (length row) (λ j. byteCost (instanceOf card) (allOff j) (getD row j 0)) k cost
+
+abbrev μ-loop : tie.MeasureT-loop
+μ-loop card h row cost₀ k₀ cost k = length row - k
+
+-- src/lib.rt:219:5
+loop-holds : tie.Need-loop-holds Inv-loop μ-loop
+loop-holds c = summed-none _ _
+
+-- src/lib.rt:220:41
+shared-slice-read-byte-cost : tie.Need-shared-slice-read-byte-cost Inv-loop μ-loop
+shared-slice-read-byte-cost c = omega arith
+
+-- src/lib.rt:220:17
+byte-cost-requires : tie.Need-byte-cost-requires Inv-loop μ-loop
+byte-cost-requires c κs = byte-ready _ (c .before .before .before .before .before .pre) (c .before .loop-test .taken)
+
+-- src/lib.rt:220:9
+add-cost : tie.Need-add-cost Inv-loop μ-loop
+add-cost c =
+    let p = c .before .before .before .before .before .before .pre in
+    let room = summed-room (c .before .before .before .loop .inv) (c .before .before .loop-test .taken) (c .byte-cost .ensures) (bytes-each p allOff) in
+    record { fits = omega (arith, room, p .few) }
+
+-- src/lib.rt:221:9
+add-k : tie.Need-add-k Inv-loop μ-loop
+add-k c = omega arith
+
+-- src/lib.rt:219:5
+loop-less : tie.Need-loop-less Inv-loop μ-loop
+loop-less c = omega arith
+
+-- src/lib.rt:219:5
+loop-again : tie.Need-loop-again Inv-loop μ-loop
+loop-again c = summed-more (c .before .before .before .loop .inv) (c .before .before .loop-test .taken) (c .byte-cost .ensures)
+
+-- src/lib.rt:213:1
+returns : tie.Need-returns Inv-loop μ-loop
+unfolding bytesCost
+returns c = summed-all (c .before .loop .inv) (c .loop-test .left)
+
+pub row-start-cost-spec : {M : Type 1} → statement M
+row-start-cost-spec =
+    tie.close
+    (tie.spec
+    Inv-loop
+    μ-loop
+    loop-holds
+    shared-slice-read-byte-cost
+    byte-cost-requires
+    add-cost
+    add-k
+    loop-less
+    loop-again
+    returns)

@@ -1,0 +1,76 @@
+use Prim.Native.Nat.{_-_}
+use native.Mathlib.Omega.{arith}
+use lib.ListN.{length, getD}
+use Rattle.lists.specs.Summing.{Summed, summed-none, summed-more, summed-all, summed-room}
+use Rattle.model.specs.Instance.{instanceOf}
+use Rattle.sheets.specs.Marks.{byteCost, bytesCost, byteAt}
+use Rattle.sheets.proofs.Bytes.{byte-ready, bytes-each}
+use Rattle.sheets.proofs.rows_cost.Statement.{statement}
+use Rattle.sheets.proofs.rows_cost.Tie as tie
+use Rattle.sheets.proofs.rows_cost.Reads as reads
+use Rattle.sheets.proofs.rows_cost.Lts as lts
+use Rattle.sheets.proofs.byte_cost.Reads as byte-cost-reads
+
+abbrev Inv-loop : tie.InvT-loop
+Inv-loop card h earlier later cost₀ x₀ cost x =
+    Summed (length later) (λ y. byteCost (instanceOf card) (byteAt earlier y) (getD later y 0)) x cost
+
+abbrev μ-loop : tie.MeasureT-loop
+μ-loop card h earlier later cost₀ x₀ cost x = length later - x
+
+-- src/lib.rt:234:5
+loop-holds : tie.Need-loop-holds Inv-loop μ-loop
+loop-holds c = summed-none _ _
+
+-- src/lib.rt:235:36
+shared-slice-read-byte-cost : tie.Need-shared-slice-read-byte-cost Inv-loop μ-loop
+shared-slice-read-byte-cost c = omega arith
+
+-- src/lib.rt:235:48
+shared-slice-read-byte-cost-2 : tie.Need-shared-slice-read-byte-cost-2 Inv-loop μ-loop
+shared-slice-read-byte-cost-2 c = omega arith
+
+-- src/lib.rt:235:17
+byte-cost-requires : tie.Need-byte-cost-requires Inv-loop μ-loop
+byte-cost-requires c κs = byte-ready _ (c .before .before .before .before .before .before .before .pre .0) (c .before .before .loop-test .taken)
+
+-- src/lib.rt:235:9
+add-cost : tie.Need-add-cost Inv-loop μ-loop
+add-cost c =
+    let p = c .before .before .before .before .before .before .before .before .pre .0 in
+    let room =
+        summed-room (c .before .before .before .before .loop .inv) (c .before .before .before .loop-test .taken) (c .byte-cost .ensures) (bytes-each p (byteAt (c .before .before .before .before .before .before .before .before .args .earlier .now))) in
+    record { fits = omega (arith, room, p .few) }
+
+-- src/lib.rt:236:9
+add-x : tie.Need-add-x Inv-loop μ-loop
+add-x c = omega arith
+
+-- src/lib.rt:234:5
+loop-less : tie.Need-loop-less Inv-loop μ-loop
+loop-less c = omega arith
+
+-- src/lib.rt:234:5
+loop-again : tie.Need-loop-again Inv-loop μ-loop
+loop-again c = summed-more (c .before .before .before .before .loop .inv) (c .before .before .before .loop-test .taken) (c .byte-cost .ensures)
+
+-- src/lib.rt:227:1
+returns : tie.Need-returns Inv-loop μ-loop
+unfolding bytesCost
+returns c = summed-all (c .before .loop .inv) (c .loop-test .left)
+
+pub rows-cost-spec : {M : Type 1} → statement M
+rows-cost-spec =
+    tie.close
+    (tie.spec
+    Inv-loop
+    μ-loop
+    loop-holds
+    shared-slice-read-byte-cost
+    shared-slice-read-byte-cost-2
+    byte-cost-requires
+    add-cost
+    add-x
+    loop-less
+    loop-again
+    returns)
