@@ -1,0 +1,47 @@
+-- Bounds on the numbers of the search.
+use Prim.Native.Nat.{ℕ, zero, suc, _+_, _-_, _*_, _/_, _%_, _≤_, _<_}
+use mathlib.Core.Path.{_≡_, refl, sym, ap, _∙_}
+use mathlib.Core.List.{List}
+use mathlib.Core.Logic.{⊎-elim}
+use native.Mathlib.Nat.{mul-le-mul, mul-le-mul-left, eq-zero-or-pos}
+use native.Mathlib.Omega.{arith}
+use Rattle.model.specs.declared.Answer.the-variants.{Cost}
+use Rattle.model.specs.Instance.{Instance, instanceOf}
+use Rattle.model.specs.Counts.{operatingCost}
+use Rattle.model.specs.Calls.{checkCard, answer}
+use Rattle.laws.specs.Acceptance.{modules-range, table-range}
+use Rattle.counts.specs.Serving.{Served}
+use Rattle.counts.proofs.Division.{rest-below, step-within, next-within, cost-none, cost-even, cost-uneven}
+
+-- where no table entry exceeds b, n modules cost at most n times b
+operating-bound :
+    (i : Instance) (n l b : ℕ) → l ≤ n * i .topStep → ((k : ℕ) → k ≤ i .topStep → i .table k ≤ b) → operatingCost i n l ≤ n * b
+operating-bound i n l b serves table =
+    ⊎-elim
+    (λ (e : n ≡ 0). omega (arith, cost-none i n l e))
+    (λ (p : 0 < n). active p)
+    (eq-zero-or-pos n)
+  where
+    active : 0 < n → operatingCost i n l ≤ n * b
+    active p =
+        let some : n ≡ 0 → ⊥ = omega arith in
+        let low = mul-le-mul-left (n - l % n) (table (l / n) (step-within n l some (i .topStep) serves)) in
+        let rest = rest-below n l some in
+        let whole : (n - l % n) * b + l % n * b ≡ n * b = parts (n - l % n) (l % n) n (omega arith) in
+        ⊎-elim
+        (λ (e : l % n ≡ 0). omega (arith, cost-even i n l some refl e))
+        (λ (q : 0 < l % n).
+        let left : l % n ≡ 0 → ⊥ = omega arith in
+        let high = mul-le-mul-left (l % n) (table (l / n + 1) (next-within n l some (i .topStep) serves left)) in
+        omega (arith, cost-uneven i n l some refl left refl))
+        (eq-zero-or-pos (l % n))
+      where
+        parts : (x y z : ℕ) → x + y ≡ z → x * b + y * b ≡ z * b
+        parts x y z e = omega (arith, ap (λ (u : ℕ). u * b) e)
+
+-- the running cost on an accepted card
+pub cost-bound : {s : List ℕ} {n l : ℕ} → Served s n l → operatingCost (instanceOf s) n l ≤ 200000000
+cost-bound {s} {n} {l} p =
+    let rack = p .in-rack in
+    let most = mul-le-mul {n₁ = n} {m₁ = 1000000} {n₂ = 200} {m₂ = 1000000} (omega (arith, modules-range s (p .accepted) .1)) (omega arith) in
+    omega (arith, operating-bound (instanceOf s) n l 1000000 (p .serves) (table-range s (p .accepted)))

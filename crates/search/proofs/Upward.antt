@@ -1,0 +1,109 @@
+-- The upward pass: its bound, its recursion over the downward choices, and the loop.
+use Prim.Native.Nat.{ℕ, zero, suc, _+_, _-_, _*_, _≤_, _<_}
+use mathlib.Core.Path.{_≡_, refl, sym, ap, _∙_}
+use mathlib.Core.Bool.{Bool, true, false, cond}
+use mathlib.Core.List.{List}
+use native.Mathlib.Nat.{le-refl, mul-le-mul}
+use native.Mathlib.Numerals.{add-one}
+use native.Mathlib.Omega.{arith}
+use lib.Dec.{leb}
+use lib.ListN.{length, getD, set}
+use borrow.Author.Tests.{leb-true}
+use Rattle.lists.specs.Lists.{tabulate}
+use Rattle.lists.specs.Filling.{Upto, upto-more, upto-all}
+use Rattle.lists.specs.InPlace.{upto-first}
+use Rattle.model.specs.Instance.{Instance}
+use Rattle.model.specs.Thesis.{switchingPrice}
+use Rattle.columns.specs.Column.{Choice, cheaper, countAtPlace, downward, upward}
+use Rattle.search.specs.Written.{rising, choiceIn, costList, placeList}
+use Rattle.search.specs.Asked.{Choices, mostCost}
+
+-- the lower of two choices is at most the second
+pub cheaper-bound : (a b : Choice) → cheaper a b .cost ≤ b .cost
+cheaper-bound a b = go (leb (a .cost) (b .cost)) refl
+  where
+    go : (t : Bool) → leb (a .cost) (b .cost) ≡ t → cond t a b .cost ≤ b .cost
+    go true e = leb-true (a .cost) (b .cost) e
+    go false e = le-refl (b .cost)
+
+module _ (price : ℕ) (counts : List ℕ) (given : ℕ → Choice) where
+  pub rising-next :
+      (j : ℕ) →
+      rising price counts given (j + 1) ≡
+      cheaper
+      (record {
+        cost = rising price counts given j .cost + price * (countAtPlace counts (j + 1) - countAtPlace counts j);
+        at = rising price counts given j .at;
+      })
+      (given (j + 1))
+  unfolding rising
+  rising-next j = rw add-one
+
+  pub rising-bound : (j : ℕ) → rising price counts given j .cost ≤ given j .cost
+  unfolding rising
+  rising-bound zero = le-refl (given 0 .cost)
+  rising-bound (suc j) = cheaper-bound _ (given (suc j))
+
+  -- over the downward choices it is the column's recursion
+  pub rising-upward :
+      (i : Instance) (l : ℕ) (before : ℕ → ℕ) → price ≡ switchingPrice i →
+      ((k : ℕ) → k < length counts → given k ≡ downward i counts l before k) →
+      (j : ℕ) → j < length counts → rising price counts given j ≡ upward i counts l before j
+  unfolding rising upward
+  rising-upward i l before e same zero h = same 0 h
+  rising-upward i l before e same (suc j) h =
+      rw (rising-upward i l before e same j (omega arith), same (suc j) h, e)
+
+-- The loop at place j: that place's choice is in hand, and the lists hold those up to it.
+pub record UpLoop (price : ℕ) (counts column₀ places₀ column places : List ℕ) (best : Choice) (j : ℕ) : Type 0 where
+  pub inside : j < length counts
+  pub here : best ≡ rising price counts (choiceIn column₀ places₀) j
+  pub costs : Upto (λ k. rising price counts (choiceIn column₀ places₀) k .cost) (j + 1) column₀ column
+  pub at-places : Upto (λ k. rising price counts (choiceIn column₀ places₀) k .at) (j + 1) places₀ places
+
+module _ {price : ℕ} {counts column₀ places₀ : List ℕ} (p : Choices price counts column₀ places₀) where
+  pub up-starts : UpLoop price counts column₀ places₀ column₀ places₀ (choiceIn column₀ places₀ 0) 0
+  unfolding rising
+  up-starts =
+      record {
+        inside = omega (arith, p .some);
+        here = refl;
+        costs = upto-first column₀ refl;
+        at-places = upto-first places₀ refl;
+      }
+
+  module _ {column places : List ℕ} {best : Choice} {j : ℕ} (f : UpLoop price counts column₀ places₀ column places best j) where
+    pub up-turns :
+        {next : Choice} → j + 1 < length counts →
+        next ≡
+        cheaper
+        (record { cost = best .cost + price * (countAtPlace counts (j + 1) - countAtPlace counts j); at = best .at })
+        (choiceIn column places (j + 1)) →
+        UpLoop price counts column₀ places₀ (set column (j + 1) (next .cost)) (set places (j + 1) (next .at)) next (j + 1)
+    up-turns {next} h e =
+        let here : next ≡ rising price counts (choiceIn column₀ places₀) (j + 1)
+              = e ∙ rw (f .costs .kept (j + 1) (omega arith), f .at-places .kept (j + 1) (omega arith), f .here, rising-next price counts (choiceIn column₀ places₀) j) in
+        record {
+          inside = h;
+          here = here;
+          costs = upto-more (f .costs) (omega (arith, p .priced .column-size)) (ap (λ c. c .cost) here);
+          at-places = upto-more (f .at-places) (omega (arith, p .places-size)) (ap (λ c. c .at) here);
+        }
+
+    pub up-ends :
+        length counts ≤ j + 1 →
+        (column ≡ costList counts (rising price counts (choiceIn column₀ places₀))) ×
+        (places ≡ placeList counts (rising price counts (choiceIn column₀ places₀)))
+    up-ends h =
+        (rw (← (p .priced .column-size)) (upto-all (f .costs) (omega (arith, p .priced .column-size))),
+         rw (← (p .places-size)) (upto-all (f .at-places) (omega (arith, p .places-size))))
+
+    -- the sums are small
+    pub best-small : best .cost ≤ 2 * mostCost
+    best-small =
+        omega (arith, ap (λ c. c .cost) (f .here), rising-bound price counts (choiceIn column₀ places₀) j, p .small .each j)
+
+    pub rise-small : price * (countAtPlace counts (j + 1) - countAtPlace counts j) ≤ 200000000000
+    rise-small =
+        mul-le-mul {n₁ = price} {m₁ = countAtPlace counts (j + 1) - countAtPlace counts j} {n₂ = 1000000000} {m₂ = 200}
+        (p .priced .price-range) (omega (arith, p .priced .counts-range .each (j + 1)))

@@ -1,0 +1,105 @@
+// The search over a list of allowed counts (thesis 4.2, 5.1): one slot's column, all slots, the way back.
+ghost use mathlib.Core.Path.{_≡_};
+ghost use Prim.Native.Nat.{ℕ, _≤_};
+ghost use Rattle.model.specs.Instance.{instanceOf};
+ghost use Rattle.counts.specs.Serving.{Served};
+ghost use Rattle.columns.specs.Column.{Choice, cheaper, downward};
+ghost use Rattle.search.specs.Written.{choiceOf, servedAt, servedOrAbove, costIn, choiceIn, costList, placeList, rising};
+ghost use Rattle.search.specs.Asked.{InRack, SlotAfter, Choices, mostCost};
+
+// A cost, and the place that it comes from.
+struct Candidate {
+    cost: u64,
+    place: u8,
+}
+
+// The candidate of lower cost, the first on a tie.
+fn cheaper_of(first: Candidate, second: Candidate) -> Candidate
+    ensures { λ r. ⌜ choiceOf r ≡ cheaper (choiceOf first) (choiceOf second) ⌝ }
+{
+    if first.cost <= second.cost {
+        return first;
+    }
+    second
+}
+
+// Serving the load l with n modules at a place, where the slots before cost before.
+fn own(card: &[u8], n: u64, l: u64, before: u64, place: u8) -> Candidate
+    requires { ⌜ Served (now card) n l ⌝ }
+    requires { ⌜ before ≤ mostCost ⌝ }
+    ensures { λ r. ⌜ choiceOf r ≡ servedAt (instanceOf (now (card .entry))) n l before place ⌝ }
+{
+    let cost = before + counts::operating_cost(card, n, l);
+    Candidate { cost, place }
+}
+
+// One place of the downward pass: its own candidate if its count can serve, else that of the place above.
+fn own_or_above(card: &[u8], top: u64, n: u64, l: u64, before: u64, place: u8, above: Candidate) -> Candidate
+    requires { ⌜ InRack (now card) top n before ⌝ }
+    ensures { λ r. ⌜ choiceOf r ≡ servedOrAbove (instanceOf (now (card .entry))) n l before place (choiceOf above) ⌝ }
+{
+    if n * top < l {
+        return above;
+    }
+    let mine = own(card, n, l, before, place);
+    cheaper_of(mine, above)
+}
+
+// The downward pass of a slot with load l, from the last place to place 0: the best of each place and those above.
+fn down_pass(card: &[u8], top: u64, counts: &[u64], l: u64, column: &mut [u64], places: &mut [u8])
+    requires { ⌜ SlotAfter (now card) top (now counts) l (now column) (now places) ⌝ }
+    ensures {
+        λ _.
+        ⌜ now (column .exit) ≡ costList (now (counts .entry)) (downward (instanceOf (now (card .entry))) (now (counts .entry)) l (costIn (now (column .entry)))) ⌝
+    }
+    ensures {
+        λ _.
+        ⌜ now (places .exit) ≡ placeList (now (counts .entry)) (downward (instanceOf (now (card .entry))) (now (counts .entry)) l (costIn (now (column .entry)))) ⌝
+    }
+{
+    let last = counts.len() - 1;
+    let mut j = last;
+    let mut best = own(card, counts[last], l, column[last], last as u8);
+    while 0 < j {
+        column[j] = best.cost;
+        places[j] = best.place;
+        j -= 1;
+        best = own_or_above(card, top, counts[j], l, column[j], j as u8, best);
+    }
+    column[0] = best.cost;
+    places[0] = best.place;
+}
+
+// The upward pass over a column and its places: the best of all places, with the price of the modules switched on.
+fn up_pass(price: u64, counts: &[u64], column: &mut [u64], places: &mut [u8])
+    requires { ⌜ Choices price (now counts) (now column) (now places) ⌝ }
+    ensures {
+        λ _.
+        ⌜ now (column .exit) ≡ costList (now (counts .entry)) (rising price (now (counts .entry)) (choiceIn (now (column .entry)) (now (places .entry)))) ⌝
+    }
+    ensures {
+        λ _.
+        ⌜ now (places .exit) ≡ placeList (now (counts .entry)) (rising price (now (counts .entry)) (choiceIn (now (column .entry)) (now (places .entry)))) ⌝
+    }
+{
+    let mut j = 0;
+    let mut best = Candidate {
+        cost: column[0],
+        place: places[0],
+    };
+    while j + 1 < counts.len() {
+        let next = j + 1;
+        let raised = Candidate {
+            cost: best.cost + price * (counts[next] - counts[j]),
+            place: best.place,
+        };
+        let given = Candidate {
+            cost: column[next],
+            place: places[next],
+        };
+        best = cheaper_of(raised, given);
+        column[next] = best.cost;
+        places[next] = best.place;
+        j = next;
+    }
+}
