@@ -11,6 +11,7 @@ use Rattle.model.specs.Counts.{operatingCost}
 use Rattle.model.specs.Calls.{checkCard, answer}
 use Rattle.laws.specs.Acceptance.{modules-range, table-range}
 use Rattle.counts.specs.Serving.{Served}
+use Rattle.search.specs.Asked.{Priced}
 use Rattle.counts.proofs.Division.{rest-below, step-within, next-within, cost-none, cost-even, cost-uneven}
 
 -- where no table entry exceeds b, n modules cost at most n times b
@@ -45,3 +46,7 @@ cost-bound {s} {n} {l} p =
     let rack = p .in-rack in
     let most = mul-le-mul {n₁ = n} {m₁ = 1000000} {n₂ = 200} {m₂ = 1000000} (omega (arith, modules-range s (p .accepted) .1)) (omega arith) in
     omega (arith, operating-bound (instanceOf s) n l 1000000 (p .serves) (table-range s (p .accepted)))
+
+-- the price of a rack's modules
+pub price-small : {price : ℕ} {counts column : List ℕ} → Priced price counts column → (x : ℕ) → x ≤ 200 → price * x ≤ 200000000000
+price-small {price} p x h = mul-le-mul {n₁ = price} {m₁ = x} {n₂ = 1000000000} {m₂ = 200} (p .price-range) h

@@ -1,14 +1,11 @@
 -- The upward pass: its bound, its recursion over the downward choices, and the loop.
 use Prim.Native.Nat.{ℕ, zero, suc, _+_, _-_, _*_, _≤_, _<_}
 use mathlib.Core.Path.{_≡_, refl, sym, ap, _∙_}
-use mathlib.Core.Bool.{Bool, true, false, cond}
 use mathlib.Core.List.{List}
-use native.Mathlib.Nat.{le-refl, mul-le-mul}
+use native.Mathlib.Nat.{le-refl}
 use native.Mathlib.Numerals.{add-one}
 use native.Mathlib.Omega.{arith}
-use lib.Dec.{leb}
 use lib.ListN.{length, getD, set}
-use borrow.Author.Tests.{leb-true}
 use Rattle.lists.specs.Lists.{tabulate}
 use Rattle.lists.specs.Filling.{Upto, upto-more, upto-all}
 use Rattle.lists.specs.InPlace.{upto-first}
@@ -17,14 +14,8 @@ use Rattle.model.specs.Thesis.{switchingPrice}
 use Rattle.columns.specs.Column.{Choice, cheaper, countAtPlace, downward, upward}
 use Rattle.search.specs.Written.{rising, choiceIn, costList, placeList}
 use Rattle.search.specs.Asked.{Choices, mostCost}
-
--- the lower of two choices is at most the second
-pub cheaper-bound : (a b : Choice) → cheaper a b .cost ≤ b .cost
-cheaper-bound a b = go (leb (a .cost) (b .cost)) refl
-  where
-    go : (t : Bool) → leb (a .cost) (b .cost) ≡ t → cond t a b .cost ≤ b .cost
-    go true e = leb-true (a .cost) (b .cost) e
-    go false e = le-refl (b .cost)
+use Rattle.search.proofs.Bounds.{price-small}
+use Rattle.search.proofs.Columns.{cheaper-bound}
 
 module _ (price : ℕ) (counts : List ℕ) (given : ℕ → Choice) where
   pub rising-next :
@@ -105,5 +96,4 @@ module _ {price : ℕ} {counts column₀ places₀ : List ℕ} (p : Choices pric
 
     pub rise-small : price * (countAtPlace counts (j + 1) - countAtPlace counts j) ≤ 200000000000
     rise-small =
-        mul-le-mul {n₁ = price} {m₁ = countAtPlace counts (j + 1) - countAtPlace counts j} {n₂ = 1000000000} {m₂ = 200}
-        (p .priced .price-range) (omega (arith, p .priced .counts-range .each (j + 1)))
+        price-small (p .priced) (countAtPlace counts (j + 1) - countAtPlace counts j) (omega (arith, p .priced .counts-range .each (j + 1)))

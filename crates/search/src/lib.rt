@@ -3,9 +3,9 @@ ghost use mathlib.Core.Path.{_≡_};
 ghost use Prim.Native.Nat.{ℕ, _≤_};
 ghost use Rattle.model.specs.Instance.{instanceOf};
 ghost use Rattle.counts.specs.Serving.{Served};
-ghost use Rattle.columns.specs.Column.{Choice, cheaper, downward};
-ghost use Rattle.search.specs.Written.{choiceOf, servedAt, servedOrAbove, costIn, choiceIn, costList, placeList, rising};
-ghost use Rattle.search.specs.Asked.{InRack, SlotAfter, Choices, mostCost};
+ghost use Rattle.columns.specs.Column.{Choice, cheaper, downward, upward};
+ghost use Rattle.search.specs.Written.{choiceOf, servedAt, servedOrAbove, costIn, choiceIn, costList, placeList, rising, priceList};
+ghost use Rattle.search.specs.Asked.{InRack, SlotAfter, PricedSlot, Choices, Priced, mostCost};
 
 // A cost, and the place that it comes from.
 struct Candidate {
@@ -101,5 +101,33 @@ fn up_pass(price: u64, counts: &[u64], column: &mut [u64], places: &mut [u8])
         column[next] = best.cost;
         places[next] = best.place;
         j = next;
+    }
+}
+
+// One slot with load l: the column before it becomes the column after it, and places holds its selections.
+fn one_slot(card: &[u8], top: u64, price: u64, counts: &[u64], l: u64, column: &mut [u64], places: &mut [u8])
+    requires { ⌜ PricedSlot (now card) top price (now counts) l (now column) (now places) ⌝ }
+    ensures {
+        λ _.
+        ⌜ now (column .exit) ≡ costList (now (counts .entry)) (upward (instanceOf (now (card .entry))) (now (counts .entry)) l (costIn (now (column .entry)))) ⌝
+    }
+    ensures {
+        λ _.
+        ⌜ now (places .exit) ≡ placeList (now (counts .entry)) (upward (instanceOf (now (card .entry))) (now (counts .entry)) l (costIn (now (column .entry)))) ⌝
+    }
+{
+    down_pass(card, top, counts, l, column, places);
+    up_pass(price, counts, column, places);
+}
+
+// The column before the first slot: all modules of a count are switched on.
+fn start_column(price: u64, counts: &[u64], column: &mut [u64])
+    requires { ⌜ Priced price (now counts) (now column) ⌝ }
+    ensures { λ _. ⌜ now (column .exit) ≡ priceList price (now (counts .entry)) ⌝ }
+{
+    let mut j = 0;
+    while j < counts.len() {
+        column[j] = price * counts[j];
+        j += 1;
     }
 }

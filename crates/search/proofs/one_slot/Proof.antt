@@ -1,0 +1,36 @@
+use Rattle.search.proofs.Slot.{passes-meet, slot-costs, slot-places}
+use borrow.Author.Needs.{needs}
+use Rattle.search.proofs.one_slot.Statement.{statement}
+use Rattle.search.proofs.one_slot.Tie as tie
+use Rattle.search.proofs.one_slot.Reads as reads
+use Rattle.search.proofs.one_slot.Lts as lts
+use Rattle.search.proofs.down_pass.Reads as down-pass-reads
+use Rattle.search.proofs.up_pass.Reads as up-pass-reads
+
+-- src/lib.rt:119:5
+down-pass-requires : tie.Need-down-pass-requires
+down-pass-requires c κs = search needs
+
+-- src/lib.rt:120:5
+up-pass-requires : tie.Need-up-pass-requires
+up-pass-requires c κs = let e = c .before .before .before .before .before .before .down-pass .ensures in passes-meet (c .before .before .before .before .before .before .before .before .before .before .before .before .before .pre) (e .0) (e .1)
+
+-- src/lib.rt:108:1
+same-length : tie.Need-same-length
+same-length c = search needs
+
+-- src/lib.rt:108:1
+same-length-2 : tie.Need-same-length-2
+same-length-2 c = search needs
+
+-- src/lib.rt:108:1
+returns : tie.Need-returns
+returns c =
+    let p = c .before .before .before .before .before .before .before .before .before .before .before .before .before .before .before .before .before .before .pre in
+    let down = c .before .before .before .before .before .before .before .before .before .before .before .down-pass .ensures in
+    let up = c .before .before .before .before .up-pass .ensures in
+    (slot-costs p (down .0) (down .1) (up .0), slot-places p (down .0) (down .1) (up .1))
+
+pub one-slot-spec : {M : Type 1} → statement M
+one-slot-spec =
+    tie.close (tie.spec down-pass-requires up-pass-requires same-length same-length-2 returns)
