@@ -5,3 +5,4 @@ pub mod Downward
 pub mod Allowed
 pub mod Upward
 pub mod Slot
+pub mod Slots

@@ -62,6 +62,13 @@ pub record PricedSlot (s : List ℕ) (top price : ℕ) (counts : List ℕ) (l : 
   pub slot : SlotAfter s top counts l column places
   pub price-is : price ≡ switchingPrice (instanceOf s)
 
+-- an accepted card with its header, the allowed counts, a column with an entry for each place, and a byte for each place and slot
+pub record SlotsAhead (s : List ℕ) (h : Header) (counts column work : List ℕ) : Type 0 where
+  pub ready : Ready s h
+  pub allowed : CountsUpTo counts (instanceOf s .modules)
+  pub column-size : length column ≡ length counts
+  pub work-room : length counts * instanceOf s .slots ≤ length work
+
 -- rows of selections for a plan's slots: each byte is a place, and each count fits in a byte
 pub record Leading (counts work plan : List ℕ) : Type 0 where
   pub some : 1 ≤ length counts

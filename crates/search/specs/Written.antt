@@ -2,7 +2,7 @@
 use Prim.Native.Nat.{ℕ, zero, suc, _+_, _-_, _*_}
 use mathlib.Core.Bool.{cond}
 use mathlib.Core.List.{List, [], _∷_, _++_}
-use lib.ListN.{length, getD}
+use lib.ListN.{length, getD, drop}
 use Rattle.lists.specs.Lists.{tabulate, rows}
 use Rattle.model.specs.Instance.{Instance}
 use Rattle.model.specs.Counts.{canServe, operatingCost}
@@ -60,6 +60,10 @@ selectionRow i counts t = tabulate (length counts) (selection i counts 0 t)
 
 unfoldable pub selectionRows : Instance → List ℕ → ℕ → List ℕ
 selectionRows i counts t = rows t (selectionRow i counts)
+
+-- a work buffer after all slots: the selections, and the rest as it was
+abbrev pub selectionsIn : Instance → List ℕ → List ℕ → List ℕ
+selectionsIn i counts work = selectionRows i counts (i .slots) ++ drop (i .slots * length counts) work
 
 -- the way back from place j after t slots, over rows of selections: the counts of the slots
 unfoldable pub wayThrough : List ℕ → List ℕ → ℕ → ℕ → List ℕ

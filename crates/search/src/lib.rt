@@ -2,10 +2,11 @@
 ghost use mathlib.Core.Path.{_≡_};
 ghost use Prim.Native.Nat.{ℕ, _≤_};
 ghost use Rattle.model.specs.Instance.{instanceOf};
+use card::Header;
 ghost use Rattle.counts.specs.Serving.{Served};
 ghost use Rattle.columns.specs.Column.{Choice, cheaper, downward, upward};
-ghost use Rattle.search.specs.Written.{choiceOf, servedAt, servedOrAbove, costIn, choiceIn, costList, placeList, rising, priceList};
-ghost use Rattle.search.specs.Asked.{InRack, SlotAfter, PricedSlot, Choices, Priced, mostCost};
+ghost use Rattle.search.specs.Written.{choiceOf, servedAt, servedOrAbove, costIn, choiceIn, costList, placeList, rising, priceList, columnList, selectionsIn};
+ghost use Rattle.search.specs.Asked.{InRack, SlotAfter, PricedSlot, Choices, Priced, SlotsAhead, mostCost};
 
 // A cost, and the place that it comes from.
 struct Candidate {
@@ -129,5 +130,26 @@ fn start_column(price: u64, counts: &[u64], column: &mut [u64])
     while j < counts.len() {
         column[j] = price * counts[j];
         j += 1;
+    }
+}
+
+// All slots from start count 0: the column after the last slot, and each slot's selections in its row of work.
+fn all_slots(card: &[u8], h: Header, counts: &[u64], column: &mut [u64], work: &mut [u8])
+    requires { ⌜ SlotsAhead (now card) h (now counts) (now column) (now work) ⌝ }
+    ensures { λ _. ⌜ now (column .exit) ≡ columnList (instanceOf (now (card .entry))) (now (counts .entry)) (instanceOf (now (card .entry)) .slots) ⌝ }
+    ensures { λ _. ⌜ now (work .exit) ≡ selectionsIn (instanceOf (now (card .entry))) (now (counts .entry)) (now (work .entry)) ⌝ }
+{
+    let price = h.up + h.down;
+    let top = h.top;
+    let slots = h.slots;
+    let width = counts.len();
+    start_column(price, counts, column);
+    let mut t: u64 = 0;
+    while t < slots {
+        let l = card::load(card, top, t);
+        let row = t as usize * width;
+        let end = row + width;
+        one_slot(card, top, price, counts, l, column, &mut work[row..end]);
+        t += 1;
     }
 }
