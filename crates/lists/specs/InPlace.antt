@@ -1,8 +1,9 @@
 -- Loops that rewrite a list in place, entry by entry or row by row.
-use Prim.Native.Nat.{ℕ, suc, _+_, _*_, _<_}
+use Prim.Native.Nat.{ℕ, suc, _+_, _*_, _/_, _%_, _<_}
 use mathlib.Core.Path.{_≡_, refl, sym, ap, _∙_}
 use mathlib.Core.List.{List, _++_, append-assoc}
-use native.Mathlib.Nat.{mul-le-mul-right}
+use mathlib.Core.Logic.{⊎-elim}
+use native.Mathlib.Nat.{mul-le-mul-right, eq-zero-or-pos, mod-lt, div-add-mod', div-lt-iff-lt-mul}
 use native.Mathlib.Numerals.{add-one}
 use native.Mathlib.Omega.{arith}
 use lib.ListN.{length, getD, take, drop, List·getD-append}
@@ -34,6 +35,14 @@ module _ (m : ℕ) (f : ℕ → List ℕ) (sized : (t : ℕ) → length (f t) �
   front-row n t k d rest h g =
       List·getD-append (rows n f) rest d (t * m + k) (omega (arith, length-rows m n f sized, mul-le-mul-right m h)) ∙
       getD-rows m n f sized t k d h g
+
+  -- each entry stands in its row
+  pub front-entry : (n k d : ℕ) (rest : List ℕ) → k < n * m → getD (rows n f ++ rest) k d ≡ getD (f (k / m)) (k % m) d
+  front-entry n k d rest h =
+      ⊎-elim
+      (λ (none : m ≡ 0). absurd (omega (arith, ap (λ (x : ℕ). n * x) none)))
+      (λ (some : 0 < m). rw (div-add-mod' k m) at (front-row n (k / m) (k % m) d rest (div-lt-iff-lt-mul some .1 h) (mod-lt k some)))
+      (eq-zero-or-pos m)
 
   -- the next row, put in the place of the m entries from a on
   pub next-row :

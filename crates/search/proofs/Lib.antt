@@ -6,3 +6,5 @@ pub mod Allowed
 pub mod Upward
 pub mod Slot
 pub mod Slots
+pub mod Back
+pub mod Found

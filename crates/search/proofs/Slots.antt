@@ -31,7 +31,7 @@ pub record SlotLoop (i : Instance) (counts work₀ costs work : List ℕ) (t : �
   pub column-is : costs ≡ columnList i counts t
   pub work-is : work ≡ selectionRows i counts t ++ drop (t * length counts) work₀
 
-row-size : (i : Instance) (counts : List ℕ) (t : ℕ) → length (selectionRow i counts t) ≡ length counts
+pub row-size : (i : Instance) (counts : List ℕ) (t : ℕ) → length (selectionRow i counts t) ≡ length counts
 unfolding selectionRow
 row-size i counts t = length-tabulate (length counts) (selection i counts 0 t)
 

@@ -74,7 +74,7 @@ pub record Leading (counts work plan : List ℕ) : Type 0 where
   pub some : 1 ≤ length counts
   pub counts-range : AtMost 255 counts
   pub room : length plan * length counts ≤ length work
-  pub inside : (t j : ℕ) → t < length plan → j < length counts → getD work (t * length counts + j) 0 < length counts
+  pub inside : (k : ℕ) → k < length plan * length counts → getD work k 0 < length counts
 
 -- An accepted card with its header, the allowed counts, a column with an entry for each place, a plan with a byte for each slot
 -- and a work buffer with a byte for each place and slot.

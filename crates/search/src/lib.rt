@@ -1,12 +1,13 @@
 // The search over a list of allowed counts (thesis 4.2, 5.1): one slot's column, all slots, the way back.
 ghost use mathlib.Core.Path.{_≡_};
 ghost use Prim.Native.Nat.{ℕ, _≤_};
+ghost use lib.ListN.{length, replicate};
 ghost use Rattle.model.specs.Instance.{instanceOf};
 use card::Header;
 ghost use Rattle.counts.specs.Serving.{Served};
-ghost use Rattle.columns.specs.Column.{Choice, cheaper, downward, upward};
-ghost use Rattle.search.specs.Written.{choiceOf, servedAt, servedOrAbove, costIn, choiceIn, costList, placeList, rising, priceList, columnList, selectionsIn};
-ghost use Rattle.search.specs.Asked.{InRack, SlotAfter, PricedSlot, Choices, Priced, SlotsAhead, mostCost};
+ghost use Rattle.columns.specs.Column.{Choice, cheaper, downward, upward, searchedPlan, searchedCost};
+ghost use Rattle.search.specs.Written.{choiceOf, servedAt, servedOrAbove, costIn, choiceIn, costList, placeList, rising, priceList, columnList, selectionsIn, wayThrough};
+ghost use Rattle.search.specs.Asked.{InRack, SlotAfter, PricedSlot, Choices, Priced, SlotsAhead, Leading, Searchable, mostCost};
 
 // A cost, and the place that it comes from.
 struct Candidate {
@@ -152,4 +153,40 @@ fn all_slots(card: &[u8], h: Header, counts: &[u64], column: &mut [u64], work: &
         one_slot(card, top, price, counts, l, column, &mut work[row..end]);
         t += 1;
     }
+}
+
+fn wide(x: u8) -> usize
+    ensures { λ r. ⌜ r ≡ x ⌝ }
+{
+    x as usize
+}
+
+// The way back through the rows of selections, from place 0 after the last slot: the count of each slot.
+fn way_back(counts: &[u64], work: &[u8], plan: &mut [u8])
+    requires { ⌜ Leading (now counts) (now work) (now plan) ⌝ }
+    ensures { λ _. ⌜ now (plan .exit) ≡ wayThrough (now (counts .entry)) (now (work .entry)) (length (now (plan .entry))) 0 ⌝ }
+{
+    let width = counts.len();
+    let mut t = plan.len();
+    let mut j = 0;
+    while 0 < t {
+        t -= 1;
+        let at = t * width + j;
+        j = wide(work[at]);
+        plan[t] = counts[j] as u8;
+    }
+}
+
+// The least plan over a list of allowed counts, and its cost. The work bytes are 0 afterwards.
+pub fn search(card: &[u8], h: Header, counts: &[u64], column: &mut [u64], plan: &mut [u8], work: &mut [u8]) -> u64
+    requires { ⌜ Searchable (now card) h (now counts) (now column) (now plan) (now work) ⌝ }
+    ensures cost { λ r. ⌜ r ≡ searchedCost (instanceOf (now (card .entry))) (now (counts .entry)) 0 ⌝ }
+    ensures plan { λ _. ⌜ now (plan .exit) ≡ searchedPlan (instanceOf (now (card .entry))) (now (counts .entry)) 0 ⌝ }
+    ensures work { λ _. ⌜ now (work .exit) ≡ replicate (length (now (work .entry))) 0 ⌝ }
+    ensures column { λ _. ⌜ now (column .exit) ≡ columnList (instanceOf (now (card .entry))) (now (counts .entry)) (instanceOf (now (card .entry)) .slots) ⌝ }
+{
+    all_slots(card, h, counts, column, work);
+    way_back(counts, work, plan);
+    buffers::fill(work, 0);
+    column[0]
 }

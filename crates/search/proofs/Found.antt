@@ -1,0 +1,76 @@
+-- What the search finds: the rows of selections lead back through the plan, and place 0 has its cost.
+use Prim.Native.Nat.{ℕ, zero, suc, _+_, _*_, _/_, _%_, _≤_, _<_}
+use mathlib.Core.Path.{_≡_, refl, sym, ap, _∙_}
+use mathlib.Core.List.{List, [], _∷_, _++_}
+use native.Mathlib.Nat.{mod-lt}
+use native.Mathlib.Omega.{arith}
+use lib.ListN.{length, getD, drop, replicate}
+use Rattle.lists.specs.Lists.{rows, getD-tabulate}
+use Rattle.lists.specs.InPlace.{front-row, front-entry}
+use Rattle.model.specs.Instance.{Instance, instanceOf}
+use Rattle.laws.specs.Acceptance.{modules-range}
+use Rattle.card.specs.declared.Header.{Header}
+use Rattle.columns.specs.Column.{countAtPlace, column, selection, wayBack, searchedPlan, searchedCost}
+use Rattle.search.specs.Written.{columnList, selectionRow, selectionRows, selectionsIn, wayThrough}
+use Rattle.search.specs.Asked.{Leading, SlotsAhead, Searchable}
+use Rattle.search.proofs.Allowed.{counts-at-most}
+use Rattle.search.proofs.Columns.{upward-inside}
+use Rattle.search.proofs.Slots.{row-size}
+
+module _ (i : Instance) (counts : List ℕ) where
+  row-entry : (t j : ℕ) → j < length counts → getD (selectionRow i counts t) j 0 ≡ selection i counts 0 t j
+  unfolding selectionRow
+  row-entry t j h = getD-tabulate (length counts) (selection i counts 0 t) j 0 h
+
+  selection-inside : 1 ≤ length counts → (t j : ℕ) → selection i counts 0 t j < length counts
+  unfolding selection
+  selection-inside some t j = upward-inside i counts (i .load t) (column i counts 0 t) some j
+
+  module _ (work : List ℕ) (some : 1 ≤ length counts) where
+    -- each byte of the rows is a place
+    row-inside : (k : ℕ) → k < i .slots * length counts → getD (selectionsIn i counts work) k 0 < length counts
+    unfolding selectionRows
+    row-inside k h =
+        let rest = drop (i .slots * length counts) work in
+        let j = mod-lt k some in
+        rw (front-entry (length counts) (selectionRow i counts) (row-size i counts) (i .slots) k 0 rest h, row-entry (k / length counts) (k % length counts) j)
+        (selection-inside some (k / length counts) (k % length counts))
+
+    -- through the rows the way back is that of the columns
+    way-same : (t j : ℕ) → t ≤ i .slots → j < length counts → wayThrough counts (selectionsIn i counts work) t j ≡ wayBack i counts 0 t j
+    unfolding wayThrough wayBack selectionRows
+    way-same zero j b h = refl
+    way-same (suc t) j b h =
+        let rest = drop (i .slots * length counts) work in
+        let here : getD (selectionsIn i counts work) (t * length counts + j) 0 ≡ selection i counts 0 t j
+              = front-row (length counts) (selectionRow i counts) (row-size i counts) (i .slots) t j 0 rest b h ∙ row-entry t j h in
+        rw (here, way-same t (selection i counts 0 t j) (omega arith) (selection-inside some t j))
+
+module _ {s : List ℕ} {h : Header} {counts column₀ plan work : List ℕ} (p : Searchable s h counts column₀ plan work) where
+  pub slots-ahead : SlotsAhead s h counts column₀ work
+  slots-ahead = record { ready = p .ready; allowed = p .allowed; column-size = p .column-size; work-room = p .work-room }
+
+  some-count : 1 ≤ length counts
+  some-count = omega (arith, p .allowed .two)
+
+  module _ {work₁ : List ℕ} (kept : length work₁ ≡ length work) (filled : work₁ ≡ selectionsIn (instanceOf s) counts work) where
+    pub leads-back : Leading counts work₁ plan
+    leads-back =
+        let slots = ap (λ (x : ℕ). x * length counts) (p .plan-size) in
+        record {
+          some = some-count;
+          counts-range = counts-at-most (p .allowed) 255 (omega (arith, modules-range s (p .ready .accepted) .1));
+          room = omega (arith, p .work-room);
+          inside = λ k b. rw filled (row-inside (instanceOf s) counts work some-count k (omega arith));
+        }
+
+    pub plan-found : {plan₁ : List ℕ} → plan₁ ≡ wayThrough counts work₁ (length plan) 0 → plan₁ ≡ searchedPlan (instanceOf s) counts 0
+    unfolding searchedPlan
+    plan-found e = e ∙ rw (filled, p .plan-size) (way-same (instanceOf s) counts work some-count (instanceOf s .slots) 0 (omega arith) some-count)
+
+    pub cleared : {work₂ : List ℕ} → work₂ ≡ replicate (length work₁) 0 → work₂ ≡ replicate (length work) 0
+    cleared e = e ∙ rw kept
+
+  pub cost-found : {column₁ : List ℕ} → column₁ ≡ columnList (instanceOf s) counts (instanceOf s .slots) → getD column₁ 0 0 ≡ searchedCost (instanceOf s) counts 0
+  unfolding columnList searchedCost
+  cost-found e = rw e (getD-tabulate (length counts) (column (instanceOf s) counts 0 (instanceOf s .slots)) 0 0 some-count)
