@@ -1,10 +1,9 @@
 -- What a list of allowed counts is known to hold.
-use Prim.Native.Nat.{ℕ, _+_, _-_, _≤_, _<_}
-use mathlib.Core.Path.{_≡_}
+use Prim.Native.Nat.{ℕ, _≤_, _<_}
 use mathlib.Core.List.{List}
 use mathlib.Core.Logic.{⊎-elim}
 use native.Mathlib.Omega.{arith}
-use lib.ListN.{length, getD, List·getD-eq-default}
+use lib.ListN.{length, List·getD-eq-default}
 use Rattle.lists.specs.Numbers.{le-or-lt}
 use Rattle.lists.specs.Kept.{neighbours-rise}
 use Rattle.columns.specs.Column.{countAtPlace, lastPlace}

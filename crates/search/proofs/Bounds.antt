@@ -1,14 +1,12 @@
 -- Bounds on the numbers of the search.
-use Prim.Native.Nat.{ℕ, zero, suc, _+_, _-_, _*_, _/_, _%_, _≤_, _<_}
-use mathlib.Core.Path.{_≡_, refl, sym, ap, _∙_}
+use Prim.Native.Nat.{ℕ, _+_, _-_, _*_, _/_, _%_, _≤_, _<_}
+use mathlib.Core.Path.{_≡_, refl, ap}
 use mathlib.Core.List.{List}
 use mathlib.Core.Logic.{⊎-elim}
 use native.Mathlib.Nat.{mul-le-mul, mul-le-mul-left, eq-zero-or-pos}
 use native.Mathlib.Omega.{arith}
-use Rattle.model.specs.declared.Answer.the-variants.{Cost}
 use Rattle.model.specs.Instance.{Instance, instanceOf}
 use Rattle.model.specs.Counts.{operatingCost}
-use Rattle.model.specs.Calls.{checkCard, answer}
 use Rattle.laws.specs.Acceptance.{modules-range, table-range}
 use Rattle.counts.specs.Serving.{Served}
 use Rattle.search.specs.Asked.{Priced}

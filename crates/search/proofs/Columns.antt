@@ -1,17 +1,17 @@
 -- Laws of a slot's choices and of the columns: bounds, places, and that only a column's entries matter.
 use Prim.Native.Nat.{ℕ, zero, suc, _+_, _-_, _*_, _≤_, _<_}
-use mathlib.Core.Path.{_≡_, refl, sym, ap, _∙_}
+use mathlib.Core.Path.{_≡_, refl}
 use mathlib.Core.Bool.{Bool, true, false, cond}
 use mathlib.Core.List.{List}
 use native.Mathlib.Nat.{le-refl, le-trans, mul-le-mul-left}
 use native.Mathlib.Omega.{arith}
 use lib.Dec.{leb}
-use lib.ListN.{length, getD}
+use lib.ListN.{length}
 use borrow.Author.Tests.{leb-true}
 use Rattle.model.specs.Instance.{Instance}
 use Rattle.model.specs.Counts.{canServe, operatingCost}
 use Rattle.model.specs.Thesis.{switchingPrice}
-use Rattle.columns.specs.Column.{Choice, cheaper, countAtPlace, lastPlace, own, fromTop, downward, raised, upward, column, selection}
+use Rattle.columns.specs.Column.{Choice, cheaper, countAtPlace, lastPlace, own, fromTop, downward, raised, upward, column}
 
 -- the lower of two choices is at most the second
 pub cheaper-bound : (a b : Choice) → cheaper a b .cost ≤ b .cost
@@ -93,6 +93,9 @@ unfolding column
 column-bound i counts m b slots fits full zero h j =
     omega (arith, mul-le-mul-left {m = countAtPlace counts j - 0} {n = m} (switchingPrice i) (omega (arith, fits j)))
 column-bound i counts m b slots fits full (suc t) h j =
-    omega
-    (arith, upward-bound i counts (i .load t) (column i counts 0 t) j, full t (omega arith),
-      column-bound i counts m b slots fits full t (omega arith) (lastPlace counts))
+    omega (
+      arith,
+      upward-bound i counts (i .load t) (column i counts 0 t) j,
+      full t (omega arith),
+      column-bound i counts m b slots fits full t (omega arith) (lastPlace counts),
+    )

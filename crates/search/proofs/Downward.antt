@@ -1,18 +1,17 @@
 -- The downward pass: its recursion by place, and the loop.
-use Prim.Native.Nat.{ℕ, zero, suc, _+_, _-_, _*_, _≤_, _<_}
+use Prim.Native.Nat.{ℕ, suc, _+_, _-_, _≤_, _<_}
 use mathlib.Core.Path.{_≡_, refl, sym, ap, _∙_}
 use mathlib.Core.List.{List}
 use native.Mathlib.Nat.{sub-self}
 use native.Mathlib.Omega.{arith}
 use lib.ListN.{length, getD, set}
 use lib.Seq.{getD-set-other}
-use Rattle.lists.specs.Lists.{tabulate}
 use Rattle.lists.specs.Filling.{Downto, downto-more, downto-all}
 use Rattle.lists.specs.InPlace.{downto-last}
 use Rattle.model.specs.Instance.{Instance, instanceOf}
 use Rattle.counts.specs.Serving.{Served}
 use Rattle.columns.specs.Column.{Choice, countAtPlace, lastPlace, fromTop, downward}
-use Rattle.search.specs.Written.{servedAt, servedOrAbove, costIn, costList, placeList}
+use Rattle.search.specs.Written.{servedAt, servedOrAbove, costIn, Holds}
 use Rattle.search.specs.Asked.{SlotAfter, InRack}
 use Rattle.search.proofs.Allowed.{counts-fit}
 
@@ -91,10 +90,14 @@ module _ (i : Instance) (counts : List ℕ) (l : ℕ) where
           at-places = rw back stored-places;
         }
 
-    pub down-ends : j ≤ 0 → (set column 0 (best .cost) ≡ costList counts (downward i counts l (costIn column₀))) × (set places 0 (best .at) ≡ placeList counts (downward i counts l (costIn column₀)))
+    pub down-ends :
+        j ≤ 0 → Holds counts (downward i counts l (costIn column₀)) (set column 0 (best .cost)) (set places 0 (best .at))
     down-ends h =
         let none : j ≡ 0 = omega arith in
-        (rw (← (f .column-size)) (downto-all (rw none at stored-costs)), rw (← (f .places-size)) (downto-all (rw none at stored-places)))
+        record {
+          costs-are = rw (← (f .column-size)) (downto-all (rw none at stored-costs));
+          places-are = rw (← (f .places-size)) (downto-all (rw none at stored-places));
+        }
 
 -- what the pass hands to the functions of one place
 module _ {s : List ℕ} {top : ℕ} {counts : List ℕ} {l : ℕ} {column₀ places₀ : List ℕ} (p : SlotAfter s top counts l column₀ places₀) where

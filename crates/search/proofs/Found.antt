@@ -1,17 +1,17 @@
 -- What the search finds: the rows of selections lead back through the plan, and place 0 has its cost.
 use Prim.Native.Nat.{ℕ, zero, suc, _+_, _*_, _/_, _%_, _≤_, _<_}
-use mathlib.Core.Path.{_≡_, refl, sym, ap, _∙_}
-use mathlib.Core.List.{List, [], _∷_, _++_}
+use mathlib.Core.Path.{_≡_, refl, ap, _∙_}
+use mathlib.Core.List.{List}
 use native.Mathlib.Nat.{mod-lt}
 use native.Mathlib.Omega.{arith}
 use lib.ListN.{length, getD, drop, replicate}
-use Rattle.lists.specs.Lists.{rows, getD-tabulate}
+use Rattle.lists.specs.Lists.{getD-tabulate}
 use Rattle.lists.specs.InPlace.{front-row, front-entry}
 use Rattle.model.specs.Instance.{Instance, instanceOf}
 use Rattle.laws.specs.Acceptance.{modules-range}
 use Rattle.card.specs.declared.Header.{Header}
-use Rattle.columns.specs.Column.{countAtPlace, column, selection, wayBack, searchedPlan, searchedCost}
-use Rattle.search.specs.Written.{columnList, selectionRow, selectionRows, selectionsIn, wayThrough}
+use Rattle.columns.specs.Column.{column, selection, wayBack, searchedPlan, searchedCost}
+use Rattle.search.specs.Written.{columnList, lastColumn, selectionRow, selectionRows, selectionsIn, wayThrough}
 use Rattle.search.specs.Asked.{Leading, SlotsAhead, Searchable}
 use Rattle.search.proofs.Allowed.{counts-at-most}
 use Rattle.search.proofs.Columns.{upward-inside}
@@ -43,7 +43,7 @@ module _ (i : Instance) (counts : List ℕ) where
     way-same (suc t) j b h =
         let rest = drop (i .slots * length counts) work in
         let here : getD (selectionsIn i counts work) (t * length counts + j) 0 ≡ selection i counts 0 t j
-              = front-row (length counts) (selectionRow i counts) (row-size i counts) (i .slots) t j 0 rest b h ∙ row-entry t j h in
+        = front-row (length counts) (selectionRow i counts) (row-size i counts) (i .slots) t j 0 rest b h ∙ row-entry t j h in
         rw (here, way-same t (selection i counts 0 t j) (omega arith) (selection-inside some t j))
 
 module _ {s : List ℕ} {h : Header} {counts column₀ plan work : List ℕ} (p : Searchable s h counts column₀ plan work) where
@@ -71,6 +71,6 @@ module _ {s : List ℕ} {h : Header} {counts column₀ plan work : List ℕ} (p 
     pub cleared : {work₂ : List ℕ} → work₂ ≡ replicate (length work₁) 0 → work₂ ≡ replicate (length work) 0
     cleared e = e ∙ rw kept
 
-  pub cost-found : {column₁ : List ℕ} → column₁ ≡ columnList (instanceOf s) counts (instanceOf s .slots) → getD column₁ 0 0 ≡ searchedCost (instanceOf s) counts 0
+  pub cost-found : {column₁ : List ℕ} → column₁ ≡ lastColumn (instanceOf s) counts → getD column₁ 0 0 ≡ searchedCost (instanceOf s) counts 0
   unfolding columnList searchedCost
   cost-found e = rw e (getD-tabulate (length counts) (column (instanceOf s) counts 0 (instanceOf s .slots)) 0 0 some-count)

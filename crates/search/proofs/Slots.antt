@@ -1,16 +1,15 @@
 -- All slots, one after the other: the loop over them, and what it hands to each.
-use Prim.Native.Nat.{ℕ, zero, suc, _+_, _-_, _*_, _≤_, _<_}
-use mathlib.Core.Path.{_≡_, refl, sym, ap, _∙_}
+use Prim.Native.Nat.{ℕ, suc, _+_, _-_, _*_, _≤_, _<_}
+use mathlib.Core.Path.{_≡_, sym, ap, _∙_}
 use mathlib.Core.List.{List, _++_}
 use native.Mathlib.Nat.{sub-zero, zero-mul, mul-le-mul, mul-le-mul-right}
 use native.Mathlib.Numerals.{add-one}
 use native.Mathlib.Omega.{arith}
-use lib.ListN.{length, getD, take, drop, length-append, length-drop}
+use lib.ListN.{length, take, drop, length-append, length-drop}
 use borrow.Rule.Slice.PartMut.{mid-len}
-use Rattle.lists.specs.Lists.{tabulate, rows, length-tabulate, getD-tabulate, length-rows}
+use Rattle.lists.specs.Lists.{rows, length-tabulate, getD-tabulate, length-rows}
 use Rattle.lists.specs.InPlace.{tabulate-same, next-row}
 use Rattle.model.specs.Instance.{Instance, instanceOf, loadPlace}
-use Rattle.model.specs.Counts.{operatingCost}
 use Rattle.model.specs.Thesis.{switchingPrice}
 use Rattle.laws.specs.Acceptance.{modules-range, up-range, down-range, slots-range, load-range}
 use Rattle.card.specs.declared.Header.{Header}
@@ -18,7 +17,7 @@ use Rattle.card.specs.Reading.{Within}
 use Rattle.card.proofs.Room.{load-within}
 use Rattle.counts.specs.Serving.{Served}
 use Rattle.columns.specs.Column.{countAtPlace, lastPlace, upward, column, selection}
-use Rattle.search.specs.Written.{costIn, costList, placeList, priceList, columnList, selectionRow, selectionRows, selectionsIn}
+use Rattle.search.specs.Written.{costIn, Holds, priceList, columnList, lastColumn, selectionRow, selectionRows, selectionsIn}
 use Rattle.search.specs.Asked.{AtMost, Priced, PricedSlot, SlotsAhead, mostCost}
 use Rattle.search.proofs.Bounds.{cost-bound}
 use Rattle.search.proofs.Allowed.{counts-fit, counts-at-most}
@@ -59,22 +58,24 @@ slots-start i counts work e c =
 
 module _ {i : Instance} {counts work₀ costs work : List ℕ} {t : ℕ} (f : SlotLoop i counts work₀ costs work t) where
   pub slots-turn :
-      {l a e : ℕ} {costs′ places : List ℕ} → 1 ≤ length counts → t < i .slots → l ≡ i .load t → a ≡ t * length counts → e ≡ a + length counts →
-      costs′ ≡ costList counts (upward i counts l (costIn costs)) → places ≡ placeList counts (upward i counts l (costIn costs)) →
+      {l a e : ℕ} {costs′ places : List ℕ} → 1 ≤ length counts → t < i .slots → l ≡ i .load t → a ≡ t * length counts →
+      e ≡ a + length counts → Holds counts (upward i counts l (costIn costs)) costs′ places →
       SlotLoop i counts work₀ costs′ (take a work ++ (places ++ drop (e - a) (drop a work))) (t + 1)
   unfolding columnList column selectionRow selectionRows selection
-  slots-turn {l} {a} {e} {costs′} {places} some h l-is a-is e-is c p =
+  slots-turn {l} {a} {e} {costs′} {places} some h l-is a-is e-is now =
       let same = slot-same i counts t some in
       let width : e - a ≡ length counts = omega arith in
-      let row : places ≡ selectionRow i counts t
-            = p ∙ rw (l-is, f .column-is) (tabulate-same (length counts) (λ j _. ap (λ x. x .at) (same j))) in
+      let row = rw (l-is, f .column-is) at (now .places-are) in
+      let row-is = row ∙ tabulate-same (length counts) (λ j _. ap (λ x. x .at) (same j)) in
       record {
         within = omega arith;
-        column-is = c ∙ rw (l-is, f .column-is, add-one t) (tabulate-same (length counts) (λ j _. ap (λ x. x .cost) (same j)));
-        work-is = rw row (next-row (length counts) (selectionRow i counts) (row-size i counts) t work₀ a-is width (f .work-is));
+        column-is =
+            now .costs-are ∙
+            rw (l-is, f .column-is, add-one t) (tabulate-same (length counts) (λ j _. ap (λ x. x .cost) (same j)));
+        work-is = rw row-is (next-row (length counts) (selectionRow i counts) (row-size i counts) t work₀ a-is width (f .work-is));
       }
 
-  pub slots-end : i .slots ≤ t → (costs ≡ columnList i counts (i .slots)) × (work ≡ selectionsIn i counts work₀)
+  pub slots-end : i .slots ≤ t → (costs ≡ lastColumn i counts) × (work ≡ selectionsIn i counts work₀)
   slots-end h = let all : t ≡ i .slots = omega (arith, f .within) in (rw all at (f .column-is), rw all at (f .work-is))
 
 -- what the loop hands on
@@ -141,8 +142,8 @@ module _ {s : List ℕ} {h : Header} {counts costs₀ work₀ : List ℕ} (p : S
         let price = mul-le-mul {n₁ = switchingPrice (instanceOf s)} {m₁ = m} {n₂ = 1000000000} {m₂ = 200} (omega (arith, price-is, up-small, down-small)) (modules-range s (p .ready .accepted) .1) in
         let slots = slots-range s (p .ready .accepted) in
         let each =
-              column-bound (instanceOf s) counts m 200000000 (instanceOf s .slots) (counts-fit (p .allowed))
-              (λ u g. cost-bound (full-served u g)) t (f .within) in
+        column-bound (instanceOf s) counts m 200000000 (instanceOf s .slots) (counts-fit (p .allowed))
+        (λ u g. cost-bound (full-served u g)) t (f .within) in
         rw (f .column-is) (table-at-most (length counts) mostCost (column (instanceOf s) counts 0 t) (λ j _. omega (arith, each j, f .within)))
 
     pub slot-ready :

@@ -1,18 +1,17 @@
 -- The upward pass: its bound, its recursion over the downward choices, and the loop.
 use Prim.Native.Nat.{ℕ, zero, suc, _+_, _-_, _*_, _≤_, _<_}
-use mathlib.Core.Path.{_≡_, refl, sym, ap, _∙_}
+use mathlib.Core.Path.{_≡_, refl, ap, _∙_}
 use mathlib.Core.List.{List}
 use native.Mathlib.Nat.{le-refl}
 use native.Mathlib.Numerals.{add-one}
 use native.Mathlib.Omega.{arith}
-use lib.ListN.{length, getD, set}
-use Rattle.lists.specs.Lists.{tabulate}
+use lib.ListN.{length, set}
 use Rattle.lists.specs.Filling.{Upto, upto-more, upto-all}
 use Rattle.lists.specs.InPlace.{upto-first}
 use Rattle.model.specs.Instance.{Instance}
 use Rattle.model.specs.Thesis.{switchingPrice}
 use Rattle.columns.specs.Column.{Choice, cheaper, countAtPlace, downward, upward}
-use Rattle.search.specs.Written.{rising, choiceIn, costList, placeList}
+use Rattle.search.specs.Written.{rising, choiceIn, Holds}
 use Rattle.search.specs.Asked.{Choices, mostCost}
 use Rattle.search.proofs.Bounds.{price-small}
 use Rattle.search.proofs.Columns.{cheaper-bound}
@@ -73,7 +72,7 @@ module _ {price : ℕ} {counts column₀ places₀ : List ℕ} (p : Choices pric
         UpLoop price counts column₀ places₀ (set column (j + 1) (next .cost)) (set places (j + 1) (next .at)) next (j + 1)
     up-turns {next} h e =
         let here : next ≡ rising price counts (choiceIn column₀ places₀) (j + 1)
-              = e ∙ rw (f .costs .kept (j + 1) (omega arith), f .at-places .kept (j + 1) (omega arith), f .here, rising-next price counts (choiceIn column₀ places₀) j) in
+        = e ∙ rw (f .costs .kept (j + 1) (omega arith), f .at-places .kept (j + 1) (omega arith), f .here, rising-next price counts (choiceIn column₀ places₀) j) in
         record {
           inside = h;
           here = here;
@@ -81,13 +80,12 @@ module _ {price : ℕ} {counts column₀ places₀ : List ℕ} (p : Choices pric
           at-places = upto-more (f .at-places) (omega (arith, p .places-size)) (ap (λ c. c .at) here);
         }
 
-    pub up-ends :
-        length counts ≤ j + 1 →
-        (column ≡ costList counts (rising price counts (choiceIn column₀ places₀))) ×
-        (places ≡ placeList counts (rising price counts (choiceIn column₀ places₀)))
+    pub up-ends : length counts ≤ j + 1 → Holds counts (rising price counts (choiceIn column₀ places₀)) column places
     up-ends h =
-        (rw (← (p .priced .column-size)) (upto-all (f .costs) (omega (arith, p .priced .column-size))),
-         rw (← (p .places-size)) (upto-all (f .at-places) (omega (arith, p .places-size))))
+        record {
+          costs-are = rw (← (p .priced .column-size)) (upto-all (f .costs) (omega (arith, p .priced .column-size)));
+          places-are = rw (← (p .places-size)) (upto-all (f .at-places) (omega (arith, p .places-size)));
+        }
 
     -- the sums are small
     pub best-small : best .cost ≤ 2 * mostCost

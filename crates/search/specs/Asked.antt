@@ -4,7 +4,7 @@ use mathlib.Core.Path.{_≡_}
 use mathlib.Core.List.{List}
 use lib.ListN.{length, getD}
 use Rattle.model.specs.declared.Answer.the-variants.{Cost}
-use Rattle.model.specs.Instance.{Instance, instanceOf}
+use Rattle.model.specs.Instance.{instanceOf}
 use Rattle.model.specs.Calls.{checkCard, answer}
 use Rattle.model.specs.Thesis.{switchingPrice}
 use Rattle.card.specs.declared.Header.{Header}

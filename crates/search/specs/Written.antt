@@ -1,5 +1,6 @@
 -- What the functions of the search write: columns and selections as lists, an entry for each place.
 use Prim.Native.Nat.{ℕ, zero, suc, _+_, _-_, _*_}
+use mathlib.Core.Path.{_≡_}
 use mathlib.Core.Bool.{cond}
 use mathlib.Core.List.{List, [], _∷_, _++_}
 use lib.ListN.{length, getD, drop}
@@ -35,6 +36,11 @@ costList counts f = tabulate (length counts) (λ j. f j .cost)
 abbrev pub placeList : List ℕ → (ℕ → Choice) → List ℕ
 placeList counts f = tabulate (length counts) (λ j. f j .at)
 
+-- a column and its places hold those choices
+pub record Holds (counts : List ℕ) (f : ℕ → Choice) (costs places : List ℕ) : Type 0 where
+  pub costs-are : costs ≡ costList counts f
+  pub places-are : places ≡ placeList counts f
+
 -- the upward pass over given choices, at a price for each module switched on: the lower place's choice on a tie
 unfoldable pub rising : ℕ → List ℕ → (ℕ → Choice) → ℕ → Choice
 rising price counts given zero = given zero
@@ -53,6 +59,10 @@ priceList price counts = tabulate (length counts) (λ j. price * countAtPlace co
 -- the column after t slots
 unfoldable pub columnList : Instance → List ℕ → ℕ → List ℕ
 columnList i counts t = tabulate (length counts) (column i counts 0 t)
+
+-- the column after the last slot
+abbrev pub lastColumn : Instance → List ℕ → List ℕ
+lastColumn i counts = columnList i counts (i .slots)
 
 -- the selections of the first t slots, a row a slot
 unfoldable pub selectionRow : Instance → List ℕ → ℕ → List ℕ

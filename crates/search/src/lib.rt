@@ -6,7 +6,7 @@ ghost use Rattle.model.specs.Instance.{instanceOf};
 use card::Header;
 ghost use Rattle.counts.specs.Serving.{Served};
 ghost use Rattle.columns.specs.Column.{Choice, cheaper, downward, upward, searchedPlan, searchedCost};
-ghost use Rattle.search.specs.Written.{choiceOf, servedAt, servedOrAbove, costIn, choiceIn, costList, placeList, rising, priceList, columnList, selectionsIn, wayThrough};
+ghost use Rattle.search.specs.Written.{choiceOf, servedAt, servedOrAbove, costIn, choiceIn, Holds, rising, priceList, lastColumn, selectionsIn, wayThrough};
 ghost use Rattle.search.specs.Asked.{InRack, SlotAfter, PricedSlot, Choices, Priced, SlotsAhead, Leading, Searchable, mostCost};
 
 // A cost, and the place that it comes from.
@@ -36,7 +36,15 @@ fn own(card: &[u8], n: u64, l: u64, before: u64, place: u8) -> Candidate
 }
 
 // One place of the downward pass: its own candidate if its count can serve, else that of the place above.
-fn own_or_above(card: &[u8], top: u64, n: u64, l: u64, before: u64, place: u8, above: Candidate) -> Candidate
+fn own_or_above(
+    card: &[u8],
+    top: u64,
+    n: u64,
+    l: u64,
+    before: u64,
+    place: u8,
+    above: Candidate,
+) -> Candidate
     requires { ⌜ InRack (now card) top n before ⌝ }
     ensures { λ r. ⌜ choiceOf r ≡ servedOrAbove (instanceOf (now (card .entry))) n l before place (choiceOf above) ⌝ }
 {
@@ -50,14 +58,10 @@ fn own_or_above(card: &[u8], top: u64, n: u64, l: u64, before: u64, place: u8, a
 // The downward pass of a slot with load l, from the last place to place 0: the best of each place and those above.
 fn down_pass(card: &[u8], top: u64, counts: &[u64], l: u64, column: &mut [u64], places: &mut [u8])
     requires { ⌜ SlotAfter (now card) top (now counts) l (now column) (now places) ⌝ }
-    ensures {
-        λ _.
-        ⌜ now (column .exit) ≡ costList (now (counts .entry)) (downward (instanceOf (now (card .entry))) (now (counts .entry)) l (costIn (now (column .entry)))) ⌝
-    }
-    ensures {
-        λ _.
-        ⌜ now (places .exit) ≡ placeList (now (counts .entry)) (downward (instanceOf (now (card .entry))) (now (counts .entry)) l (costIn (now (column .entry)))) ⌝
-    }
+    ensures { λ _.
+        ⌜ Holds (now (counts .entry))
+        (downward (instanceOf (now (card .entry))) (now (counts .entry)) l (costIn (now (column .entry))))
+        (now (column .exit)) (now (places .exit)) ⌝ }
 {
     let last = counts.len() - 1;
     let mut j = last;
@@ -75,14 +79,10 @@ fn down_pass(card: &[u8], top: u64, counts: &[u64], l: u64, column: &mut [u64], 
 // The upward pass over a column and its places: the best of all places, with the price of the modules switched on.
 fn up_pass(price: u64, counts: &[u64], column: &mut [u64], places: &mut [u8])
     requires { ⌜ Choices price (now counts) (now column) (now places) ⌝ }
-    ensures {
-        λ _.
-        ⌜ now (column .exit) ≡ costList (now (counts .entry)) (rising price (now (counts .entry)) (choiceIn (now (column .entry)) (now (places .entry)))) ⌝
-    }
-    ensures {
-        λ _.
-        ⌜ now (places .exit) ≡ placeList (now (counts .entry)) (rising price (now (counts .entry)) (choiceIn (now (column .entry)) (now (places .entry)))) ⌝
-    }
+    ensures { λ _.
+        ⌜ Holds (now (counts .entry))
+        (rising price (now (counts .entry)) (choiceIn (now (column .entry)) (now (places .entry))))
+        (now (column .exit)) (now (places .exit)) ⌝ }
 {
     let mut j = 0;
     let mut best = Candidate {
@@ -107,16 +107,20 @@ fn up_pass(price: u64, counts: &[u64], column: &mut [u64], places: &mut [u8])
 }
 
 // One slot with load l: the column before it becomes the column after it, and places holds its selections.
-fn one_slot(card: &[u8], top: u64, price: u64, counts: &[u64], l: u64, column: &mut [u64], places: &mut [u8])
+fn one_slot(
+    card: &[u8],
+    top: u64,
+    price: u64,
+    counts: &[u64],
+    l: u64,
+    column: &mut [u64],
+    places: &mut [u8],
+)
     requires { ⌜ PricedSlot (now card) top price (now counts) l (now column) (now places) ⌝ }
-    ensures {
-        λ _.
-        ⌜ now (column .exit) ≡ costList (now (counts .entry)) (upward (instanceOf (now (card .entry))) (now (counts .entry)) l (costIn (now (column .entry)))) ⌝
-    }
-    ensures {
-        λ _.
-        ⌜ now (places .exit) ≡ placeList (now (counts .entry)) (upward (instanceOf (now (card .entry))) (now (counts .entry)) l (costIn (now (column .entry)))) ⌝
-    }
+    ensures { λ _.
+        ⌜ Holds (now (counts .entry))
+        (upward (instanceOf (now (card .entry))) (now (counts .entry)) l (costIn (now (column .entry))))
+        (now (column .exit)) (now (places .exit)) ⌝ }
 {
     down_pass(card, top, counts, l, column, places);
     up_pass(price, counts, column, places);
@@ -137,7 +141,7 @@ fn start_column(price: u64, counts: &[u64], column: &mut [u64])
 // All slots from start count 0: the column after the last slot, and each slot's selections in its row of work.
 fn all_slots(card: &[u8], h: Header, counts: &[u64], column: &mut [u64], work: &mut [u8])
     requires { ⌜ SlotsAhead (now card) h (now counts) (now column) (now work) ⌝ }
-    ensures { λ _. ⌜ now (column .exit) ≡ columnList (instanceOf (now (card .entry))) (now (counts .entry)) (instanceOf (now (card .entry)) .slots) ⌝ }
+    ensures { λ _. ⌜ now (column .exit) ≡ lastColumn (instanceOf (now (card .entry))) (now (counts .entry)) ⌝ }
     ensures { λ _. ⌜ now (work .exit) ≡ selectionsIn (instanceOf (now (card .entry))) (now (counts .entry)) (now (work .entry)) ⌝ }
 {
     let price = h.up + h.down;
@@ -178,12 +182,19 @@ fn way_back(counts: &[u64], work: &[u8], plan: &mut [u8])
 }
 
 // The least plan over a list of allowed counts, and its cost. The work bytes are 0 afterwards.
-pub fn search(card: &[u8], h: Header, counts: &[u64], column: &mut [u64], plan: &mut [u8], work: &mut [u8]) -> u64
+pub fn search(
+    card: &[u8],
+    h: Header,
+    counts: &[u64],
+    column: &mut [u64],
+    plan: &mut [u8],
+    work: &mut [u8],
+) -> u64
     requires { ⌜ Searchable (now card) h (now counts) (now column) (now plan) (now work) ⌝ }
     ensures cost { λ r. ⌜ r ≡ searchedCost (instanceOf (now (card .entry))) (now (counts .entry)) 0 ⌝ }
     ensures plan { λ _. ⌜ now (plan .exit) ≡ searchedPlan (instanceOf (now (card .entry))) (now (counts .entry)) 0 ⌝ }
     ensures work { λ _. ⌜ now (work .exit) ≡ replicate (length (now (work .entry))) 0 ⌝ }
-    ensures column { λ _. ⌜ now (column .exit) ≡ columnList (instanceOf (now (card .entry))) (now (counts .entry)) (instanceOf (now (card .entry)) .slots) ⌝ }
+    ensures column { λ _. ⌜ now (column .exit) ≡ lastColumn (instanceOf (now (card .entry))) (now (counts .entry)) ⌝ }
 {
     all_slots(card, h, counts, column, work);
     way_back(counts, work, plan);

@@ -69,8 +69,14 @@ loop-less c = omega arith
 loop-again : tie.Need-loop-again Inv-loop μ-loop
 loop-again c =
     let p = c .before .before .before .before .before .before .before .before .before .before .before .before .before .before .before .before .before .before .before .pre in
-    let done = c .before .before .before .before .one-slot .ensures in
-    slots-turn (c .before .before .before .before .before .before .before .before .before .loop .inv) (omega (arith, p .allowed .two)) (slot-inside p (c .before .before .before .before .before .before .before .before .loop-test .taken)) (c .before .before .before .before .before .before .before .load .ensures .is) refl refl (done .0) (done .1)
+    slots-turn
+    (c .before .before .before .before .before .before .before .before .before .loop .inv)
+    (omega (arith, p .allowed .two))
+    (slot-inside p (c .before .before .before .before .before .before .before .before .loop-test .taken))
+    (c .before .before .before .before .before .before .before .load .ensures .is)
+    refl
+    refl
+    (c .before .before .before .before .one-slot .ensures)
 
 -- src/lib.rt:137:1
 same-length : tie.Need-same-length Inv-loop μ-loop

@@ -1,4 +1,4 @@
-use Rattle.search.proofs.Slot.{passes-meet, slot-costs, slot-places}
+use Rattle.search.proofs.Slot.{passes-meet, slot-choices}
 use borrow.Author.Needs.{needs}
 use Rattle.search.proofs.one_slot.Statement.{statement}
 use Rattle.search.proofs.one_slot.Tie as tie
@@ -13,7 +13,7 @@ down-pass-requires c κs = search needs
 
 -- src/lib.rt:120:5
 up-pass-requires : tie.Need-up-pass-requires
-up-pass-requires c κs = let e = c .before .before .before .before .before .before .down-pass .ensures in passes-meet (c .before .before .before .before .before .before .before .before .before .before .before .before .before .pre) (e .0) (e .1)
+up-pass-requires c κs = passes-meet (c .before .before .before .before .before .before .before .before .before .before .before .before .before .pre) (c .before .before .before .before .before .before .down-pass .ensures)
 
 -- src/lib.rt:108:1
 same-length : tie.Need-same-length
@@ -25,11 +25,7 @@ same-length-2 c = search needs
 
 -- src/lib.rt:108:1
 returns : tie.Need-returns
-returns c =
-    let p = c .before .before .before .before .before .before .before .before .before .before .before .before .before .before .before .before .before .before .pre in
-    let down = c .before .before .before .before .before .before .before .before .before .before .before .down-pass .ensures in
-    let up = c .before .before .before .before .up-pass .ensures in
-    (slot-costs p (down .0) (down .1) (up .0), slot-places p (down .0) (down .1) (up .1))
+returns c = slot-choices (c .before .before .before .before .before .before .before .before .before .before .before .before .before .before .before .before .before .before .pre) (c .before .before .before .before .before .before .before .before .before .before .before .down-pass .ensures) (c .before .before .before .before .up-pass .ensures)
 
 pub one-slot-spec : {M : Type 1} → statement M
 one-slot-spec =

@@ -47,10 +47,13 @@ returns c =
     let p = c .before .before .before .before .before .before .before .before .before .before .before .before .before .before .before .before .before .before .before .before .before .before .pre in
     let rows = c .before .before .before .before .before .before .before .before .before .before .before .before .before .before .all-slots in
     let kept = rows .kept .1 .1 .1 .1 .0 in
-    let done = rows .ensures in
-    (cost-found p (done .0),
-     (plan-found p kept (done .1) (c .before .before .before .before .before .before .before .way-back .ensures),
-      (cleared p kept (done .1) (c .before .before .before .fill .ensures), done .0)))
+    let done = rows .ensures in (
+      cost-found p (done .0),
+      (
+        plan-found p kept (done .1) (c .before .before .before .before .before .before .before .way-back .ensures),
+        (cleared p kept (done .1) (c .before .before .before .fill .ensures), done .0),
+      ),
+    )
 
 pub search-spec : {M : Type 1} → statement M
 search-spec =

@@ -1,6 +1,6 @@
 use Prim.Native.Nat.{_-_}
 use native.Mathlib.Omega.{arith}
-use lib.ListN.{length, length-set}
+use lib.ListN.{length}
 use Rattle.search.specs.Written.{choiceOf}
 use Rattle.search.proofs.Upward.{UpLoop, up-starts, up-turns, up-ends, best-small, rise-small}
 use Rattle.search.proofs.up_pass.Statement.{statement}
