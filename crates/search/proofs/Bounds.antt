@@ -5,12 +5,15 @@ use mathlib.Core.List.{List}
 use mathlib.Core.Logic.{⊎-elim}
 use native.Mathlib.Nat.{mul-le-mul, mul-le-mul-left, eq-zero-or-pos}
 use native.Mathlib.Omega.{arith}
+use lib.ListN.{List·getD-eq-default}
+use Rattle.lists.specs.Numbers.{le-or-lt}
+use Rattle.lists.specs.Lists.{tabulate, length-tabulate, getD-tabulate}
 use Rattle.model.specs.Instance.{Instance, instanceOf}
 use Rattle.model.specs.Counts.{operatingCost}
 use Rattle.laws.specs.Acceptance.{modules-range, table-range}
 use Rattle.counts.specs.Serving.{Served}
-use Rattle.search.specs.Asked.{Priced}
 use Rattle.counts.proofs.Division.{rest-below, step-within, next-within, cost-none, cost-even, cost-uneven}
+use Rattle.search.specs.Asked.{AtMost, Priced}
 
 -- where no table entry exceeds b, n modules cost at most n times b
 operating-bound :
@@ -38,11 +41,23 @@ operating-bound i n l b serves table =
         parts : (x y z : ℕ) → x + y ≡ z → x * b + y * b ≡ z * b
         parts x y z e = omega (arith, ap (λ (u : ℕ). u * b) e)
 
+-- a table whose values are at most b
+pub table-at-most : (n b : ℕ) (f : ℕ → ℕ) → ((k : ℕ) → k < n → f k ≤ b) → AtMost b (tabulate n f)
+table-at-most n b f h =
+    record {
+      each = λ k.
+          ⊎-elim
+          (λ (out : n ≤ k). omega (arith, List·getD-eq-default (tabulate n f) 0 {n = k} (omega (arith, length-tabulate n f))))
+          (λ (inside : k < n). omega (arith, getD-tabulate n f k 0 inside, h k inside))
+          (le-or-lt n k);
+    }
+
 -- the running cost on an accepted card
 pub cost-bound : {s : List ℕ} {n l : ℕ} → Served s n l → operatingCost (instanceOf s) n l ≤ 200000000
 cost-bound {s} {n} {l} p =
     let rack = p .in-rack in
-    let most = mul-le-mul {n₁ = n} {m₁ = 1000000} {n₂ = 200} {m₂ = 1000000} (omega (arith, modules-range s (p .accepted) .1)) (omega arith) in
+    let modules = modules-range s (p .accepted) .1 in
+    let most = mul-le-mul {n₁ = n} {m₁ = 1000000} {n₂ = 200} {m₂ = 1000000} (omega arith) (omega arith) in
     omega (arith, operating-bound (instanceOf s) n l 1000000 (p .serves) (table-range s (p .accepted)))
 
 -- the price of a rack's modules

@@ -20,7 +20,9 @@ module _ (a b : Choice) where
   pub second-cheaper : b .cost < a .cost → b ≡ cheaper a b
   second-cheaper h = rw (lt-leb (a .cost) (b .cost) h)
 
-pub served-at : (i : Instance) (n l before place : ℕ) {x : ℕ} → x ≡ operatingCost i n l → record { cost = before + x; at = place } ≡ servedAt i n l before place
+pub served-at :
+    (i : Instance) (n l before place : ℕ) {x : ℕ} → x ≡ operatingCost i n l →
+    record { cost = before + x; at = place } ≡ servedAt i n l before place
 served-at i n l before place e = rw e
 
 module _ {s : List ℕ} {top n before : ℕ} (p : InRack s top n before) where

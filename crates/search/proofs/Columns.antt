@@ -47,7 +47,9 @@ module _ (i : Instance) (counts : List ℕ) (l : ℕ) (before : ℕ → ℕ) whe
   unfolding upward
   upward-bound zero = downward-bound 0
   upward-bound (suc j) =
-      le-trans (cheaper-bound (raised i counts l before (upward i counts l before j) j) (downward i counts l before (suc j))) (downward-bound (suc j))
+      le-trans
+      (cheaper-bound (raised i counts l before (upward i counts l before j) j) (downward i counts l before (suc j)))
+      (downward-bound (suc j))
 
   -- each choice is one of the places
   module _ (some : 1 ≤ length counts) where
@@ -59,7 +61,9 @@ module _ (i : Instance) (counts : List ℕ) (l : ℕ) (before : ℕ → ℕ) whe
     top-inside zero = omega arith
     top-inside (suc d) =
         either Inside (canServe i (countAtPlace counts (lastPlace counts - suc d)) l)
-        (either Inside (leb (own i counts l before (lastPlace counts - suc d) .cost) (fromTop i counts l before d .cost)) (omega arith) (top-inside d))
+        (either Inside (leb (own i counts l before (lastPlace counts - suc d) .cost) (fromTop i counts l before d .cost))
+        (omega arith)
+        (top-inside d))
         (top-inside d)
 
     pub upward-inside : (j : ℕ) → Inside (upward i counts l before j)

@@ -1,5 +1,5 @@
 -- What the search finds: the rows of selections lead back through the plan, and place 0 has its cost.
-use Prim.Native.Nat.{ℕ, zero, suc, _+_, _*_, _/_, _%_, _≤_, _<_}
+use Prim.Native.Nat.{ℕ, zero, suc, _*_, _/_, _%_, _≤_, _<_}
 use mathlib.Core.Path.{_≡_, refl, ap, _∙_}
 use mathlib.Core.List.{List}
 use native.Mathlib.Nat.{mod-lt}
@@ -8,12 +8,11 @@ use lib.ListN.{length, getD, drop, replicate}
 use Rattle.lists.specs.Lists.{getD-tabulate}
 use Rattle.lists.specs.InPlace.{front-row, front-entry}
 use Rattle.model.specs.Instance.{Instance, instanceOf}
-use Rattle.laws.specs.Acceptance.{modules-range}
 use Rattle.card.specs.declared.Header.{Header}
 use Rattle.columns.specs.Column.{column, selection, wayBack, searchedPlan, searchedCost}
 use Rattle.search.specs.Written.{columnList, lastColumn, selectionRow, selectionRows, selectionsIn, wayThrough}
 use Rattle.search.specs.Asked.{Leading, SlotsAhead, Searchable}
-use Rattle.search.proofs.Allowed.{counts-at-most}
+use Rattle.search.proofs.Allowed.{counts-small}
 use Rattle.search.proofs.Columns.{upward-inside}
 use Rattle.search.proofs.Slots.{row-size}
 
@@ -32,19 +31,20 @@ module _ (i : Instance) (counts : List ℕ) where
     unfolding selectionRows
     row-inside k h =
         let rest = drop (i .slots * length counts) work in
-        let j = mod-lt k some in
-        rw (front-entry (length counts) (selectionRow i counts) (row-size i counts) (i .slots) k 0 rest h, row-entry (k / length counts) (k % length counts) j)
-        (selection-inside some (k / length counts) (k % length counts))
+        let t = k / length counts in
+        let j = k % length counts in
+        let there = front-entry (length counts) (selectionRow i counts) (row-size i counts) (i .slots) k 0 rest h in
+        rw (there, row-entry t j (mod-lt k some)) (selection-inside some t j)
 
     -- through the rows the way back is that of the columns
-    way-same : (t j : ℕ) → t ≤ i .slots → j < length counts → wayThrough counts (selectionsIn i counts work) t j ≡ wayBack i counts 0 t j
+    way-same :
+        (t j : ℕ) → t ≤ i .slots → j < length counts → wayThrough counts (selectionsIn i counts work) t j ≡ wayBack i counts 0 t j
     unfolding wayThrough wayBack selectionRows
     way-same zero j b h = refl
     way-same (suc t) j b h =
         let rest = drop (i .slots * length counts) work in
-        let here : getD (selectionsIn i counts work) (t * length counts + j) 0 ≡ selection i counts 0 t j
-        = front-row (length counts) (selectionRow i counts) (row-size i counts) (i .slots) t j 0 rest b h ∙ row-entry t j h in
-        rw (here, way-same t (selection i counts 0 t j) (omega arith) (selection-inside some t j))
+        let there = front-row (length counts) (selectionRow i counts) (row-size i counts) (i .slots) t j 0 rest b h in
+        rw (there, row-entry t j h, way-same t (selection i counts 0 t j) (omega arith) (selection-inside some t j))
 
 module _ {s : List ℕ} {h : Header} {counts column₀ plan work : List ℕ} (p : Searchable s h counts column₀ plan work) where
   pub slots-ahead : SlotsAhead s h counts column₀ work
@@ -59,18 +59,22 @@ module _ {s : List ℕ} {h : Header} {counts column₀ plan work : List ℕ} (p 
         let slots = ap (λ (x : ℕ). x * length counts) (p .plan-size) in
         record {
           some = some-count;
-          counts-range = counts-at-most (p .allowed) 255 (omega (arith, modules-range s (p .ready .accepted) .1));
+          counts-range = counts-small s (p .ready .accepted) (p .allowed);
           room = omega (arith, p .work-room);
           inside = λ k b. rw filled (row-inside (instanceOf s) counts work some-count k (omega arith));
         }
 
-    pub plan-found : {plan₁ : List ℕ} → plan₁ ≡ wayThrough counts work₁ (length plan) 0 → plan₁ ≡ searchedPlan (instanceOf s) counts 0
+    pub plan-found :
+        {plan₁ : List ℕ} → plan₁ ≡ wayThrough counts work₁ (length plan) 0 → plan₁ ≡ searchedPlan (instanceOf s) counts 0
     unfolding searchedPlan
-    plan-found e = e ∙ rw (filled, p .plan-size) (way-same (instanceOf s) counts work some-count (instanceOf s .slots) 0 (omega arith) some-count)
+    plan-found e =
+        let same = way-same (instanceOf s) counts work some-count (instanceOf s .slots) 0 (omega arith) some-count in
+        e ∙ rw (filled, p .plan-size) same
 
     pub cleared : {work₂ : List ℕ} → work₂ ≡ replicate (length work₁) 0 → work₂ ≡ replicate (length work) 0
     cleared e = e ∙ rw kept
 
-  pub cost-found : {column₁ : List ℕ} → column₁ ≡ lastColumn (instanceOf s) counts → getD column₁ 0 0 ≡ searchedCost (instanceOf s) counts 0
+  pub cost-found :
+      {column₁ : List ℕ} → column₁ ≡ lastColumn (instanceOf s) counts → getD column₁ 0 0 ≡ searchedCost (instanceOf s) counts 0
   unfolding columnList searchedCost
   cost-found e = rw e (getD-tabulate (length counts) (column (instanceOf s) counts 0 (instanceOf s .slots)) 0 0 some-count)

@@ -1,8 +1,8 @@
 pub mod Bounds
+pub mod Allowed
 pub mod Candidates
 pub mod Columns
 pub mod Downward
-pub mod Allowed
 pub mod Upward
 pub mod Slot
 pub mod Slots

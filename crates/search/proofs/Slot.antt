@@ -1,37 +1,25 @@
 -- One slot: what the downward pass leaves is what the upward pass asks for, and both together give the slot's choices.
-use Prim.Native.Nat.{ℕ, _*_, _≤_, _<_}
+use Prim.Native.Nat.{ℕ, _*_, _<_}
 use mathlib.Core.Path.{_≡_, ap, _∙_}
 use mathlib.Core.List.{List}
-use mathlib.Core.Logic.{⊎-elim}
 use native.Mathlib.Nat.{le-of-lt}
 use native.Mathlib.Omega.{arith}
-use lib.ListN.{length, List·getD-eq-default}
-use Rattle.lists.specs.Numbers.{le-or-lt}
-use Rattle.lists.specs.Lists.{tabulate, length-tabulate, getD-tabulate}
+use lib.ListN.{length}
+use Rattle.lists.specs.Lists.{length-tabulate, getD-tabulate}
 use Rattle.lists.specs.InPlace.{tabulate-same}
 use Rattle.model.specs.Instance.{instanceOf}
-use Rattle.laws.specs.Acceptance.{modules-range, up-range, down-range}
+use Rattle.laws.specs.Acceptance.{up-range, down-range}
 use Rattle.columns.specs.Column.{Choice, lastPlace, downward, upward}
 use Rattle.search.specs.Written.{costIn, choiceIn, Holds, rising}
-use Rattle.search.specs.Asked.{AtMost, Choices, PricedSlot, mostCost}
-use Rattle.search.proofs.Bounds.{cost-bound}
-use Rattle.search.proofs.Allowed.{counts-at-most}
+use Rattle.search.specs.Asked.{Choices, PricedSlot, mostCost}
+use Rattle.search.proofs.Bounds.{cost-bound, table-at-most}
+use Rattle.search.proofs.Allowed.{counts-small, full-served}
 use Rattle.search.proofs.Columns.{downward-bound}
-use Rattle.search.proofs.Downward.{last-served}
 use Rattle.search.proofs.Upward.{rising-upward}
 
--- a table whose values are at most b
-pub table-at-most : (n b : ℕ) (f : ℕ → ℕ) → ((k : ℕ) → k < n → f k ≤ b) → AtMost b (tabulate n f)
-table-at-most n b f h =
-    record {
-      each = λ k.
-          ⊎-elim
-          (λ (out : n ≤ k). omega (arith, List·getD-eq-default (tabulate n f) 0 {n = k} (omega (arith, length-tabulate n f))))
-          (λ (inside : k < n). omega (arith, getD-tabulate n f k 0 inside, h k inside))
-          (le-or-lt n k);
-    }
-
-module _ {s : List ℕ} {top price : ℕ} {counts : List ℕ} {l : ℕ} {column places : List ℕ} (p : PricedSlot s top price counts l column places) where
+module _
+    {s : List ℕ} {top price : ℕ} {counts : List ℕ} {l : ℕ} {column places : List ℕ}
+    (p : PricedSlot s top price counts l column places) where
   abbrev down : ℕ → Choice
   down = downward (instanceOf s) counts l (costIn column)
 
@@ -39,7 +27,7 @@ module _ {s : List ℕ} {top price : ℕ} {counts : List ℕ} {l : ℕ} {column 
     pub passes-meet : Choices price counts column₁ places₁
     passes-meet =
         let q = p .slot in
-        let cost = cost-bound (last-served q) in
+        let cost = cost-bound (full-served s (q .accepted) (q .allowed) (q .load-fits)) in
         let before = q .small .each (lastPlace counts) in
         let on = up-range s (q .accepted) in
         let off = down-range s (q .accepted) in
@@ -47,7 +35,7 @@ module _ {s : List ℕ} {top price : ℕ} {counts : List ℕ} {l : ℕ} {column 
           priced =
               record {
                 price-range = omega (arith, p .price-is);
-                counts-range = counts-at-most (q .allowed) 200 (modules-range s (q .accepted) .1);
+                counts-range = counts-small s (q .accepted) (q .allowed);
                 column-size = rw (first .costs-are) (length-tabulate (length counts) _);
               };
           some = omega (arith, q .allowed .two);

@@ -10,19 +10,18 @@ use borrow.Rule.Slice.PartMut.{mid-len}
 use Rattle.lists.specs.Lists.{rows, length-tabulate, getD-tabulate, length-rows}
 use Rattle.lists.specs.InPlace.{tabulate-same, next-row}
 use Rattle.model.specs.Instance.{Instance, instanceOf, loadPlace}
+use Rattle.model.specs.Counts.{operatingCost}
 use Rattle.model.specs.Thesis.{switchingPrice}
 use Rattle.laws.specs.Acceptance.{modules-range, up-range, down-range, slots-range, load-range}
 use Rattle.card.specs.declared.Header.{Header}
 use Rattle.card.specs.Reading.{Within}
 use Rattle.card.proofs.Room.{load-within}
-use Rattle.counts.specs.Serving.{Served}
 use Rattle.columns.specs.Column.{countAtPlace, lastPlace, upward, column, selection}
 use Rattle.search.specs.Written.{costIn, Holds, priceList, columnList, lastColumn, selectionRow, selectionRows, selectionsIn}
 use Rattle.search.specs.Asked.{AtMost, Priced, PricedSlot, SlotsAhead, mostCost}
-use Rattle.search.proofs.Bounds.{cost-bound}
-use Rattle.search.proofs.Allowed.{counts-fit, counts-at-most}
+use Rattle.search.proofs.Bounds.{cost-bound, table-at-most}
+use Rattle.search.proofs.Allowed.{counts-fit, counts-small, full-served}
 use Rattle.search.proofs.Columns.{upward-same, column-bound}
-use Rattle.search.proofs.Slot.{table-at-most}
 
 -- before slot t: the column after t slots, and t rows of selections in front of what the buffer held
 pub record SlotLoop (i : Instance) (counts work₀ costs work : List ℕ) (t : ℕ) : Type 0 where
@@ -89,7 +88,8 @@ module _ {s : List ℕ} {h : Header} {counts costs₀ work₀ : List ℕ} (p : S
   pub row-small : {t : ℕ} → t < h .slots → t * length counts + length counts ≤ 262144
   row-small {t} g =
       let slot = slot-inside g in
-      let area = mul-le-mul {n₁ = suc t} {m₁ = length counts} {n₂ = 1024} {m₂ = 256} (omega (arith, slots-range s (p .ready .accepted))) (p .allowed .bytes) in
+      let slots = slots-range s (p .ready .accepted) in
+      let area = mul-le-mul {n₁ = suc t} {m₁ = length counts} {n₂ = 1024} {m₂ = 256} (omega arith) (p .allowed .bytes) in
       omega arith
 
   pub load-there : {t : ℕ} → t < h .slots → Within s (loadPlace (h .top) t) 2 × (h .top ≡ instanceOf s .topStep)
@@ -107,17 +107,28 @@ module _ {s : List ℕ} {h : Header} {counts costs₀ work₀ : List ℕ} (p : S
   start-priced small =
       record {
         price-range = small;
-        counts-range = counts-at-most (p .allowed) 200 (modules-range s (p .ready .accepted) .1);
+        counts-range = counts-small s (p .ready .accepted) (p .allowed);
         column-size = p .column-size;
       }
 
-  full-served : (t : ℕ) → t < instanceOf s .slots → Served s (countAtPlace counts (lastPlace counts)) (instanceOf s .load t)
-  full-served t g =
-      record {
-        accepted = p .ready .accepted;
-        in-rack = counts-fit (p .allowed) (lastPlace counts);
-        serves = rw (p .allowed .last) (load-range s (p .ready .accepted) t g);
-      }
+  -- no cost after t slots exceeds the start's prices and a full rack for each slot
+  column-small : (t : ℕ) → t ≤ instanceOf s .slots → (j : ℕ) → column (instanceOf s) counts 0 t j ≤ mostCost
+  column-small t within j =
+      let accepted = p .ready .accepted in
+      let modules = modules-range s accepted .1 in
+      let slots = slots-range s accepted in
+      let on = up-range s accepted in
+      let off = down-range s accepted in
+      let price =
+      mul-le-mul {n₁ = switchingPrice (instanceOf s)} {m₁ = instanceOf s .modules} {n₂ = 1000000000} {m₂ = 200} (omega arith) modules in
+      let each =
+      column-bound (instanceOf s) counts (instanceOf s .modules) 200000000 (instanceOf s .slots) (counts-fit (p .allowed)) full in
+      omega (arith, each t within j)
+    where
+      full :
+          (t : ℕ) → t < instanceOf s .slots →
+          operatingCost (instanceOf s) (countAtPlace counts (lastPlace counts)) (instanceOf s .load t) ≤ 200000000
+      full t g = cost-bound (full-served s (p .ready .accepted) (p .allowed) (load-range s (p .ready .accepted) t g))
 
   module _ {costs work : List ℕ} {t : ℕ} (f : SlotLoop (instanceOf s) counts work₀ costs work t) where
     pub work-long : length work ≡ length work₀
@@ -134,21 +145,15 @@ module _ {s : List ℕ} {h : Header} {counts costs₀ work₀ : List ℕ} (p : S
     pub row-room : t < h .slots → t * length counts + length counts ≤ length work
     row-room g = omega (arith, work-long, p .work-room, mul-le-mul-right (length counts) (slot-inside g))
 
-    -- no cost of the column exceeds the start's prices and a full rack for each slot
     costs-small : AtMost mostCost costs
     unfolding columnList
     costs-small =
-        let m = instanceOf s .modules in
-        let price = mul-le-mul {n₁ = switchingPrice (instanceOf s)} {m₁ = m} {n₂ = 1000000000} {m₂ = 200} (omega (arith, price-is, up-small, down-small)) (modules-range s (p .ready .accepted) .1) in
-        let slots = slots-range s (p .ready .accepted) in
-        let each =
-        column-bound (instanceOf s) counts m 200000000 (instanceOf s .slots) (counts-fit (p .allowed))
-        (λ u g. cost-bound (full-served u g)) t (f .within) in
-        rw (f .column-is) (table-at-most (length counts) mostCost (column (instanceOf s) counts 0 t) (λ j _. omega (arith, each j, f .within)))
+        rw (f .column-is)
+        (table-at-most (length counts) mostCost (column (instanceOf s) counts 0 t) (λ j _. column-small t (f .within) j))
 
     pub slot-ready :
-        {top l a e : ℕ} → top ≡ h .top → t < h .slots → l ≡ instanceOf s .load t → a ≡ t * length counts → e ≡ a + length counts →
-        PricedSlot s top (h .up + h .down) counts l costs (take (e - a) (drop a work))
+        {top l a e : ℕ} → top ≡ h .top → t < h .slots → l ≡ instanceOf s .load t → a ≡ t * length counts →
+        e ≡ a + length counts → PricedSlot s top (h .up + h .down) counts l costs (take (e - a) (drop a work))
     slot-ready {top} {l} {a} {e} top-is g l-is a-is e-is =
         record {
           slot =

@@ -17,7 +17,7 @@ use Rattle.search.proofs.Bounds.{price-small}
 use Rattle.search.proofs.Columns.{cheaper-bound}
 
 module _ (price : ℕ) (counts : List ℕ) (given : ℕ → Choice) where
-  pub rising-next :
+  rising-next :
       (j : ℕ) →
       rising price counts given (j + 1) ≡
       cheaper
@@ -29,7 +29,7 @@ module _ (price : ℕ) (counts : List ℕ) (given : ℕ → Choice) where
   unfolding rising
   rising-next j = rw add-one
 
-  pub rising-bound : (j : ℕ) → rising price counts given j .cost ≤ given j .cost
+  rising-bound : (j : ℕ) → rising price counts given j .cost ≤ given j .cost
   unfolding rising
   rising-bound zero = le-refl (given 0 .cost)
   rising-bound (suc j) = cheaper-bound _ (given (suc j))
@@ -63,16 +63,24 @@ module _ {price : ℕ} {counts column₀ places₀ : List ℕ} (p : Choices pric
       }
 
   module _ {column places : List ℕ} {best : Choice} {j : ℕ} (f : UpLoop price counts column₀ places₀ column places best j) where
-    pub up-turns :
-        {next : Choice} → j + 1 < length counts →
-        next ≡
+    -- the choice of the place above, from this one's and the lists' entries
+    abbrev above : Choice
+    above =
         cheaper
         (record { cost = best .cost + price * (countAtPlace counts (j + 1) - countAtPlace counts j); at = best .at })
-        (choiceIn column places (j + 1)) →
+        (choiceIn column places (j + 1))
+
+    above-is : above ≡ rising price counts (choiceIn column₀ places₀) (j + 1)
+    above-is =
+        let cost = f .costs .kept (j + 1) (omega arith) in
+        let at-place = f .at-places .kept (j + 1) (omega arith) in
+        rw (cost, at-place, f .here, rising-next price counts (choiceIn column₀ places₀) j)
+
+    pub up-turns :
+        {next : Choice} → j + 1 < length counts → next ≡ above →
         UpLoop price counts column₀ places₀ (set column (j + 1) (next .cost)) (set places (j + 1) (next .at)) next (j + 1)
     up-turns {next} h e =
-        let here : next ≡ rising price counts (choiceIn column₀ places₀) (j + 1)
-        = e ∙ rw (f .costs .kept (j + 1) (omega arith), f .at-places .kept (j + 1) (omega arith), f .here, rising-next price counts (choiceIn column₀ places₀) j) in
+        let here = e ∙ above-is in
         record {
           inside = h;
           here = here;
@@ -94,4 +102,5 @@ module _ {price : ℕ} {counts column₀ places₀ : List ℕ} (p : Choices pric
 
     pub rise-small : price * (countAtPlace counts (j + 1) - countAtPlace counts j) ≤ 200000000000
     rise-small =
-        price-small (p .priced) (countAtPlace counts (j + 1) - countAtPlace counts j) (omega (arith, p .priced .counts-range .each (j + 1)))
+        let most = p .priced .counts-range .each (j + 1) in
+        price-small (p .priced) (countAtPlace counts (j + 1) - countAtPlace counts j) (omega arith)

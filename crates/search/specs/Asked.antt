@@ -72,7 +72,7 @@ pub record SlotsAhead (s : List ℕ) (h : Header) (counts column work : List ℕ
 -- rows of selections for a plan's slots: each byte is a place, and each count fits in a byte
 pub record Leading (counts work plan : List ℕ) : Type 0 where
   pub some : 1 ≤ length counts
-  pub counts-range : AtMost 255 counts
+  pub counts-range : AtMost 200 counts
   pub room : length plan * length counts ≤ length work
   pub inside : (k : ℕ) → k < length plan * length counts → getD work k 0 < length counts
 

@@ -1,13 +1,15 @@
-// The search over a list of allowed counts (thesis 4.2, 5.1): one slot's column, all slots, the way back.
+// The search over a list of allowed counts (thesis 4.2, 5.1): one slot's column, all slots, the way back. A place is an index of
+// the list.
+use card::Header;
 ghost use mathlib.Core.Path.{_≡_};
-ghost use Prim.Native.Nat.{ℕ, _≤_};
+ghost use Prim.Native.Nat.{_≤_};
 ghost use lib.ListN.{length, replicate};
 ghost use Rattle.model.specs.Instance.{instanceOf};
-use card::Header;
 ghost use Rattle.counts.specs.Serving.{Served};
-ghost use Rattle.columns.specs.Column.{Choice, cheaper, downward, upward, searchedPlan, searchedCost};
-ghost use Rattle.search.specs.Written.{choiceOf, servedAt, servedOrAbove, costIn, choiceIn, Holds, rising, priceList, lastColumn, selectionsIn, wayThrough};
-ghost use Rattle.search.specs.Asked.{InRack, SlotAfter, PricedSlot, Choices, Priced, SlotsAhead, Leading, Searchable, mostCost};
+ghost use Rattle.columns.specs.Column.{cheaper, downward, upward, searchedPlan, searchedCost};
+ghost use Rattle.search.specs.Written.{choiceOf, servedAt, servedOrAbove, costIn, choiceIn, Holds, rising};
+ghost use Rattle.search.specs.Written.{priceList, lastColumn, selectionsIn, wayThrough};
+ghost use Rattle.search.specs.Asked.{mostCost, InRack, SlotAfter, Priced, Choices, PricedSlot, SlotsAhead, Leading, Searchable};
 
 // A cost, and the place that it comes from.
 struct Candidate {
@@ -197,7 +199,8 @@ pub fn search(
     ensures column { λ _. ⌜ now (column .exit) ≡ lastColumn (instanceOf (now (card .entry))) (now (counts .entry)) ⌝ }
 {
     all_slots(card, h, counts, column, work);
+    let cost = column[0];
     way_back(counts, work, plan);
     buffers::fill(work, 0);
-    column[0]
+    cost
 }

@@ -4,11 +4,9 @@ use Rattle.search.proofs.cheaper_of.Tie as tie
 use Rattle.search.proofs.cheaper_of.Reads as reads
 use Rattle.search.proofs.cheaper_of.Lts as lts
 
--- src/lib.rt:21:9
 returns : tie.Need-returns
 returns c = first-cheaper _ _ (c .if1 .taken)
 
--- src/lib.rt:17:1
 returns-2 : tie.Need-returns-2
 returns-2 c = second-cheaper _ _ (c .if1 .left)
 

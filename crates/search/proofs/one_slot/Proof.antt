@@ -7,25 +7,25 @@ use Rattle.search.proofs.one_slot.Lts as lts
 use Rattle.search.proofs.down_pass.Reads as down-pass-reads
 use Rattle.search.proofs.up_pass.Reads as up-pass-reads
 
--- src/lib.rt:119:5
 down-pass-requires : tie.Need-down-pass-requires
 down-pass-requires c κs = search needs
 
--- src/lib.rt:120:5
 up-pass-requires : tie.Need-up-pass-requires
-up-pass-requires c κs = passes-meet (c .before .before .before .before .before .before .before .before .before .before .before .before .before .pre) (c .before .before .before .before .before .before .down-pass .ensures)
+up-pass-requires c κs =
+    let p = c .before .before .before .before .before .before .before .before .before .before .before .before .before .pre in
+    passes-meet p (c .before .before .before .before .before .before .down-pass .ensures)
 
--- src/lib.rt:108:1
 same-length : tie.Need-same-length
 same-length c = search needs
 
--- src/lib.rt:108:1
 same-length-2 : tie.Need-same-length-2
 same-length-2 c = search needs
 
--- src/lib.rt:108:1
 returns : tie.Need-returns
-returns c = slot-choices (c .before .before .before .before .before .before .before .before .before .before .before .before .before .before .before .before .before .before .pre) (c .before .before .before .before .before .before .before .before .before .before .before .down-pass .ensures) (c .before .before .before .before .up-pass .ensures)
+returns c =
+    let p = c .before .before .before .before .before .before .before .before .before .before .before .before .before .before .before .before .before .before .pre in
+    let down = c .before .before .before .before .before .before .before .before .before .before .before .down-pass .ensures in
+    slot-choices p down (c .before .before .before .before .up-pass .ensures)
 
 pub one-slot-spec : {M : Type 1} → statement M
 one-slot-spec =

@@ -8,15 +8,12 @@ use Rattle.search.proofs.own.Reads as reads
 use Rattle.search.proofs.own.Lts as lts
 use Rattle.counts.proofs.operating_cost.Reads as operating-cost-reads
 
--- src/lib.rt:32:25
 operating-cost-requires : tie.Need-operating-cost-requires
 operating-cost-requires c κs = search needs
 
--- src/lib.rt:32:16
 add-cost : tie.Need-add-cost
 add-cost c = omega (arith, c .before .before .pre .1, c .operating-cost .ensures, cost-bound (c .before .before .pre .0))
 
--- src/lib.rt:27:1
 returns : tie.Need-returns
 returns c = served-at _ _ _ _ _ (c .operating-cost .ensures)
 

@@ -8,25 +8,22 @@ use Rattle.search.proofs.own_or_above.Lts as lts
 use Rattle.search.proofs.cheaper_of.Reads as cheaper-of-reads
 use Rattle.search.proofs.own.Reads as own-reads
 
--- src/lib.rt:41:8
 mul-if1 : tie.Need-mul-if1
 mul-if1 c = record { fits = omega (arith, product-small (c .before .pre)) }
 
--- src/lib.rt:42:9
 returns : tie.Need-returns
 returns c = passed-over (c .before .before .pre) _ _ (c .if1 .taken)
 
--- src/lib.rt:44:9
 own-requires : tie.Need-own-requires
 own-requires c κs = (can-serve (c .before .before .pre) (c .if1 .left), c .before .before .pre .small)
 
--- src/lib.rt:45:5
 cheaper-of-requires : tie.Need-cheaper-of-requires
 cheaper-of-requires c κs = search needs
 
--- src/lib.rt:37:1
 returns-2 : tie.Need-returns-2
-returns-2 c = considered (c .before .before .before .before .pre) _ _ (c .before .before .if1 .left) (c .before .own .ensures) (c .cheaper-of .ensures)
+returns-2 c =
+    let p = c .before .before .before .before .pre in
+    considered p _ _ (c .before .before .if1 .left) (c .before .own .ensures) (c .cheaper-of .ensures)
 
 pub own-or-above-spec : {M : Type 1} → statement M
 own-or-above-spec = tie.close (tie.spec mul-if1 returns own-requires cheaper-of-requires returns-2)

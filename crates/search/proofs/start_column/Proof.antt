@@ -17,53 +17,46 @@ Inv-loop price counts column₀ j₀ column j = Upto (λ k. price * countAtPlace
 abbrev μ-loop : tie.MeasureT-loop
 μ-loop price counts column₀ j₀ column j = length counts - j
 
--- src/lib.rt:129:5
 loop-holds : tie.Need-loop-holds Inv-loop μ-loop
 loop-holds c = upto-none _ _
 
--- src/lib.rt:130:29
 mul-column : tie.Need-mul-column Inv-loop μ-loop
 mul-column c = omega arith
 
--- src/lib.rt:130:29
 shared-slice-read-column : tie.Need-shared-slice-read-column Inv-loop μ-loop
 shared-slice-read-column c = omega arith
 
--- src/lib.rt:130:21
 mul-column-2 : tie.Need-mul-column-2 Inv-loop μ-loop
 mul-column-2 c =
     let p = c .before .before .before .pre in
     let n = countAtPlace (c .before .before .before .args .counts .now) (c .before .before .loop .j) in
     record { fits = omega (arith, price-small p n (p .counts-range .each (c .before .before .loop .j))) }
 
--- src/lib.rt:130:9
 mul-column-3 : tie.Need-mul-column-3 Inv-loop μ-loop
 mul-column-3 c = omega arith
 
--- src/lib.rt:130:9
 slice-write-column : tie.Need-slice-write-column Inv-loop μ-loop
 slice-write-column c = omega arith
 
--- src/lib.rt:131:9
 add-j : tie.Need-add-j Inv-loop μ-loop
 add-j c = omega arith
 
--- src/lib.rt:129:5
 loop-less : tie.Need-loop-less Inv-loop μ-loop
 loop-less c = omega arith
 
--- src/lib.rt:129:5
 loop-again : tie.Need-loop-again Inv-loop μ-loop
-loop-again c = upto-more (c .before .before .loop .inv) (omega (arith, c .before .before .before .pre .column-size, c .before .loop-test .taken)) refl
+loop-again c =
+    let size = c .before .before .before .pre .column-size in
+    upto-more (c .before .before .loop .inv) (omega (arith, c .before .loop-test .taken)) refl
 
--- src/lib.rt:124:1
 same-length : tie.Need-same-length Inv-loop μ-loop
 same-length c = c .before .loop .inv .size
 
--- src/lib.rt:124:1
 returns : tie.Need-returns Inv-loop μ-loop
 unfolding priceList
-returns c = let size = c .before .before .pre .column-size in rw (← size) (upto-all (c .before .loop .inv) (omega (arith, c .loop-test .left)))
+returns c =
+    let size = c .before .before .pre .column-size in
+    rw (← size) (upto-all (c .before .loop .inv) (omega (arith, c .loop-test .left)))
 
 pub start-column-spec : {M : Type 1} → statement M
 start-column-spec =

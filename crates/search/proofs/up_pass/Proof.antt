@@ -15,102 +15,82 @@ Inv-loop price counts column₀ places₀ j₀ best₀ column places j best = Up
 abbrev μ-loop : tie.MeasureT-loop
 μ-loop price counts column₀ places₀ j₀ best₀ column places j best = length counts - j
 
--- src/lib.rt:87:15
 slice-read-t11 : tie.Need-slice-read-t11 Inv-loop μ-loop
 slice-read-t11 c = omega arith
 
--- src/lib.rt:88:16
 slice-read-t13 : tie.Need-slice-read-t13 Inv-loop μ-loop
 slice-read-t13 c = omega arith
 
--- src/lib.rt:90:5
 loop-holds : tie.Need-loop-holds Inv-loop μ-loop
 loop-holds c = up-starts (c .before .before .before .before .before .pre)
 
--- src/lib.rt:90:11
 add-loop : tie.Need-add-loop Inv-loop μ-loop
 add-loop c = omega arith
 
--- src/lib.rt:91:20
 add-next : tie.Need-add-next Inv-loop μ-loop
 add-next c = omega arith
 
--- src/lib.rt:93:40
 mul-t14 : tie.Need-mul-t14 Inv-loop μ-loop
 mul-t14 c = omega arith
 
--- src/lib.rt:93:40
 shared-slice-read-t18 : tie.Need-shared-slice-read-t18 Inv-loop μ-loop
 shared-slice-read-t18 c = omega arith
 
--- src/lib.rt:93:55
 mul-t15 : tie.Need-mul-t15 Inv-loop μ-loop
 mul-t15 c = omega arith
 
--- src/lib.rt:93:55
 shared-slice-read-t20 : tie.Need-shared-slice-read-t20 Inv-loop μ-loop
 shared-slice-read-t20 c = omega arith
 
--- src/lib.rt:93:40
 sub-t21 : tie.Need-sub-t21 Inv-loop μ-loop
 sub-t21 c = c .before .before .before .before .before .before .before .before .before .pre .rises _ (c .before .before .loop-test .taken)
 
--- src/lib.rt:93:31
 mul-t22 : tie.Need-mul-t22 Inv-loop μ-loop
-mul-t22 c = record { fits = omega (arith, rise-small (c .before .before .before .before .before .before .before .before .before .pre) (c .before .before .before .loop .inv)) }
+mul-t22 c =
+    let p = c .before .before .before .before .before .before .before .before .before .pre in
+    record { fits = omega (arith, rise-small p (c .before .before .before .loop .inv)) }
 
--- src/lib.rt:93:19
 add-t23 : tie.Need-add-t23 Inv-loop μ-loop
 add-t23 c =
     let p = c .before .before .before .before .before .before .before .before .before .before .pre in
     let f = c .before .before .before .before .loop .inv in
     record { fits = omega (arith, rise-small p f, best-small p f) }
 
--- src/lib.rt:97:19
 mul-t14-2 : tie.Need-mul-t14-2 Inv-loop μ-loop
 mul-t14-2 c = omega arith
 
--- src/lib.rt:97:19
 slice-read-t23 : tie.Need-slice-read-t23 Inv-loop μ-loop
 slice-read-t23 c = omega arith
 
--- src/lib.rt:98:20
 slice-read-t26 : tie.Need-slice-read-t26 Inv-loop μ-loop
 slice-read-t26 c = omega arith
 
--- src/lib.rt:100:9
 cheaper-of-requires : tie.Need-cheaper-of-requires Inv-loop μ-loop
 cheaper-of-requires c κs = tt
 
--- src/lib.rt:101:9
 mul-column : tie.Need-mul-column Inv-loop μ-loop
 mul-column c = omega arith
 
--- src/lib.rt:101:9
 slice-write-column : tie.Need-slice-write-column Inv-loop μ-loop
 slice-write-column c = omega arith
 
--- src/lib.rt:102:9
 slice-write-places : tie.Need-slice-write-places Inv-loop μ-loop
 slice-write-places c = omega arith
 
--- src/lib.rt:90:5
 loop-less : tie.Need-loop-less Inv-loop μ-loop
 loop-less c = omega arith
 
--- src/lib.rt:90:5
 loop-again : tie.Need-loop-again Inv-loop μ-loop
-loop-again c = up-turns (c .before .before .before .before .before .before .before .before .before .before .before .before .before .pre) (c .before .before .before .before .before .before .before .loop .inv) (c .before .before .before .before .before .before .loop-test .taken) (c .cheaper-of .ensures)
+loop-again c =
+    let p = c .before .before .before .before .before .before .before .before .before .before .before .before .before .pre in
+    up-turns p (c .before .before .before .before .before .before .before .loop .inv) (c .before .before .before .before .before .before .loop-test .taken) (c .cheaper-of .ensures)
 
--- src/lib.rt:74:1
 same-length : tie.Need-same-length Inv-loop μ-loop
 same-length c = c .before .loop .inv .costs .size
 
--- src/lib.rt:74:1
 same-length-2 : tie.Need-same-length-2 Inv-loop μ-loop
 same-length-2 c = c .before .loop .inv .at-places .size
 
--- src/lib.rt:74:1
 returns : tie.Need-returns Inv-loop μ-loop
 returns c = up-ends (c .before .before .before .before .before .before .before .pre) (c .before .loop .inv) (c .loop-test .left)
 

@@ -14,70 +14,62 @@ Inv-loop counts work plan₀ width t₀ j₀ plan t j = BackLoop counts work pla
 abbrev μ-loop : tie.MeasureT-loop
 μ-loop counts work plan₀ width t₀ j₀ plan t j = t
 
-place-inside : (c : tie.After-wide Inv-loop μ-loop) → c .wide .result < length (c .before .before .before .before .before .before .before .args .counts .now)
+place-inside :
+    (c : tie.After-wide Inv-loop μ-loop) → c .wide .result < length (c .before .before .before .before .before .before .before .args .counts .now)
 place-inside c =
     let p = c .before .before .before .before .before .before .before .pre in
-    rw (c .wide .ensures) (p .inside _ (omega (arith, row-inside p (c .before .before .before .loop .inv) (c .before .before .loop-test .taken))))
+    let row = row-inside p (c .before .before .before .loop .inv) (c .before .before .loop-test .taken) in
+    rw (c .wide .ensures) (p .inside _ (omega arith))
 
--- src/lib.rt:172:5
 loop-holds : tie.Need-loop-holds Inv-loop μ-loop
 loop-holds c = back-starts (c .before .before .before .pre)
 
--- src/lib.rt:173:9
 sub-t : tie.Need-sub-t Inv-loop μ-loop
 sub-t c = omega arith
 
--- src/lib.rt:174:18
 mul-at : tie.Need-mul-at Inv-loop μ-loop
 mul-at c =
     let p = c .before .before .before .before .before .pre in
     record { fits = omega (arith, row-inside p (c .before .loop .inv) (c .loop-test .taken), p .room) }
 
--- src/lib.rt:174:18
 add-at : tie.Need-add-at Inv-loop μ-loop
 add-at c =
     let p = c .before .before .before .before .before .pre in
     record { fits = omega (arith, row-inside p (c .before .loop .inv) (c .loop-test .taken), p .room) }
 
--- src/lib.rt:175:18
 shared-slice-read-wide : tie.Need-shared-slice-read-wide Inv-loop μ-loop
 shared-slice-read-wide c =
     let p = c .before .before .before .before .before .before .pre in
     omega (arith, row-inside p (c .before .before .loop .inv) (c .before .loop-test .taken), p .room)
 
--- src/lib.rt:175:9
 wide-requires : tie.Need-wide-requires Inv-loop μ-loop
 wide-requires c κs = tt
 
--- src/lib.rt:176:19
 mul-plan : tie.Need-mul-plan Inv-loop μ-loop
 mul-plan c = record { fits = omega (arith, place-inside c) }
 
--- src/lib.rt:176:19
 shared-slice-read-plan : tie.Need-shared-slice-read-plan Inv-loop μ-loop
 shared-slice-read-plan c = place-inside (c .before)
 
--- src/lib.rt:176:19
 cast-plan : tie.Need-cast-plan Inv-loop μ-loop
-cast-plan c = omega (arith, c .before .before .before .before .before .before .before .before .pre .counts-range .each (c .before .wide .result))
+cast-plan c =
+    let p = c .before .before .before .before .before .before .before .before .pre in
+    omega (arith, p .counts-range .each (c .before .wide .result))
 
--- src/lib.rt:176:9
 slice-write-plan : tie.Need-slice-write-plan Inv-loop μ-loop
 slice-write-plan c = omega arith
 
--- src/lib.rt:172:5
 loop-less : tie.Need-loop-less Inv-loop μ-loop
 loop-less c = omega arith
 
--- src/lib.rt:172:5
 loop-again : tie.Need-loop-again Inv-loop μ-loop
-loop-again c = back-turns (c .before .before .before .before .before .before .before .before .pre) (c .before .before .before .before .loop .inv) (c .before .before .before .loop-test .taken) (c .before .wide .ensures)
+loop-again c =
+    let p = c .before .before .before .before .before .before .before .before .pre in
+    back-turns p (c .before .before .before .before .loop .inv) (c .before .before .before .loop-test .taken) (c .before .wide .ensures)
 
--- src/lib.rt:165:1
 same-length : tie.Need-same-length Inv-loop μ-loop
 same-length c = c .before .loop .inv .size
 
--- src/lib.rt:165:1
 returns : tie.Need-returns Inv-loop μ-loop
 returns c = back-ends (c .before .before .before .before .before .pre) (c .before .loop .inv) (c .loop-test .left)
 
