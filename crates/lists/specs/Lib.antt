@@ -13,3 +13,4 @@ pub mod Filling
 pub mod Prefixes
 pub mod Searching
 pub mod Parts
+pub mod InPlace

@@ -1,0 +1,105 @@
+-- Laws of a slot's choices and of the columns: bounds, places, and that only a column's entries matter.
+use Prim.Native.Nat.{ℕ, zero, suc, _+_, _-_, _*_, _≤_, _<_}
+use mathlib.Core.Path.{_≡_, refl}
+use mathlib.Core.Bool.{Bool, true, false, cond}
+use mathlib.Core.List.{List}
+use native.Mathlib.Nat.{le-refl, le-trans, mul-le-mul-left}
+use native.Mathlib.Omega.{arith}
+use lib.Dec.{leb}
+use lib.ListN.{length}
+use borrow.Author.Tests.{leb-true}
+use Rattle.model.specs.Instance.{Instance}
+use Rattle.model.specs.Counts.{canServe, operatingCost}
+use Rattle.model.specs.Thesis.{switchingPrice}
+use Rattle.columns.specs.Column.{Choice, cheaper, countAtPlace, lastPlace, own, fromTop, downward, raised, upward, column}
+
+-- the lower of two choices is at most the second
+pub cheaper-bound : (a b : Choice) → cheaper a b .cost ≤ b .cost
+cheaper-bound a b = go (leb (a .cost) (b .cost)) refl
+  where
+    go : (t : Bool) → leb (a .cost) (b .cost) ≡ t → cond t a b .cost ≤ b .cost
+    go true e = leb-true (a .cost) (b .cost) e
+    go false e = le-refl (b .cost)
+
+-- what holds of both holds of the one that is taken
+either : (P : Choice → Type 0) (t : Bool) {a b : Choice} → P a → P b → P (cond t a b)
+either P true p q = p
+either P false p q = q
+
+module _ (i : Instance) (counts : List ℕ) (l : ℕ) (before : ℕ → ℕ) where
+  -- no choice costs more than serving with the full rack
+  abbrev AtMostFull : Choice → Type 0
+  AtMostFull c = c .cost ≤ before (lastPlace counts) + operatingCost i (countAtPlace counts (lastPlace counts)) l
+
+  top-bound : (d : ℕ) → AtMostFull (fromTop i counts l before d)
+  unfolding fromTop
+  top-bound zero = le-refl (before (lastPlace counts) + operatingCost i (countAtPlace counts (lastPlace counts)) l)
+  top-bound (suc d) =
+      either AtMostFull (canServe i (countAtPlace counts (lastPlace counts - suc d)) l)
+      (le-trans (cheaper-bound (own i counts l before (lastPlace counts - suc d)) (fromTop i counts l before d)) (top-bound d))
+      (top-bound d)
+
+  pub downward-bound : (j : ℕ) → AtMostFull (downward i counts l before j)
+  unfolding downward
+  downward-bound j = top-bound (lastPlace counts - j)
+
+  pub upward-bound : (j : ℕ) → AtMostFull (upward i counts l before j)
+  unfolding upward
+  upward-bound zero = downward-bound 0
+  upward-bound (suc j) =
+      le-trans
+      (cheaper-bound (raised i counts l before (upward i counts l before j) j) (downward i counts l before (suc j)))
+      (downward-bound (suc j))
+
+  -- each choice is one of the places
+  module _ (some : 1 ≤ length counts) where
+    abbrev Inside : Choice → Type 0
+    Inside c = c .at < length counts
+
+    top-inside : (d : ℕ) → Inside (fromTop i counts l before d)
+    unfolding fromTop
+    top-inside zero = omega arith
+    top-inside (suc d) =
+        either Inside (canServe i (countAtPlace counts (lastPlace counts - suc d)) l)
+        (either Inside (leb (own i counts l before (lastPlace counts - suc d) .cost) (fromTop i counts l before d .cost))
+        (omega arith)
+        (top-inside d))
+        (top-inside d)
+
+    pub upward-inside : (j : ℕ) → Inside (upward i counts l before j)
+    unfolding upward downward
+    upward-inside zero = top-inside (lastPlace counts - 0)
+    upward-inside (suc j) =
+        either Inside (leb (raised i counts l before (upward i counts l before j) j .cost) (downward i counts l before (suc j) .cost))
+        (upward-inside j)
+        (top-inside (lastPlace counts - suc j))
+
+-- columns that agree at all places give the same choices
+module _
+    (i : Instance) (counts : List ℕ) (l : ℕ) {one other : ℕ → ℕ} (some : 1 ≤ length counts)
+    (same : (k : ℕ) → k < length counts → one k ≡ other k) where
+  top-same : (d : ℕ) → fromTop i counts l one d ≡ fromTop i counts l other d
+  unfolding fromTop
+  top-same zero = rw (same (lastPlace counts) (omega arith))
+  top-same (suc d) = rw (same (lastPlace counts - suc d) (omega arith), top-same d)
+
+  pub upward-same : (j : ℕ) → upward i counts l one j ≡ upward i counts l other j
+  unfolding upward downward
+  upward-same zero = top-same (lastPlace counts - 0)
+  upward-same (suc j) = rw (upward-same j, top-same (lastPlace counts - suc j))
+
+-- after t slots, each served by the full rack at a cost of at most b
+pub column-bound :
+    (i : Instance) (counts : List ℕ) (m b slots : ℕ) → ((j : ℕ) → countAtPlace counts j ≤ m) →
+    ((t : ℕ) → t < slots → operatingCost i (countAtPlace counts (lastPlace counts)) (i .load t) ≤ b) →
+    (t : ℕ) → t ≤ slots → (j : ℕ) → column i counts 0 t j ≤ switchingPrice i * m + t * b
+unfolding column
+column-bound i counts m b slots fits full zero h j =
+    omega (arith, mul-le-mul-left {m = countAtPlace counts j - 0} {n = m} (switchingPrice i) (omega (arith, fits j)))
+column-bound i counts m b slots fits full (suc t) h j =
+    omega (
+      arith,
+      upward-bound i counts (i .load t) (column i counts 0 t) j,
+      full t (omega arith),
+      column-bound i counts m b slots fits full t (omega arith) (lastPlace counts),
+    )

@@ -1,0 +1,105 @@
+-- The downward pass: its recursion by place, and the loop.
+use Prim.Native.Nat.{ℕ, suc, _+_, _-_, _≤_, _<_}
+use mathlib.Core.Path.{_≡_, refl, sym, ap, _∙_}
+use mathlib.Core.List.{List}
+use native.Mathlib.Nat.{sub-self}
+use native.Mathlib.Omega.{arith}
+use lib.ListN.{length, getD, set}
+use lib.Seq.{getD-set-other}
+use Rattle.lists.specs.Filling.{Downto, downto-more, downto-all}
+use Rattle.lists.specs.InPlace.{downto-last}
+use Rattle.model.specs.Instance.{Instance, instanceOf}
+use Rattle.columns.specs.Column.{Choice, countAtPlace, lastPlace, fromTop, downward}
+use Rattle.search.specs.Written.{servedAt, servedOrAbove, costIn, Holds}
+use Rattle.search.specs.Asked.{SlotAfter, InRack}
+use Rattle.search.proofs.Allowed.{counts-fit}
+
+module _ (i : Instance) (counts : List ℕ) (l : ℕ) (before : ℕ → ℕ) where
+  downward-last : (j : ℕ) → j ≡ lastPlace counts → downward i counts l before j ≡ servedAt i (countAtPlace counts j) l (before j) j
+  unfolding downward fromTop
+  downward-last j e = rw (e, sub-self)
+
+  -- a place below the last, from the place above
+  downward-below :
+      (j : ℕ) → j < lastPlace counts →
+      downward i counts l before j ≡ servedOrAbove i (countAtPlace counts j) l (before j) j (downward i counts l before (j + 1))
+  unfolding downward fromTop servedOrAbove
+  downward-below j h = go (lastPlace counts - (j + 1)) (omega arith) (omega arith) refl
+    where
+      go :
+          (d : ℕ) → lastPlace counts - j ≡ suc d → lastPlace counts - suc d ≡ j → lastPlace counts - (j + 1) ≡ d →
+          downward i counts l before j ≡ servedOrAbove i (countAtPlace counts j) l (before j) j (downward i counts l before (j + 1))
+      go d e same above = rw (e, same, above)
+
+-- The loop at place j: that place's choice is in hand, and the lists hold those above it.
+pub record DownLoop
+    (i : Instance) (counts : List ℕ) (l : ℕ) (column₀ places₀ column places : List ℕ) (best : Choice) (j : ℕ) : Type 0 where
+  pub inside : j < length counts
+  pub here : best ≡ downward i counts l (costIn column₀) j
+  pub costs : Downto (λ k. downward i counts l (costIn column₀) k .cost) (j + 1) column₀ column
+  pub at-places : Downto (λ k. downward i counts l (costIn column₀) k .at) (j + 1) places₀ places
+
+module _
+    {s : List ℕ} {top : ℕ} {counts : List ℕ} {l : ℕ} {column₀ places₀ : List ℕ}
+    (p : SlotAfter s top counts l column₀ places₀) where
+  abbrev down : ℕ → Choice
+  down = downward (instanceOf s) counts l (costIn column₀)
+
+  abbrev Loop : List ℕ → List ℕ → Choice → ℕ → Type 0
+  Loop = DownLoop (instanceOf s) counts l column₀ places₀
+
+  pub down-starts :
+      {best : Choice} {j : ℕ} → j ≡ length counts - 1 →
+      best ≡ servedAt (instanceOf s) (countAtPlace counts j) l (costIn column₀ j) j → Loop column₀ places₀ best j
+  down-starts {best} {j} last e =
+      let two = p .allowed .two in
+      record {
+        inside = omega arith;
+        here = e ∙ sym (downward-last (instanceOf s) counts l (costIn column₀) j last);
+        costs = downto-last _ column₀ j (omega (arith, p .column-size));
+        at-places = downto-last _ places₀ j (omega (arith, p .places-size));
+      }
+
+  module _ {column places : List ℕ} {best : Choice} {j : ℕ} (f : Loop column places best j) where
+    stored-costs : Downto (λ k. down k .cost) j column₀ (set column j (best .cost))
+    stored-costs = downto-more (f .costs) (omega (arith, f .inside, p .column-size)) (ap (λ c. c .cost) (f .here))
+
+    stored-places : Downto (λ k. down k .at) j places₀ (set places j (best .at))
+    stored-places = downto-more (f .at-places) (omega (arith, f .inside, p .places-size)) (ap (λ c. c .at) (f .here))
+
+    -- the entry below is as it was
+    entry-below : (x : ℕ) → 0 < j → getD (set column j x) (j - 1) 0 ≡ getD column₀ (j - 1) 0
+    entry-below x h = getD-set-other column j (j - 1) x 0 (omega arith) ∙ f .costs .kept (j - 1) (omega arith)
+
+    -- what the place below is asked with
+    pub below-in-rack : (x : ℕ) → 0 < j → InRack s top (countAtPlace counts (j - 1)) (getD (set column j x) (j - 1) 0)
+    below-in-rack x h =
+        record {
+          accepted = p .accepted;
+          top-is = p .top-is;
+          in-rack = counts-fit (p .allowed) (j - 1);
+          small = rw (entry-below x h) (p .small .each (j - 1));
+        }
+
+    pub down-turns :
+        {next : Choice} → 0 < j →
+        next ≡
+        servedOrAbove (instanceOf s) (countAtPlace counts (j - 1)) l (getD (set column j (best .cost)) (j - 1) 0) (j - 1) best →
+        Loop (set column j (best .cost)) (set places j (best .at)) next (j - 1)
+    down-turns {next} h e =
+        let back : j - 1 + 1 ≡ j = omega arith in
+        let below = downward-below (instanceOf s) counts l (costIn column₀) (j - 1) (omega (arith, f .inside)) in
+        record {
+          inside = omega (arith, f .inside);
+          here = e ∙ rw (entry-below (best .cost) h, below, back, f .here);
+          costs = rw back stored-costs;
+          at-places = rw back stored-places;
+        }
+
+    pub down-ends : j ≤ 0 → Holds counts down (set column 0 (best .cost)) (set places 0 (best .at))
+    down-ends h =
+        let none : j ≡ 0 = omega arith in
+        record {
+          costs-are = rw (← (p .column-size)) (downto-all (rw none at stored-costs));
+          places-are = rw (← (p .places-size)) (downto-all (rw none at stored-places));
+        }

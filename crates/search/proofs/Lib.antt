@@ -1,0 +1,10 @@
+pub mod Bounds
+pub mod Allowed
+pub mod Candidates
+pub mod Columns
+pub mod Downward
+pub mod Upward
+pub mod Slot
+pub mod Slots
+pub mod Back
+pub mod Found

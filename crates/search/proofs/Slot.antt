@@ -1,0 +1,64 @@
+-- One slot: what the downward pass leaves is what the upward pass asks for, and both together give the slot's choices.
+use Prim.Native.Nat.{ℕ, _*_, _<_}
+use mathlib.Core.Path.{_≡_, ap, _∙_}
+use mathlib.Core.List.{List}
+use native.Mathlib.Nat.{le-of-lt}
+use native.Mathlib.Omega.{arith}
+use lib.ListN.{length}
+use Rattle.lists.specs.Lists.{length-tabulate, getD-tabulate}
+use Rattle.lists.specs.InPlace.{tabulate-same}
+use Rattle.model.specs.Instance.{instanceOf}
+use Rattle.laws.specs.Acceptance.{up-range, down-range}
+use Rattle.columns.specs.Column.{Choice, lastPlace, downward, upward}
+use Rattle.search.specs.Written.{costIn, choiceIn, Holds, rising}
+use Rattle.search.specs.Asked.{Choices, PricedSlot, mostCost}
+use Rattle.search.proofs.Bounds.{cost-bound, table-at-most}
+use Rattle.search.proofs.Allowed.{counts-small, full-served}
+use Rattle.search.proofs.Columns.{downward-bound}
+use Rattle.search.proofs.Upward.{rising-upward}
+
+module _
+    {s : List ℕ} {top price : ℕ} {counts : List ℕ} {l : ℕ} {column places : List ℕ}
+    (p : PricedSlot s top price counts l column places) where
+  abbrev down : ℕ → Choice
+  down = downward (instanceOf s) counts l (costIn column)
+
+  module _ {column₁ places₁ : List ℕ} (first : Holds counts down column₁ places₁) where
+    pub passes-meet : Choices price counts column₁ places₁
+    passes-meet =
+        let q = p .slot in
+        let cost = cost-bound (full-served s (q .accepted) (q .allowed) (q .load-fits)) in
+        let before = q .small .each (lastPlace counts) in
+        let on = up-range s (q .accepted) in
+        let off = down-range s (q .accepted) in
+        record {
+          priced =
+              record {
+                price-range = omega (arith, p .price-is);
+                counts-range = counts-small s (q .accepted) (q .allowed);
+                column-size = rw (first .costs-are) (length-tabulate (length counts) _);
+              };
+          some = omega (arith, q .allowed .two);
+          rises = λ j h. le-of-lt (q .allowed .rises j h);
+          places-size = rw (first .places-are) (length-tabulate (length counts) _);
+          small =
+              rw (first .costs-are)
+              (table-at-most (length counts) (2 * mostCost) _
+              (λ k _. omega (arith, downward-bound (instanceOf s) counts l (costIn column) k)));
+        }
+
+    given-is : (k : ℕ) → k < length counts → choiceIn column₁ places₁ k ≡ down k
+    given-is k h =
+        let cost = getD-tabulate (length counts) (λ j. down j .cost) k 0 h in
+        let at-place = getD-tabulate (length counts) (λ j. down j .at) k 0 h in
+        rw (first .costs-are, first .places-are, cost, at-place)
+
+    pub slot-choices :
+        {column₂ places₂ : List ℕ} → Holds counts (rising price counts (choiceIn column₁ places₁)) column₂ places₂ →
+        Holds counts (upward (instanceOf s) counts l (costIn column)) column₂ places₂
+    slot-choices second =
+        let same = rising-upward price counts (choiceIn column₁ places₁) (instanceOf s) l (costIn column) (p .price-is) given-is in
+        record {
+          costs-are = second .costs-are ∙ tabulate-same (length counts) (λ k h. ap (λ c. c .cost) (same k h));
+          places-are = second .places-are ∙ tabulate-same (length counts) (λ k h. ap (λ c. c .at) (same k h));
+        }

@@ -1,0 +1,170 @@
+-- All slots, one after the other: the loop over them, and what it hands to each.
+use Prim.Native.Nat.{ℕ, suc, _+_, _-_, _*_, _≤_, _<_}
+use mathlib.Core.Path.{_≡_, sym, ap, _∙_}
+use mathlib.Core.List.{List, _++_}
+use native.Mathlib.Nat.{sub-zero, zero-mul, mul-le-mul, mul-le-mul-right}
+use native.Mathlib.Numerals.{add-one}
+use native.Mathlib.Omega.{arith}
+use lib.ListN.{length, take, drop, length-append, length-drop}
+use borrow.Rule.Slice.PartMut.{mid-len}
+use Rattle.lists.specs.Lists.{rows, length-tabulate, getD-tabulate, length-rows}
+use Rattle.lists.specs.InPlace.{tabulate-same, next-row}
+use Rattle.model.specs.Instance.{Instance, instanceOf, loadPlace}
+use Rattle.model.specs.Counts.{operatingCost}
+use Rattle.model.specs.Thesis.{switchingPrice}
+use Rattle.laws.specs.Acceptance.{modules-range, up-range, down-range, slots-range, load-range}
+use Rattle.card.specs.declared.Header.{Header}
+use Rattle.card.specs.Reading.{Within}
+use Rattle.card.proofs.Room.{load-within}
+use Rattle.columns.specs.Column.{countAtPlace, lastPlace, upward, column, selection}
+use Rattle.search.specs.Written.{costIn, Holds, priceList, columnList, lastColumn, selectionRow, selectionRows, selectionsIn}
+use Rattle.search.specs.Asked.{AtMost, Priced, PricedSlot, SlotsAhead, mostCost}
+use Rattle.search.proofs.Bounds.{cost-bound, table-at-most}
+use Rattle.search.proofs.Allowed.{counts-fit, counts-small, full-served}
+use Rattle.search.proofs.Columns.{upward-same, column-bound}
+
+-- before slot t: the column after t slots, and t rows of selections in front of what the buffer held
+pub record SlotLoop (i : Instance) (counts work₀ costs work : List ℕ) (t : ℕ) : Type 0 where
+  pub within : t ≤ i .slots
+  pub column-is : costs ≡ columnList i counts t
+  pub work-is : work ≡ selectionRows i counts t ++ drop (t * length counts) work₀
+
+pub row-size : (i : Instance) (counts : List ℕ) (t : ℕ) → length (selectionRow i counts t) ≡ length counts
+unfolding selectionRow
+row-size i counts t = length-tabulate (length counts) (selection i counts 0 t)
+
+column-long : (i : Instance) (counts : List ℕ) (t : ℕ) → length (columnList i counts t) ≡ length counts
+unfolding columnList
+column-long i counts t = length-tabulate (length counts) (column i counts 0 t)
+
+-- the choices of slot t, over the column as a list
+slot-same :
+    (i : Instance) (counts : List ℕ) (t : ℕ) → 1 ≤ length counts → (j : ℕ) →
+    upward i counts (i .load t) (costIn (columnList i counts t)) j ≡ upward i counts (i .load t) (column i counts 0 t) j
+unfolding columnList
+slot-same i counts t some = upward-same i counts (i .load t) some (λ k h. getD-tabulate (length counts) (column i counts 0 t) k 0 h)
+
+pub slots-start :
+    (i : Instance) (counts work : List ℕ) {price : ℕ} {costs : List ℕ} → price ≡ switchingPrice i → costs ≡ priceList price counts →
+    SlotLoop i counts work costs work 0
+unfolding priceList columnList column selectionRows rows
+slots-start i counts work e c =
+    record {
+      within = omega arith;
+      column-is = c ∙ tabulate-same (length counts) (λ k _. rw (e, sub-zero));
+      work-is = rw zero-mul;
+    }
+
+module _ {i : Instance} {counts work₀ costs work : List ℕ} {t : ℕ} (f : SlotLoop i counts work₀ costs work t) where
+  pub slots-turn :
+      {l a e : ℕ} {costs′ places : List ℕ} → 1 ≤ length counts → t < i .slots → l ≡ i .load t → a ≡ t * length counts →
+      e ≡ a + length counts → Holds counts (upward i counts l (costIn costs)) costs′ places →
+      SlotLoop i counts work₀ costs′ (take a work ++ (places ++ drop (e - a) (drop a work))) (t + 1)
+  unfolding columnList column selectionRow selectionRows selection
+  slots-turn {l} {a} {e} {costs′} {places} some h l-is a-is e-is now =
+      let same = slot-same i counts t some in
+      let width : e - a ≡ length counts = omega arith in
+      let row = rw (l-is, f .column-is) at (now .places-are) in
+      let row-is = row ∙ tabulate-same (length counts) (λ j _. ap (λ x. x .at) (same j)) in
+      record {
+        within = omega arith;
+        column-is =
+            now .costs-are ∙
+            rw (l-is, f .column-is, add-one t) (tabulate-same (length counts) (λ j _. ap (λ x. x .cost) (same j)));
+        work-is = rw row-is (next-row (length counts) (selectionRow i counts) (row-size i counts) t work₀ a-is width (f .work-is));
+      }
+
+  pub slots-end : i .slots ≤ t → (costs ≡ lastColumn i counts) × (work ≡ selectionsIn i counts work₀)
+  slots-end h = let all : t ≡ i .slots = omega (arith, f .within) in (rw all at (f .column-is), rw all at (f .work-is))
+
+-- what the loop hands on
+module _ {s : List ℕ} {h : Header} {counts costs₀ work₀ : List ℕ} (p : SlotsAhead s h counts costs₀ work₀) where
+  pub price-is : h .up + h .down ≡ switchingPrice (instanceOf s)
+  price-is = omega (arith, p .ready .header .up-is, p .ready .header .down-is)
+
+  pub slot-inside : {t : ℕ} → t < h .slots → t < instanceOf s .slots
+  slot-inside g = rw (p .ready .header .slots-is) at g
+
+  pub row-small : {t : ℕ} → t < h .slots → t * length counts + length counts ≤ 262144
+  row-small {t} g =
+      let slot = slot-inside g in
+      let slots = slots-range s (p .ready .accepted) in
+      let area = mul-le-mul {n₁ = suc t} {m₁ = length counts} {n₂ = 1024} {m₂ = 256} (omega arith) (p .allowed .bytes) in
+      omega arith
+
+  pub load-there : {t : ℕ} → t < h .slots → Within s (loadPlace (h .top) t) 2 × (h .top ≡ instanceOf s .topStep)
+  load-there {t} g =
+      let top-is = p .ready .header .top-is in
+      (rw top-is (load-within s (p .ready .accepted) t (slot-inside g)), top-is)
+
+  pub up-small : h .up ≤ 500000000
+  up-small = rw (p .ready .header .up-is) (up-range s (p .ready .accepted))
+
+  pub down-small : h .down ≤ 500000000
+  down-small = rw (p .ready .header .down-is) (down-range s (p .ready .accepted))
+
+  pub start-priced : {price : ℕ} → price ≤ 1000000000 → Priced price counts costs₀
+  start-priced small =
+      record {
+        price-range = small;
+        counts-range = counts-small s (p .ready .accepted) (p .allowed);
+        column-size = p .column-size;
+      }
+
+  -- no cost after t slots exceeds the start's prices and a full rack for each slot
+  column-small : (t : ℕ) → t ≤ instanceOf s .slots → (j : ℕ) → column (instanceOf s) counts 0 t j ≤ mostCost
+  column-small t within j =
+      let accepted = p .ready .accepted in
+      let modules = modules-range s accepted .1 in
+      let slots = slots-range s accepted in
+      let on = up-range s accepted in
+      let off = down-range s accepted in
+      let price =
+      mul-le-mul {n₁ = switchingPrice (instanceOf s)} {m₁ = instanceOf s .modules} {n₂ = 1000000000} {m₂ = 200} (omega arith) modules in
+      let each =
+      column-bound (instanceOf s) counts (instanceOf s .modules) 200000000 (instanceOf s .slots) (counts-fit (p .allowed)) full in
+      omega (arith, each t within j)
+    where
+      full :
+          (t : ℕ) → t < instanceOf s .slots →
+          operatingCost (instanceOf s) (countAtPlace counts (lastPlace counts)) (instanceOf s .load t) ≤ 200000000
+      full t g = cost-bound (full-served s (p .ready .accepted) (p .allowed) (load-range s (p .ready .accepted) t g))
+
+  module _ {costs work : List ℕ} {t : ℕ} (f : SlotLoop (instanceOf s) counts work₀ costs work t) where
+    pub work-long : length work ≡ length work₀
+    unfolding selectionRows
+    work-long =
+        let rows-long = length-rows (length counts) t (selectionRow (instanceOf s) counts) (row-size (instanceOf s) counts) in
+        let within = f .within in
+        ap length (f .work-is) ∙
+        simp (length-append, length-drop) (omega (arith, p .work-room, mul-le-mul-right (length counts) within))
+
+    pub column-kept : length costs ≡ length costs₀
+    column-kept = ap length (f .column-is) ∙ column-long (instanceOf s) counts t ∙ sym (p .column-size)
+
+    pub row-room : t < h .slots → t * length counts + length counts ≤ length work
+    row-room g = omega (arith, work-long, p .work-room, mul-le-mul-right (length counts) (slot-inside g))
+
+    costs-small : AtMost mostCost costs
+    unfolding columnList
+    costs-small =
+        rw (f .column-is)
+        (table-at-most (length counts) mostCost (column (instanceOf s) counts 0 t) (λ j _. column-small t (f .within) j))
+
+    pub slot-ready :
+        {top l a e : ℕ} → top ≡ h .top → t < h .slots → l ≡ instanceOf s .load t → a ≡ t * length counts →
+        e ≡ a + length counts → PricedSlot s top (h .up + h .down) counts l costs (take (e - a) (drop a work))
+    slot-ready {top} {l} {a} {e} top-is g l-is a-is e-is =
+        record {
+          slot =
+              record {
+                accepted = p .ready .accepted;
+                top-is = top-is ∙ p .ready .header .top-is;
+                allowed = p .allowed;
+                load-fits = rw l-is (load-range s (p .ready .accepted) t (slot-inside g));
+                column-size = ap length (f .column-is) ∙ column-long (instanceOf s) counts t;
+                places-size = mid-len a e work (omega (arith, row-room g)) ∙ omega arith;
+                small = costs-small;
+              };
+          price-is = price-is;
+        }

@@ -1,0 +1,29 @@
+use native.Mathlib.Omega.{arith}
+use Rattle.search.proofs.Candidates.{product-small, can-serve, passed-over, considered}
+use borrow.Author.Needs.{needs}
+use Rattle.search.proofs.own_or_above.Statement.{statement}
+use Rattle.search.proofs.own_or_above.Tie as tie
+use Rattle.search.proofs.own_or_above.Reads as reads
+use Rattle.search.proofs.own_or_above.Lts as lts
+use Rattle.search.proofs.cheaper_of.Reads as cheaper-of-reads
+use Rattle.search.proofs.own.Reads as own-reads
+
+mul-if1 : tie.Need-mul-if1
+mul-if1 c = record { fits = omega (arith, product-small (c .before .pre)) }
+
+returns : tie.Need-returns
+returns c = passed-over (c .before .before .pre) _ _ (c .if1 .taken)
+
+own-requires : tie.Need-own-requires
+own-requires c κs = (can-serve (c .before .before .pre) (c .if1 .left), c .before .before .pre .small)
+
+cheaper-of-requires : tie.Need-cheaper-of-requires
+cheaper-of-requires c κs = search needs
+
+returns-2 : tie.Need-returns-2
+returns-2 c =
+    let p = c .before .before .before .before .pre in
+    considered p _ _ (c .before .before .if1 .left) (c .before .own .ensures) (c .cheaper-of .ensures)
+
+pub own-or-above-spec : {M : Type 1} → statement M
+own-or-above-spec = tie.close (tie.spec mul-if1 returns own-requires cheaper-of-requires returns-2)

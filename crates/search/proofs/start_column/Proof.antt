@@ -1,0 +1,77 @@
+use mathlib.Core.Path.{refl}
+use Prim.Native.Nat.{_-_, _*_}
+use native.Mathlib.Omega.{arith}
+use lib.ListN.{length}
+use Rattle.lists.specs.Filling.{Upto, upto-none, upto-more, upto-all}
+use Rattle.columns.specs.Column.{countAtPlace}
+use Rattle.search.specs.Written.{priceList}
+use Rattle.search.proofs.Bounds.{price-small}
+use Rattle.search.proofs.start_column.Statement.{statement}
+use Rattle.search.proofs.start_column.Tie as tie
+use Rattle.search.proofs.start_column.Reads as reads
+use Rattle.search.proofs.start_column.Lts as lts
+
+abbrev Inv-loop : tie.InvT-loop
+Inv-loop price counts column₀ j₀ column j = Upto (λ k. price * countAtPlace counts k) j column₀ column
+
+abbrev μ-loop : tie.MeasureT-loop
+μ-loop price counts column₀ j₀ column j = length counts - j
+
+loop-holds : tie.Need-loop-holds Inv-loop μ-loop
+loop-holds c = upto-none _ _
+
+mul-column : tie.Need-mul-column Inv-loop μ-loop
+mul-column c = omega arith
+
+shared-slice-read-column : tie.Need-shared-slice-read-column Inv-loop μ-loop
+shared-slice-read-column c = omega arith
+
+mul-column-2 : tie.Need-mul-column-2 Inv-loop μ-loop
+mul-column-2 c =
+    let p = c .before .before .before .pre in
+    let n = countAtPlace (c .before .before .before .args .counts .now) (c .before .before .loop .j) in
+    record { fits = omega (arith, price-small p n (p .counts-range .each (c .before .before .loop .j))) }
+
+mul-column-3 : tie.Need-mul-column-3 Inv-loop μ-loop
+mul-column-3 c = omega arith
+
+slice-write-column : tie.Need-slice-write-column Inv-loop μ-loop
+slice-write-column c = omega arith
+
+add-j : tie.Need-add-j Inv-loop μ-loop
+add-j c = omega arith
+
+loop-less : tie.Need-loop-less Inv-loop μ-loop
+loop-less c = omega arith
+
+loop-again : tie.Need-loop-again Inv-loop μ-loop
+loop-again c =
+    let size = c .before .before .before .pre .column-size in
+    upto-more (c .before .before .loop .inv) (omega (arith, c .before .loop-test .taken)) refl
+
+same-length : tie.Need-same-length Inv-loop μ-loop
+same-length c = c .before .loop .inv .size
+
+returns : tie.Need-returns Inv-loop μ-loop
+unfolding priceList
+returns c =
+    let size = c .before .before .pre .column-size in
+    rw (← size) (upto-all (c .before .loop .inv) (omega (arith, c .loop-test .left)))
+
+pub start-column-spec : {M : Type 1} → statement M
+start-column-spec =
+    tie.close
+    (tie.spec
+    Inv-loop
+    μ-loop
+    loop-holds
+    mul-column
+    shared-slice-read-column
+    mul-column-2
+    mul-column-3
+    slice-write-column
+    add-j
+    loop-less
+    loop-again
+    same-length
+    returns)
