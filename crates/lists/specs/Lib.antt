@@ -8,3 +8,4 @@ pub mod Members
 pub mod Kept
 pub mod Bytes
 pub mod Filling
+pub mod Writing

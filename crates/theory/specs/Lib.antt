@@ -17,3 +17,4 @@ pub mod Potential
 pub mod Ratio
 pub mod Lists
 pub mod Bites
+pub mod Reading
