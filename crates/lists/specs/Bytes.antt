@@ -1,10 +1,16 @@
 -- Little-endian numbers over the width: the definition, and one law for every width.
+<<<<<<< HEAD
 use Prim.Native.Nat.{ℕ, zero, suc, _+_, _*_, _^_, _<_}
 use mathlib.Core.Path.{_≡_}
+=======
+use Prim.Native.Nat.{ℕ, zero, suc, _+_, _*_, _^_, _≤_, _<_}
+use mathlib.Core.Path.{_≡_, refl, sym, _∙_, ap}
+>>>>>>> e5d527f6d95cea98d8530805a2b19bb9a07b2db8
 use mathlib.Core.List.{List}
 use native.Mathlib.Nat.{zero-add, one-mul, suc-add, pow-zero, pow-suc, add-zero}
 use native.Mathlib.Omega.{arith}
-use lib.ListN.{getD}
+use lib.ListN.{getD, take}
+use lib.Seq.{getD-take}
 
 -- the number in the w bytes of s from place p on, least byte first
 unfoldable pub littleEndian : ℕ → List ℕ → ℕ → ℕ
@@ -33,3 +39,11 @@ little-bound (suc w) s p h =
     let e = little-bound w s (p + 1) h in
     let b = h p in
     rw pow-suc (omega arith)
+
+-- a number within the first n bytes is one of those bytes alone
+pub little-take : (w n : ℕ) (s : List ℕ) (p : ℕ) → p + w ≤ n → littleEndian w (take n s) p ≡ littleEndian w s p
+unfolding littleEndian
+little-take zero n s p h = refl
+little-take (suc w) n s p h =
+    let here : p < n = omega arith in
+    rw (getD-take n s p 0 here, little-take w n s (p + 1) (omega arith))

@@ -14,3 +14,4 @@ pub mod Prefixes
 pub mod Searching
 pub mod Parts
 pub mod InPlace
+pub mod Writing

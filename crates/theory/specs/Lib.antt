@@ -18,3 +18,4 @@ pub mod Condition3
 pub mod Refusals
 pub mod Outcomes
 pub mod Bites
+pub mod Reading

@@ -1,0 +1,97 @@
+-- How long the texts are at most.
+use Prim.Native.Nat.{ℕ, _+_, _*_, _^_, _≤_, _<_}
+use mathlib.Core.Path.{ap}
+use mathlib.Core.Bool.{Bool, true, false, cond}
+use mathlib.Core.List.{List, [], _∷_, _++_}
+use mathlib.Core.Logic.{⊎-elim}
+use native.Mathlib.Nat.{le-refl, mul-le-mul-right, mul-le-mul-left}
+use native.Mathlib.Omega.{arith}
+use lib.ListN.{length, getD, take, drop, length-append, length-take, List·getD-eq-default}
+use lib.Seq.{getD-take, getD-drop}
+use Rattle.lists.specs.Numbers.{le-or-lt}
+use Rattle.lists.specs.Lists.{rows}
+use Rattle.lists.specs.Writing.{Room, rows-at-most}
+use Rattle.model.specs.Sheets.{off, isOff}
+use Rattle.model.specs.Listing.{decimal, newline, costLine, planLine, stepText, slotLine, listing, refusedLine}
+use Rattle.listing.specs.Texts.{numberedLine, countText, countTexts, moduleText, moduleTexts, sheetLine, sheetLines, Printable, LineRoom}
+use Rattle.listing.proofs.Digits.{decimal-most}
+use Rattle.listing.proofs.Steps.{module-text}
+
+line-length : (word : List ℕ) (n : ℕ) → n < 2 ^ 64 → length (numberedLine word n) ≤ length word + 21
+line-length word n h =
+    omega (arith, length-append word (decimal n ++ newline), length-append (decimal n) newline, decimal-most 19 n (omega arith))
+
+plan-length : (p : List ℕ) → ((t : ℕ) → getD p t 0 < 256) → length (planLine p) ≤ 5 + length p * 4
+unfolding planLine
+plan-length p byte =
+    omega
+    (arith, length-append (countTexts p) newline, rows-at-most 4 (length p) (countText p) (λ t h. one t))
+  where
+    one : (t : ℕ) → length (countText p t) ≤ 4
+    one t = omega (arith, decimal-most 2 (getD p t 0) (omega (arith, byte t)))
+
+step-length : (b : ℕ) → b < 256 → length (stepText b) ≤ 3
+unfolding stepText
+step-length b h = go (isOff b)
+  where
+    go : (t : Bool) → length (cond t (45 ∷ []) (decimal b)) ≤ 3
+    go true = omega arith
+    go false = decimal-most 2 b (omega arith)
+
+slot-length :
+    (t : ℕ) (row : List ℕ) → t < 1024 → ((k : ℕ) → k < length row → getD row k 0 < 256) → length (slotLine t row) ≤ 11 + length row * 4
+unfolding slotLine
+slot-length t row h byte =
+    let steps = moduleTexts row in
+    omega (
+      arith,
+      length-append (decimal (t + 1)) (58 ∷ (steps ++ newline)),
+      length-append steps newline,
+      decimal-most 3 (t + 1) (omega arith),
+      rows-at-most 4 (length row) (moduleText row) one,
+    )
+  where
+    one : (k : ℕ) → k < length row → length (moduleText row k) ≤ 4
+    one k l = omega (arith, ap length (module-text row k l), step-length (getD row k 0) (byte k l))
+
+sheet-length :
+    (m n : ℕ) (s : List ℕ) → n ≤ 1024 → ((k : ℕ) → getD s k 0 < 256) → length (sheetLines m n s) ≤ n * (11 + m * 4)
+sheet-length m n s few byte = rows-at-most (11 + m * 4) n (sheetLine m s) line
+  where
+    size : (t : ℕ) → length (take m (drop (t * m) s)) ≤ m
+    size t = omega (arith, length-take m (drop (t * m) s))
+
+    inside : (t k : ℕ) → k < length (take m (drop (t * m) s)) → getD (take m (drop (t * m) s)) k 0 < 256
+    inside t k h =
+        let below : k < m = omega (arith, size t) in
+        rw (getD-take m (drop (t * m) s) k 0 below, getD-drop (t * m) s k 0) (byte (t * m + k))
+
+    line : (t : ℕ) → t < n → length (sheetLine m s t) ≤ 11 + m * 4
+    line t h = omega (arith, slot-length t (take m (drop (t * m) s)) (omega arith) (inside t), size t)
+
+-- the area that the public functions ask for has room for what they write
+pub listing-room :
+    {m cost : ℕ} {p s out : List ℕ} → Printable m p s out → cost < 2 ^ 64 → ((k : ℕ) → getD p k 0 < 256) →
+    ((k : ℕ) → getD s k 0 < 256) → Room (listing m cost p s) 0 out
+unfolding listing costLine
+listing-room {m} {cost} {p} {s} {out} a top counts steps =
+    let r = a .rack in
+    let slots = sheetLines m (length p) s in
+    record {
+      room =
+          omega (
+            arith,
+            length-append (costLine cost) (planLine p ++ slots),
+            length-append (planLine p) slots,
+            line-length (99 ∷ 111 ∷ 115 ∷ 116 ∷ 32 ∷ []) cost top,
+            plan-length p counts,
+            sheet-length m (length p) s (r .slots) steps,
+            r .entries,
+            a .area,
+          );
+    }
+
+pub refusal-room : {n : ℕ} {out : List ℕ} → LineRoom out → n < 2 ^ 64 → Room (refusedLine n) 0 out
+unfolding refusedLine
+refusal-room {n} a top =
+    record { room = omega (arith, line-length (114 ∷ 101 ∷ 102 ∷ 117 ∷ 115 ∷ 101 ∷ 100 ∷ 32 ∷ []) n top, a .area) }

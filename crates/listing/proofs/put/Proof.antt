@@ -1,0 +1,22 @@
+use native.Mathlib.Omega.{arith}
+use Rattle.lists.specs.Writing.{written-one}
+use borrow.Author.Needs.{needs}
+use Rattle.listing.proofs.put.Statement.{statement}
+use Rattle.listing.proofs.put.Tie as tie
+use Rattle.listing.proofs.put.Reads as reads
+use Rattle.listing.proofs.put.Lts as lts
+
+slice-write-out : tie.Need-slice-write-out
+slice-write-out c = search needs
+
+add-result : tie.Need-add-result
+add-result c = search needs
+
+same-length : tie.Need-same-length
+same-length c = search needs
+
+returns : tie.Need-returns
+returns c = written-one _ _ _ (omega (arith, c .pre .room))
+
+pub put-spec : {M : Type 1} → statement M
+put-spec = tie.close (tie.spec slice-write-out add-result same-length returns)

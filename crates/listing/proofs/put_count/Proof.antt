@@ -1,0 +1,23 @@
+use Rattle.lists.specs.Writing.{written-more}
+use borrow.Author.Needs.{needs}
+use Rattle.listing.proofs.put_count.Statement.{statement}
+use Rattle.listing.proofs.put_count.Tie as tie
+use Rattle.listing.proofs.put_count.Reads as reads
+use Rattle.listing.proofs.put_count.Lts as lts
+use Rattle.listing.proofs.put.Reads as put-reads
+use Rattle.listing.proofs.put_number.Reads as put-number-reads
+
+put-requires : tie.Need-put-requires
+put-requires c κs = search needs
+
+put-number-requires : tie.Need-put-number-requires
+put-number-requires c κs = search needs
+
+same-length : tie.Need-same-length
+same-length c = search needs
+
+returns : tie.Need-returns
+returns c = written-more (c .before .before .before .before .before .before .put .ensures) (c .before .before .put-number .ensures)
+
+pub put-count-spec : {M : Type 1} → statement M
+put-count-spec = tie.close (tie.spec put-requires put-number-requires same-length returns)

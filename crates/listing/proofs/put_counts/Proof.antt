@@ -1,0 +1,59 @@
+use Prim.Native.Nat.{_-_}
+use native.Mathlib.Omega.{arith}
+use lib.ListN.{length}
+use Rattle.lists.specs.Writing.{RowsWritten, rows-none, rows-room, rows-more, rows-all}
+use Rattle.listing.specs.Texts.{countText}
+use Rattle.listing.proofs.put_counts.Statement.{statement}
+use Rattle.listing.proofs.put_counts.Tie as tie
+use Rattle.listing.proofs.put_counts.Reads as reads
+use Rattle.listing.proofs.put_counts.Lts as lts
+use Rattle.listing.proofs.put_count.Reads as put-count-reads
+
+abbrev Inv-loop : tie.InvT-loop
+Inv-loop out₀ at plan place₀ t₀ out place t = RowsWritten (countText plan) (length plan) at out₀ t out place
+
+abbrev μ-loop : tie.MeasureT-loop
+μ-loop out₀ at plan place₀ t₀ out place t = length plan - t
+
+loop-holds : tie.Need-loop-holds Inv-loop μ-loop
+loop-holds c = rows-none _ _ (c .before .before .pre)
+
+shared-slice-read-put-count : tie.Need-shared-slice-read-put-count Inv-loop μ-loop
+shared-slice-read-put-count c = omega arith
+
+put-count-requires : tie.Need-put-count-requires Inv-loop μ-loop
+put-count-requires c κs =
+    let loop = c .before .before .before in
+    rows-room (loop .before .before .before .pre) (loop .loop .inv) (c .before .before .loop-test .taken)
+
+add-t : tie.Need-add-t Inv-loop μ-loop
+add-t c = omega arith
+
+loop-less : tie.Need-loop-less Inv-loop μ-loop
+loop-less c = omega arith
+
+loop-again : tie.Need-loop-again Inv-loop μ-loop
+loop-again c =
+    let test = c .before .before .before .before .before in
+    rows-more (test .before .loop .inv) (test .loop-test .taken) (c .before .before .put-count .ensures)
+
+same-length : tie.Need-same-length Inv-loop μ-loop
+same-length c = c .before .loop .inv .so-far .size
+
+returns : tie.Need-returns Inv-loop μ-loop
+returns c = rows-all (c .before .loop .inv) (c .loop-test .left)
+
+pub put-counts-spec : {M : Type 1} → statement M
+put-counts-spec =
+    tie.close
+    (tie.spec
+    Inv-loop
+    μ-loop
+    loop-holds
+    shared-slice-read-put-count
+    put-count-requires
+    add-t
+    loop-less
+    loop-again
+    same-length
+    returns)

@@ -1,0 +1,61 @@
+use native.Mathlib.Omega.{arith}
+use Rattle.lists.specs.Writing.{room-less, room-first, room-rest, written-more}
+use Rattle.model.specs.Listing.{newline, slotLine}
+use borrow.Author.Needs.{needs}
+use Rattle.listing.proofs.put_slot.Statement.{statement}
+use Rattle.listing.proofs.put_slot.Tie as tie
+use Rattle.listing.proofs.put_slot.Reads as reads
+use Rattle.listing.proofs.put_slot.Lts as lts
+use Rattle.listing.proofs.put.Reads as put-reads
+use Rattle.listing.proofs.put_slot_number.Reads as put-slot-number-reads
+use Rattle.listing.proofs.put_steps.Reads as put-steps-reads
+
+put-slot-number-requires : tie.Need-put-slot-number-requires
+unfolding slotLine
+put-slot-number-requires c κs = let start = c .before .before .before in (start .pre .0, room-first _ (start .pre .1))
+
+put-requires : tie.Need-put-requires
+unfolding slotLine
+put-requires c κs =
+    let number = c .before .before .before in
+    room-first _ (room-rest (number .before .before .before .before .pre .1) (number .put-slot-number .ensures))
+
+put-steps-requires : tie.Need-put-steps-requires
+unfolding slotLine
+put-steps-requires c κs =
+    let colon = c .before .before .before in
+    let number = colon .before .before .before .before in
+    room-first _ (room-rest (room-rest (number .before .before .before .before .pre .1) (number .put-slot-number .ensures)) (colon .put .ensures))
+
+put-requires-2 : tie.Need-put-requires-2
+unfolding slotLine
+put-requires-2 c κs =
+    let steps = c .before .before .before in
+    let colon = steps .before .before .before .before in
+    let number = colon .before .before .before .before in
+    let rest = room-rest (room-rest (number .before .before .before .before .pre .1) (number .put-slot-number .ensures)) (colon .put .ensures) in
+    room-less (omega arith) (room-rest {b = newline} rest (steps .put-steps .ensures))
+
+same-length : tie.Need-same-length
+same-length c = search needs
+
+returns : tie.Need-returns
+unfolding slotLine
+returns c =
+    let end = c .before .before in
+    let steps = end .before .before .before .before in
+    let colon = steps .before .before .before .before in
+    let number = colon .before .before .before .before in
+    written-more (number .put-slot-number .ensures)
+    (written-more (colon .put .ensures) (written-more (steps .put-steps .ensures) (end .put2 .ensures)))
+
+pub put-slot-spec : {M : Type 1} → statement M
+put-slot-spec =
+    tie.close
+    (tie.spec
+    put-slot-number-requires
+    put-requires
+    put-steps-requires
+    put-requires-2
+    same-length
+    returns)

@@ -1,0 +1,62 @@
+use Prim.Native.Nat.{_-_}
+use native.Mathlib.Omega.{arith}
+use lib.ListN.{length}
+use Rattle.lists.specs.Writing.{RowsWritten, rows-none, rows-room, rows-more, rows-all}
+use Rattle.listing.specs.Texts.{moduleText}
+use Rattle.listing.proofs.Steps.{module-text}
+use Rattle.listing.proofs.put_steps.Statement.{statement}
+use Rattle.listing.proofs.put_steps.Tie as tie
+use Rattle.listing.proofs.put_steps.Reads as reads
+use Rattle.listing.proofs.put_steps.Lts as lts
+use Rattle.listing.proofs.put_step.Reads as put-step-reads
+
+abbrev Inv-loop : tie.InvT-loop
+Inv-loop out₀ at row place₀ k₀ out place k = RowsWritten (moduleText row) (length row) at out₀ k out place
+
+abbrev μ-loop : tie.MeasureT-loop
+μ-loop out₀ at row place₀ k₀ out place k = length row - k
+
+loop-holds : tie.Need-loop-holds Inv-loop μ-loop
+loop-holds c = rows-none _ _ (c .before .before .pre)
+
+shared-slice-read-put-step : tie.Need-shared-slice-read-put-step Inv-loop μ-loop
+shared-slice-read-put-step c = omega arith
+
+put-step-requires : tie.Need-put-step-requires Inv-loop μ-loop
+put-step-requires c κs =
+    let loop = c .before .before .before in
+    let below = c .before .before .loop-test .taken in
+    rw (module-text _ _ below) at (rows-room (loop .before .before .before .pre) (loop .loop .inv) below)
+
+add-k : tie.Need-add-k Inv-loop μ-loop
+add-k c = omega arith
+
+loop-less : tie.Need-loop-less Inv-loop μ-loop
+loop-less c = omega arith
+
+loop-again : tie.Need-loop-again Inv-loop μ-loop
+loop-again c =
+    let test = c .before .before .before .before .before in
+    let below = test .loop-test .taken in
+    rows-more (test .before .loop .inv) below (rw (module-text _ _ below) (c .before .before .put-step .ensures))
+
+same-length : tie.Need-same-length Inv-loop μ-loop
+same-length c = c .before .loop .inv .so-far .size
+
+returns : tie.Need-returns Inv-loop μ-loop
+returns c = rows-all (c .before .loop .inv) (c .loop-test .left)
+
+pub put-steps-spec : {M : Type 1} → statement M
+put-steps-spec =
+    tie.close
+    (tie.spec
+    Inv-loop
+    μ-loop
+    loop-holds
+    shared-slice-read-put-step
+    put-step-requires
+    add-k
+    loop-less
+    loop-again
+    same-length
+    returns)

@@ -1,0 +1,58 @@
+use Prim.Native.Nat.{_-_}
+use native.Mathlib.Omega.{arith}
+use lib.ListN.{length}
+use Rattle.lists.specs.Writing.{RowsWritten, elementText, whole-room, whole-written, rows-none, rows-room, rows-more, rows-all}
+use Rattle.listing.proofs.put_word.Statement.{statement}
+use Rattle.listing.proofs.put_word.Tie as tie
+use Rattle.listing.proofs.put_word.Reads as reads
+use Rattle.listing.proofs.put_word.Lts as lts
+use Rattle.listing.proofs.put.Reads as put-reads
+
+abbrev Inv-loop : tie.InvT-loop
+Inv-loop out₀ at word place₀ k₀ out place k = RowsWritten (elementText word) (length word) at out₀ k out place
+
+abbrev μ-loop : tie.MeasureT-loop
+μ-loop out₀ at word place₀ k₀ out place k = length word - k
+
+loop-holds : tie.Need-loop-holds Inv-loop μ-loop
+loop-holds c = rows-none _ _ (whole-room _ (c .before .before .pre))
+
+shared-slice-read-put : tie.Need-shared-slice-read-put Inv-loop μ-loop
+shared-slice-read-put c = omega arith
+
+put-requires : tie.Need-put-requires Inv-loop μ-loop
+put-requires c κs =
+    let loop = c .before .before .before in
+    rows-room (whole-room _ (loop .before .before .before .pre)) (loop .loop .inv) (c .before .before .loop-test .taken)
+
+add-k : tie.Need-add-k Inv-loop μ-loop
+add-k c = omega arith
+
+loop-less : tie.Need-loop-less Inv-loop μ-loop
+loop-less c = omega arith
+
+loop-again : tie.Need-loop-again Inv-loop μ-loop
+loop-again c =
+    let test = c .before .before .before .before .before in
+    rows-more (test .before .loop .inv) (test .loop-test .taken) (c .before .before .put .ensures)
+
+same-length : tie.Need-same-length Inv-loop μ-loop
+same-length c = c .before .loop .inv .so-far .size
+
+returns : tie.Need-returns Inv-loop μ-loop
+returns c = whole-written _ (rows-all (c .before .loop .inv) (c .loop-test .left))
+
+pub put-word-spec : {M : Type 1} → statement M
+put-word-spec =
+    tie.close
+    (tie.spec
+    Inv-loop
+    μ-loop
+    loop-holds
+    shared-slice-read-put
+    put-requires
+    add-k
+    loop-less
+    loop-again
+    same-length
+    returns)

@@ -1,0 +1,63 @@
+use Rattle.lists.specs.Writing.{Room, room-first, room-rest, written-more, written-start}
+use Rattle.model.specs.Listing.{costLine, listing}
+use Rattle.listing.proofs.Lengths.{listing-room}
+use borrow.Author.Needs.{needs}
+use Rattle.listing.proofs.write_listing.Statement.{statement}
+use Rattle.listing.proofs.write_listing.Tie as tie
+use Rattle.listing.proofs.write_listing.Reads as reads
+use Rattle.listing.proofs.write_listing.Lts as lts
+use Rattle.listing.proofs.put_line.Reads as put-line-reads
+use Rattle.listing.proofs.put_plan.Reads as put-plan-reads
+use Rattle.listing.proofs.put_sheet.Reads as put-sheet-reads
+
+-- the area has room for the whole listing
+whole : (c : tie.After-shared-slice-known2) →
+    let a = c .before .before .before .args in
+    Room (listing (a .modules) (a .cost) (a .plan .now) (a .sheet .now)) 0 (a .out .now)
+whole c =
+    let start = c .before .before .before in
+    listing-room (start .pre) (start .fits .cost .fits) (λ k. c .before .shared-slice-known .given k .fits)
+    (λ k. c .shared-slice-known2 .given k .fits)
+
+slice-aggregate-put-line : tie.Need-slice-aggregate-put-line
+slice-aggregate-put-line c = search needs
+
+put-line-requires : tie.Need-put-line-requires
+unfolding listing costLine
+put-line-requires c κs = room-first _ (whole (c .before .before))
+
+put-plan-requires : tie.Need-put-plan-requires
+unfolding listing costLine
+put-plan-requires c κs =
+    let costs = c .before .before .before in
+    room-first _ (room-rest (whole (costs .before .before .before)) (costs .put-line .ensures))
+
+put-sheet-requires : tie.Need-put-sheet-requires
+unfolding listing costLine
+put-sheet-requires c κs =
+    let counts = c .before .before .before in
+    let costs = counts .before .before .before .before in
+    let start = costs .before .before .before in
+    (start .before .before .before .pre .rack, room-rest (room-rest (whole start) (costs .put-line .ensures)) (counts .put-plan .ensures))
+
+same-length : tie.Need-same-length
+same-length c = search needs
+
+returns : tie.Need-returns
+unfolding listing costLine
+returns c =
+    let slots = c .before .before in
+    let counts = slots .before .before .before .before in
+    let costs = counts .before .before .before .before in
+    written-start (written-more (costs .put-line .ensures) (written-more (counts .put-plan .ensures) (slots .put-sheet .ensures)))
+
+pub write-listing-spec : {M : Type 1} → statement M
+write-listing-spec =
+    tie.close
+    (tie.spec
+    slice-aggregate-put-line
+    put-line-requires
+    put-plan-requires
+    put-sheet-requires
+    same-length
+    returns)

@@ -1,0 +1,142 @@
+-- Texts written one after the other into a list of bytes.
+use Prim.Native.Nat.{ℕ, zero, suc, _+_, _*_, _≤_, _<_}
+use mathlib.Core.Path.{_≡_, refl, sym, _∙_, ap}
+use mathlib.Core.List.{List, [], _∷_, _++_, append-assoc, append-nil}
+use mathlib.Core.Logic.{⊎-elim}
+use native.Mathlib.Nat.{le-refl, add-zero, zero-add}
+use native.Mathlib.Numerals.{add-one}
+use native.Mathlib.Omega.{arith}
+use lib.ListN.{length, getD, set, take, drop, length-append, length-set, length-drop, take-append-drop, List·getD-eq-default}
+use lib.Seq.{set-split, take-at, drop-drop, drop-append-add, length-take-le, take-suc, take-length}
+use Rattle.lists.specs.Numbers.{le-or-lt}
+use Rattle.lists.specs.Lists.{rows}
+
+-- the text fits into the list from place p on
+pub record Room (text : List ℕ) (p : ℕ) (l : List ℕ) : Type 0 where
+  pub room : p + length text ≤ length l
+
+-- from place p on the new list holds the text, everywhere else it is as it was; next is the place after the text
+pub record Written (text : List ℕ) (p : ℕ) (old new : List ℕ) (next : ℕ) : Type 0 where
+  pub fits : p + length text ≤ length old
+  pub size : length new ≡ length old
+  pub place : next ≡ p + length text
+  pub bytes : new ≡ take p old ++ (text ++ drop (p + length text) old)
+
+pub written-none : (p : ℕ) (l : List ℕ) → p ≤ length l → Written [] p l l p
+written-none p l h =
+    record { fits = omega arith; size = refl; place = omega arith; bytes = rw (add-zero p) (sym (take-append-drop p l)) }
+
+pub written-one : (x p : ℕ) (l : List ℕ) → p < length l → Written (x ∷ []) p l (set l p x) (p + 1)
+written-one x p l h =
+    record { fits = omega arith; size = length-set l p x; place = refl; bytes = rw add-one (set-split l p x h) }
+
+-- one text and then another
+pub written-more :
+    {a b : List ℕ} {p q r : ℕ} {old mid new : List ℕ} → Written a p old mid q → Written b q mid new r → Written (a ++ b) p old new r
+written-more {a} {b} {p} {q} {r} {old} {mid} {new} v w =
+    let long = length-append a b in
+    let fits : p + length (a ++ b) ≤ length old = omega (arith, v .fits, v .size, v .place, w .fits) in
+    record {
+      fits = fits;
+      size = w .size ∙ v .size;
+      place = omega (arith, v .place, w .place);
+      bytes = w .bytes ∙ joined;
+    }
+  where
+    front : List ℕ
+    front = take p old ++ a
+
+    long-front : length front ≡ q
+    long-front =
+        omega (arith, length-append (take p old) a, length-take-le p old (omega (arith, v .fits)), v .place)
+
+    cut : mid ≡ front ++ drop (p + length a) old
+    cut = v .bytes ∙ sym (append-assoc (take p old) a (drop (p + length a) old))
+
+    rest : drop (q + length b) mid ≡ drop (p + length (a ++ b)) old
+    rest =
+        let there : q + length b ≡ length front + length b = omega (arith, long-front) in
+        let sums : p + length (a ++ b) ≡ p + length a + length b = omega (arith, length-append a b) in
+        rw (there, cut, drop-append-add front (drop (p + length a) old) (length b), sums) (drop-drop (length b) (p + length a) old)
+
+    joined : take q mid ++ (b ++ drop (q + length b) mid) ≡ take p old ++ ((a ++ b) ++ drop (p + length (a ++ b)) old)
+    joined =
+        rw (rest, cut, take-at front (drop (p + length a) old) q long-front)
+        (simp append-assoc)
+
+-- from the first place on
+pub written-start : {text old new : List ℕ} {r : ℕ} → Written text 0 old new r → (r ≡ length text) × (new ≡ text ++ drop (length text) old)
+written-start {text} {old} w = (omega (arith, w .place), rw (zero-add (length text)) at (w .bytes))
+
+pub room-less : {a b : List ℕ} {p : ℕ} {l : List ℕ} → length b ≤ length a → Room a p l → Room b p l
+room-less h r = record { room = omega (arith, r .room) }
+
+-- room for two texts is room for the first, and then for the second
+pub room-first : {a : List ℕ} (b : List ℕ) {p : ℕ} {l : List ℕ} → Room (a ++ b) p l → Room a p l
+room-first {a} b h = record { room = omega (arith, h .room, length-append a b) }
+
+pub room-rest : {a b : List ℕ} {p q : ℕ} {old new : List ℕ} → Room (a ++ b) p old → Written a p old new q → Room b q new
+room-rest {a} {b} h w = record { room = omega (arith, h .room, length-append a b, w .size, w .place) }
+
+-- the lengths of rows
+pub rows-rise : (f : ℕ → List ℕ) (j n : ℕ) → j ≤ n → length (rows j f) ≤ length (rows n f)
+unfolding rows
+rows-rise f j zero h = let none : j ≡ 0 = omega arith in rw none (le-refl 0)
+rows-rise f j (suc n) h =
+    ⊎-elim
+    (λ (same : suc n ≤ j). let e : j ≡ suc n = omega arith in rw e (le-refl (length (rows (suc n) f))))
+    (λ (less : j < suc n). omega (arith, rows-rise f j n (omega arith), length-append (rows n f) (f n)))
+    (le-or-lt (suc n) j)
+
+pub rows-at-most : (b n : ℕ) (f : ℕ → List ℕ) → ((k : ℕ) → k < n → length (f k) ≤ b) → length (rows n f) ≤ n * b
+unfolding rows
+rows-at-most b zero f h = omega arith
+rows-at-most b (suc n) f h =
+    omega (arith, length-append (rows n f) (f n), rows-at-most b n f (λ k l. h k (omega arith)), h n (omega arith))
+
+-- element k of a list, as a text
+abbrev pub elementText : List ℕ → ℕ → List ℕ
+elementText l k = getD l k 0 ∷ []
+
+pub rows-of-elements : (l : List ℕ) → rows (length l) (elementText l) ≡ l
+unfolding rows
+rows-of-elements l = first (length l) (le-refl (length l)) ∙ take-length l
+  where
+    first : (n : ℕ) → n ≤ length l → rows n (elementText l) ≡ take n l
+    first zero h = refl
+    first (suc n) h = rw (first n (omega arith)) (sym (take-suc l n 0 h))
+
+-- A loop that writes f 0, f 1, .. from place p on: k of n are written.
+pub record RowsWritten (f : ℕ → List ℕ) (n p : ℕ) (old : List ℕ) (k : ℕ) (new : List ℕ) (next : ℕ) : Type 0 where
+  pub within : k ≤ n
+  pub so-far : Written (rows k f) p old new next
+
+pub rows-none : (f : ℕ → List ℕ) (n : ℕ) {p : ℕ} {l : List ℕ} → Room (rows n f) p l → RowsWritten f n p l 0 l p
+unfolding rows
+rows-none f n {p} {l} h = record { within = omega arith; so-far = written-none p l (omega (arith, h .room)) }
+
+pub rows-room :
+    {f : ℕ → List ℕ} {n p k next : ℕ} {old new : List ℕ} → Room (rows n f) p old → RowsWritten f n p old k new next → k < n →
+    Room (f k) next new
+unfolding rows
+rows-room {f} {n} {k = k} h w below =
+    let s = w .so-far in
+    record { room = omega (arith, h .room, rows-rise f (suc k) n below, length-append (rows k f) (f k), s .size, s .place) }
+
+pub rows-more :
+    {f : ℕ → List ℕ} {n p k next after : ℕ} {old new newer : List ℕ} → RowsWritten f n p old k new next → k < n →
+    Written (f k) next new newer after → RowsWritten f n p old (k + 1) newer after
+unfolding rows
+rows-more {f} {k = k} w below v = record { within = omega arith; so-far = rw (add-one k) (written-more (w .so-far) v) }
+
+pub rows-all :
+    {f : ℕ → List ℕ} {n p k next : ℕ} {old new : List ℕ} → RowsWritten f n p old k new next → n ≤ k → Written (rows n f) p old new next
+rows-all {n = n} {k = k} w past = let same : n ≡ k = omega (arith, w .within) in rw same (w .so-far)
+
+-- the loop that writes a list element by element
+pub whole-room : (l : List ℕ) {p : ℕ} {old : List ℕ} → Room l p old → Room (rows (length l) (elementText l)) p old
+whole-room l h = rw (rows-of-elements l) h
+
+pub whole-written :
+    (l : List ℕ) {p next : ℕ} {old new : List ℕ} → Written (rows (length l) (elementText l)) p old new next → Written l p old new next
+whole-written l w = rw (rows-of-elements l) at w
