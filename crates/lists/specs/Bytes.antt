@@ -1,11 +1,6 @@
 -- Little-endian numbers over the width: the definition, and one law for every width.
-<<<<<<< HEAD
-use Prim.Native.Nat.{ℕ, zero, suc, _+_, _*_, _^_, _<_}
-use mathlib.Core.Path.{_≡_}
-=======
 use Prim.Native.Nat.{ℕ, zero, suc, _+_, _*_, _^_, _≤_, _<_}
 use mathlib.Core.Path.{_≡_, refl, sym, _∙_, ap}
->>>>>>> e5d527f6d95cea98d8530805a2b19bb9a07b2db8
 use mathlib.Core.List.{List}
 use native.Mathlib.Nat.{zero-add, one-mul, suc-add, pow-zero, pow-suc, add-zero}
 use native.Mathlib.Omega.{arith}

@@ -39,7 +39,7 @@ add-cost : tie.Need-add-cost Inv-loop μ-loop
 add-cost c =
     let p = c .before .before .before .before .before .before .before .before .pre .0 in
     let room =
-        summed-room (c .before .before .before .before .loop .inv) (c .before .before .before .loop-test .taken) (c .byte-cost .ensures) (bytes-each p (byteAt (c .before .before .before .before .before .before .before .before .args .earlier .now))) in
+    summed-room (c .before .before .before .before .loop .inv) (c .before .before .before .loop-test .taken) (c .byte-cost .ensures) (bytes-each p (byteAt (c .before .before .before .before .before .before .before .before .args .earlier .now))) in
     record { fits = omega (arith, room, p .few) }
 
 -- src/lib.rt:236:9
