@@ -3,10 +3,11 @@ use Prim.Native.Nat.{ℕ, _*_, _≤_, _<_}
 use mathlib.Core.Path.{_≡_}
 use mathlib.Core.List.{List}
 use mathlib.Core.Logic.{⊎-elim}
+use native.Mathlib.Nat.{le-of-lt, le-refl}
 use native.Mathlib.Omega.{arith}
 use lib.ListN.{length, List·getD-eq-default}
 use Rattle.lists.specs.Numbers.{le-or-lt}
-use Rattle.lists.specs.Kept.{neighbours-rise}
+use Rattle.lists.specs.Rising.{rises-to}
 use Rattle.model.specs.declared.Answer.the-variants.{Cost}
 use Rattle.model.specs.Instance.{instanceOf}
 use Rattle.model.specs.Calls.{checkCard, answer}
@@ -22,7 +23,7 @@ counts-fit {counts} a j =
     ⊎-elim
     (λ (h : length counts ≤ j). omega (arith, List·getD-eq-default counts 0 h))
     (λ (h : j < length counts).
-    omega (arith, a .last, neighbours-rise counts (a .rises) j (lastPlace counts) (omega arith) (omega arith)))
+    omega (arith, a .last, rises-to (countAtPlace counts) (lastPlace counts) (λ k g. le-of-lt (a .rises k (omega arith))) j (lastPlace counts) (omega arith) (le-refl _)))
     (le-or-lt (length counts) j)
 
 -- on an accepted card

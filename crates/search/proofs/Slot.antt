@@ -12,7 +12,8 @@ use Rattle.laws.specs.Acceptance.{up-range, down-range}
 use Rattle.columns.specs.Column.{Choice, lastPlace, downward, upward}
 use Rattle.search.specs.Written.{costIn, choiceIn, Holds, rising}
 use Rattle.search.specs.Asked.{Choices, PricedSlot, mostCost}
-use Rattle.search.proofs.Bounds.{cost-bound, table-at-most}
+use Rattle.counts.proofs.Division.{running-most}
+use Rattle.search.proofs.Bounds.{table-at-most}
 use Rattle.search.proofs.Allowed.{counts-small, full-served}
 use Rattle.search.proofs.Columns.{downward-bound}
 use Rattle.search.proofs.Upward.{rising-upward}
@@ -27,7 +28,7 @@ module _
     pub passes-meet : Choices price counts column₁ places₁
     passes-meet =
         let q = p .slot in
-        let cost = cost-bound (full-served s (q .accepted) (q .allowed) (q .load-fits)) in
+        let cost = running-most (full-served s (q .accepted) (q .allowed) (q .load-fits)) in
         let before = q .small .each (lastPlace counts) in
         let on = up-range s (q .accepted) in
         let off = down-range s (q .accepted) in

@@ -19,7 +19,8 @@ use Rattle.card.proofs.Room.{load-within}
 use Rattle.columns.specs.Column.{countAtPlace, lastPlace, upward, column, selection}
 use Rattle.search.specs.Written.{costIn, Holds, priceList, columnList, lastColumn, selectionRow, selectionRows, selectionsIn}
 use Rattle.search.specs.Asked.{AtMost, Priced, PricedSlot, SlotsAhead, mostCost}
-use Rattle.search.proofs.Bounds.{cost-bound, table-at-most}
+use Rattle.counts.proofs.Division.{running-most}
+use Rattle.search.proofs.Bounds.{table-at-most}
 use Rattle.search.proofs.Allowed.{counts-fit, counts-small, full-served}
 use Rattle.search.proofs.Columns.{upward-same, column-bound}
 
@@ -128,7 +129,7 @@ module _ {s : List ℕ} {h : Header} {counts costs₀ work₀ : List ℕ} (p : S
       full :
           (t : ℕ) → t < instanceOf s .slots →
           operatingCost (instanceOf s) (countAtPlace counts (lastPlace counts)) (instanceOf s .load t) ≤ 200000000
-      full t g = cost-bound (full-served s (p .ready .accepted) (p .allowed) (load-range s (p .ready .accepted) t g))
+      full t g = running-most (full-served s (p .ready .accepted) (p .allowed) (load-range s (p .ready .accepted) t g))
 
   module _ {costs work : List ℕ} {t : ℕ} (f : SlotLoop (instanceOf s) counts work₀ costs work t) where
     pub work-long : length work ≡ length work₀

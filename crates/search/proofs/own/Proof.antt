@@ -1,5 +1,5 @@
 use native.Mathlib.Omega.{arith}
-use Rattle.search.proofs.Bounds.{cost-bound}
+use Rattle.counts.proofs.Division.{running-most}
 use Rattle.search.proofs.Candidates.{served-at}
 use borrow.Author.Needs.{needs}
 use Rattle.search.proofs.own.Statement.{statement}
@@ -12,7 +12,7 @@ operating-cost-requires : tie.Need-operating-cost-requires
 operating-cost-requires c κs = search needs
 
 add-cost : tie.Need-add-cost
-add-cost c = omega (arith, c .before .before .pre .1, c .operating-cost .ensures, cost-bound (c .before .before .pre .0))
+add-cost c = omega (arith, c .before .before .pre .1, c .operating-cost .ensures, running-most (c .before .before .pre .0))
 
 returns : tie.Need-returns
 returns c = served-at _ _ _ _ _ (c .operating-cost .ensures)

@@ -1,6 +1,7 @@
 use native.Mathlib.Omega.{arith}
 use Rattle.laws.specs.Acceptance.{up-range, down-range}
-use Rattle.sheets.proofs.Slots.{running-most, switching-most, slot-kept, slot-raised}
+use Rattle.counts.proofs.Division.{running-most}
+use Rattle.sheets.proofs.Slots.{switching-most, slot-kept, slot-raised}
 use borrow.Author.Needs.{needs}
 use Rattle.sheets.proofs.slot_cost.Statement.{statement}
 use Rattle.sheets.proofs.slot_cost.Tie as tie
@@ -39,7 +40,7 @@ add-result c =
     record {
       fits =
           omega
-          (arith, c .before .before .operating-cost .ensures, running-most _ _ _ (p .served), switching-most (p .served) (c .before .before .before .before .args .prev) (p .ready .header .up-is) (p .ready .header .down-is));
+          (arith, c .before .before .operating-cost .ensures, running-most (p .served), switching-most (p .served) (c .before .before .before .before .args .prev) (p .ready .header .up-is) (p .ready .header .down-is));
     }
 
 -- src/lib.rt:38:1
