@@ -1,0 +1,52 @@
+use borrow.Author.Needs.{needs}
+use Rattle.planners.proofs.coarse_over.Statement.{statement}
+use Rattle.planners.proofs.coarse_over.Tie as tie
+use Rattle.planners.proofs.coarse_over.Reads as reads
+use Rattle.planners.proofs.coarse_over.Lts as lts
+use Rattle.counts.proofs.fill_coarse.Reads as fill-coarse-reads
+use Rattle.planners.proofs.plan_over.Reads as plan-over-reads
+
+-- src/lib.rt:55:9
+fill-coarse-requires : tie.Need-fill-coarse-requires
+fill-coarse-requires c κs = ?
+
+-- src/lib.rt:56:24
+slice-reshare-prefix-plan-over : tie.Need-slice-reshare-prefix-plan-over
+slice-reshare-prefix-plan-over c = ?
+
+-- src/lib.rt:56:24
+slice-aggregate-plan-over : tie.Need-slice-aggregate-plan-over
+slice-aggregate-plan-over c = ?
+
+-- src/lib.rt:56:5
+plan-over-requires : tie.Need-plan-over-requires
+plan-over-requires c κs = ?
+
+-- src/lib.rt:48:1
+same-length : tie.Need-same-length
+same-length c = search needs
+
+-- src/lib.rt:48:1
+same-length-2 : tie.Need-same-length-2
+same-length-2 c = search needs
+
+-- src/lib.rt:48:1
+same-length-3 : tie.Need-same-length-3
+same-length-3 c = search needs
+
+-- src/lib.rt:48:1
+returns : tie.Need-returns
+returns c = ?
+
+pub coarse-over-spec : {M : Type 1} → statement M
+coarse-over-spec =
+    tie.close
+    (tie.spec
+    fill-coarse-requires
+    slice-reshare-prefix-plan-over
+    slice-aggregate-plan-over
+    plan-over-requires
+    same-length
+    same-length-2
+    same-length-3
+    returns)
