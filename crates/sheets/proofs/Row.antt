@@ -18,7 +18,8 @@ unfolding moduleByte
 byte-off n l k h = rw (le-ltb k n h)
 
 -- no module active
-pub row-off : (n l : ℕ) (row : List ℕ) {new : List ℕ} → n ≡ 0 → new ≡ replicate (length row) 255 → new ≡ tabulate (length row) (moduleByte n l)
+pub row-off :
+    (n l : ℕ) (row : List ℕ) {new : List ℕ} → n ≡ 0 → new ≡ replicate (length row) 255 → new ≡ tabulate (length row) (moduleByte n l)
 row-off n l row e filled = filled ∙ sym (tabulate-same (length row) (λ k h. byte-off n l k (omega arith)))
 
 module _ (n l : ℕ) (some : n ≡ 0 → ⊥) where
@@ -44,6 +45,6 @@ module _ (n l : ℕ) (some : n ≡ 0 → ⊥) where
       let r = rest-below n l some in
       let first : Upto (moduleByte n l) (l % n) row (next ++ drop (l % n) row) = upto-front (omega arith) e byte-next in
       let active : Upto (moduleByte n l) n row (putMid (l % n) (n - l % n) (next ++ drop (l % n) row) step) =
-          upto-part first (omega arith) h f byte-step in
+      upto-part first (omega arith) h f byte-step in
       upto-all (upto-part active (omega (arith, active .size)) (omega (arith, active .size)) g (λ k i j. byte-off n l k i))
       (omega (arith, active .size))
