@@ -28,9 +28,10 @@ fn fill_slot(row: &mut [u8], n: u64, l: u64)
         return;
     }
     let active = n as usize;
-    let step = (l / n) as u8;
     let rest = (l % n) as usize;
-    buffers::fill(&mut row[..rest], step + 1);
+    let step = (l / n) as u8;
+    let next = step + 1;
+    buffers::fill(&mut row[..rest], next);
     buffers::fill(&mut row[rest..active], step);
     buffers::fill(&mut row[active..], 255);
 }

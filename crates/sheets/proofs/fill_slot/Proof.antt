@@ -24,6 +24,10 @@ returns c =
     let a = c .before .before .before .before .before .before .args in
     row-off _ (a .l) (a .row .now) (c .before .before .before .before .if1 .taken) (c .before .before .fill .ensures)
 
+-- src/lib.rt:20:17
+rem-rest : tie.Need-rem-rest
+rem-rest c = search needs
+
 -- src/lib.rt:19:17
 div-step : tie.Need-div-step
 div-step c = search needs
@@ -35,9 +39,12 @@ cast-step c =
     let some = c .if1 .left in
     record { fits = omega (arith, step-within (s .args .n) (s .args .l) some 200 (s .pre .serves)) }
 
--- src/lib.rt:20:17
-rem-rest : tie.Need-rem-rest
-rem-rest c = search needs
+-- src/lib.rt:32:16
+add-next : tie.Need-add-next
+add-next c =
+    let s = c .before .before in
+    let some = c .if1 .left in
+    record { fits = omega (arith, step-within (s .args .n) (s .args .l) some 200 (s .pre .serves)) }
 
 -- src/lib.rt:21:19
 slice-relend-prefix-fill : tie.Need-slice-relend-prefix-fill
@@ -52,13 +59,6 @@ slice-aggregate-fill c =
     let s = c .before .before .before in
     let some = c .before .if1 .left in
     sym (length-take-le _ _ (omega (arith, rest-below (s .args .n) (s .args .l) some, s .pre .in-row)))
-
--- src/lib.rt:21:37
-add-fill : tie.Need-add-fill
-add-fill c =
-    let s = c .before .before .before in
-    let some = c .before .if1 .left in
-    record { fits = omega (arith, step-within (s .args .n) (s .args .l) some 200 (s .pre .serves)) }
 
 -- src/lib.rt:21:5
 fill-requires-2 : tie.Need-fill-requires-2
@@ -122,12 +122,12 @@ fill-slot-spec =
     fill-requires
     same-length
     returns
+    rem-rest
     div-step
     cast-step
-    rem-rest
+    add-next
     slice-relend-prefix-fill
     slice-aggregate-fill
-    add-fill
     fill-requires-2
     sub-fill
     part-fill-start

@@ -69,7 +69,7 @@ returns c =
     let p = c .before .before .before .before .before .before .before .before .pre in
     let m = p .ready .header .modules-is in
     let below = in-header (p .ready) (c .before .before .before .before .loop-test .taken) in
-    let test = light-failed _ _ (p .size) m below (c .before .before .slot-light .ensures) (c .before .load .ensures .is) (c .if1 .taken) in
+    let test = light-failed _ _ (p .size) m below (c .before .before .slot-light .ensures) (c .before .load .ensures .is) (λ e. omega (arith, c .if1 .taken)) in
     passed-not (c .before .before .before .before .before .loop .inv) below test
 
 -- src/lib.rt:184:9
