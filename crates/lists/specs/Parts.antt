@@ -47,8 +47,8 @@ module _ (a e : ℕ) (l new : List ℕ) (order : a ≤ e) (within : e ≤ length
 
 -- filling the part from a to e, where f is the same all over it
 pub upto-part :
-    {f : ℕ → ℕ} {a e x : ℕ} {old l new : List ℕ} → Upto f a old l → a ≤ e → e ≤ length old → new ≡ replicate (length (midOf a (e - a) l)) x →
-    ((k : ℕ) → a ≤ k → k < e → f k ≡ x) → Upto f e old (putMid a (e - a) l new)
+    {f : ℕ → ℕ} {a e x : ℕ} {old l new : List ℕ} → Upto f a old l → a ≤ e → e ≤ length old →
+    new ≡ replicate (length (midOf a (e - a) l)) x → ((k : ℕ) → a ≤ k → k < e → f k ≡ x) → Upto f e old (putMid a (e - a) l new)
 upto-part {f} {a} {e} {x} {old} {l} {new} u order within filled same =
     record {
       size = same-len-mid a (e - a) l new (ap length filled ∙ length-replicate _ x) ∙ u .size;
@@ -103,4 +103,5 @@ module _ (m n : ℕ) (f : ℕ → List ℕ) (even : (t : ℕ) → length (f t) �
       let count : length (rows n f) ≡ n * m = length-rows m n f even in
       let next : (n + 1) * m ≡ n * m + m = omega arith in
       let behind : drop (n * m + m) (rows n f ++ drop (n * m) old) ≡ drop (n * m + m) old = rw (← count, drop-append-add, drop-drop) in
-      rw (e, take-at (rows n f) (drop (n * m) old) (n * m) count, post-is (n * m) (n * m + m) _ (omega arith), behind, next, add-one n, append-assoc)
+      let front = take-at (rows n f) (drop (n * m) old) (n * m) count in
+      rw (e, front, post-is (n * m) (n * m + m) _ (omega arith), behind, next, add-one n, append-assoc)

@@ -48,7 +48,8 @@ pub entry-read :
     (top : ℕ) (sheet : List ℕ) {x : ℕ} {t : Bool} → x < length sheet → isEntry top (getD sheet x 0) ≡ t → isEntry top (getD sheet x off) ≡ t
 entry-read top sheet {x} h e = rw (getD-within sheet x off 0 h) e
 
-pub byte-ready : {s : List ℕ} {h : Header} {bytes : List ℕ} (x : ℕ) → BytesReady s h bytes → x < length bytes → ByteReady s h (getD bytes x 0)
+pub byte-ready :
+    {s : List ℕ} {h : Header} {bytes : List ℕ} (x : ℕ) → BytesReady s h bytes → x < length bytes → ByteReady s h (getD bytes x 0)
 byte-ready x given below = record { ready = given .ready; in-range = given .in-range x below }
 
 -- m × T is at most 200 × 1,024
@@ -95,11 +96,11 @@ at-most b {x} {y} h = go (isOff b)
 pub byte-small : {b x : ℕ} → Fits w8 b → x ≡ b → x ≤ 255
 byte-small f e = omega arith
 
-pub step-bound : {b : ℕ} → Fits w8 b → stepOf b ≤ 255
-step-bound {b} f = at-most b (omega arith)
+pub step-each : (row : List ℕ) → ((j : ℕ) → Fits w8 (getD row j 0)) → (k : ℕ) → k < length row → stepOf (getD row k 0) ≤ 255
+step-each row bytes k h = let b = bytes k in at-most (getD row k 0) (omega arith)
 
-pub stop-bound : (row : List ℕ) (k : ℕ) {down most : ℕ} → down ≤ most → stopCost down (getD row k 0) ≤ most
-stop-bound row k h = at-most (getD row k 0) h
+pub stop-each : (row : List ℕ) {down most : ℕ} → down ≤ most → (k : ℕ) → k < length row → stopCost down (getD row k 0) ≤ most
+stop-each row below k h = at-most (getD row k 0) below
 
 -- A byte costs at most 501,000,000.
 module _ (s : List ℕ) (h : Header) (prev b : ℕ) (given : ByteReady s h b) where

@@ -46,7 +46,8 @@ row-there {s} given below room = rw (given .header .modules-is) (row-within (ins
 pub row-small : {s : List ℕ} {h : Header} {t : ℕ} → Ready s h → t < instanceOf s .slots → t * h .modules + h .modules ≤ 204800
 row-small {s} given below = row-there given below (area-small s (given .accepted))
 
-pub row-short : {s : List ℕ} {h : Header} (l : List ℕ) (a : ℕ) → Ready s h → a + h .modules ≤ length l → RowShort (midOf a (a + h .modules - a) l)
+pub row-short :
+    {s : List ℕ} {h : Header} (l : List ℕ) (a : ℕ) → Ready s h → a + h .modules ≤ length l → RowShort (midOf a (a + h .modules - a) l)
 row-short {s} {h} l a given inside =
     record { short = omega (arith, part-length a (h .modules) l inside, given .header .modules-is, modules-range s (given .accepted) .1) }
 
@@ -84,23 +85,23 @@ module _ {s : List ℕ} {h : Header} {p : List ℕ} (given : PlanReady s h p) wh
   unfolding countAt
   slot-at-most t below = slot-most (served-at t below) (countAt 0 p t)
 
--- one slot's cost from what the loop has at hand, and the count that it keeps for the next
-pub slot-is :
-    (i : Instance) (p : List ℕ) {t prev n l r : ℕ} → prev ≡ countAt 0 p t → n ≡ getD p t 0 → l ≡ i .load t → r ≡ stepUp i prev n l →
-    r ≡ slotAt i p t
-unfolding countAt
-slot-is i p {t} e f g k = rw (← e, ← f, ← g) k
-
 -- a slot's row has room for its count
 pub row-fits :
-    {s : List ℕ} {h : Header} {p : List ℕ} {t n load : ℕ} (l : List ℕ) (a : ℕ) → PlanReady s h p → t < instanceOf s .slots → a + h .modules ≤ length l →
-    n ≡ getD p t 0 → load ≡ instanceOf s .load t → RowFits (midOf a (a + h .modules - a) l) n load
+    {s : List ℕ} {h : Header} {p : List ℕ} {t n load : ℕ} (l : List ℕ) (a : ℕ) → PlanReady s h p → t < instanceOf s .slots →
+    a + h .modules ≤ length l → n ≡ getD p t 0 → load ≡ instanceOf s .load t → RowFits (midOf a (a + h .modules - a) l) n load
 row-fits {s} {h} {p} {t} {n} {load} l a given below inside e f =
     let slot = slot-ready given below e f .served in
     record {
       in-row = omega (arith, part-length a (h .modules) l inside, given .sized .ready .header .modules-is, slot .in-rack);
       serves = omega (arith, slot .serves, mul-le-mul-left n (top-range s (given .sized .ready .accepted) .1));
     }
+
+-- one slot's cost from what the loop has at hand, and the count that it keeps for the next
+pub slot-is :
+    (i : Instance) (p : List ℕ) {t prev n l r : ℕ} → prev ≡ countAt 0 p t → n ≡ getD p t 0 → l ≡ i .load t → r ≡ stepUp i prev n l →
+    r ≡ slotAt i p t
+unfolding countAt
+slot-is i p {t} e f g k = rw (← e, ← f, ← g) k
 
 pub count-next : (p : List ℕ) (t : ℕ) {n : ℕ} → n ≡ getD p t 0 → n ≡ countAt 0 p (t + 1)
 unfolding countAt

@@ -18,7 +18,8 @@ unfolding moduleByte
 byte-off n l k h = rw (le-ltb k n h)
 
 -- no module active
-pub row-off : (n l : ℕ) (row : List ℕ) {new : List ℕ} → n ≡ 0 → new ≡ replicate (length row) 255 → new ≡ tabulate (length row) (moduleByte n l)
+pub row-off :
+    (n l : ℕ) (row : List ℕ) {new : List ℕ} → n ≡ 0 → new ≡ replicate (length row) 255 → new ≡ tabulate (length row) (moduleByte n l)
 row-off n l row e filled = filled ∙ sym (tabulate-same (length row) (λ k h. byte-off n l k (omega arith)))
 
 module _ (n l : ℕ) (some : n ≡ 0 → ⊥) where

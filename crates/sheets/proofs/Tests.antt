@@ -25,7 +25,8 @@ unfolding countsUpTo entriesInRange
 counts-are i p e = ap (λ (n : ℕ). every n (λ t. leb (getD p t 0) (i .modules))) e
 
 -- the same with a header's numbers
-pub header-entries : {s : List ℕ} {h : Header} → HeaderOf s h → (sheet : List ℕ) → entriesUpTo (h .top) sheet ≡ sheetEntries (instanceOf s) sheet
+pub header-entries :
+    {s : List ℕ} {h : Header} → HeaderOf s h → (sheet : List ℕ) → entriesUpTo (h .top) sheet ≡ sheetEntries (instanceOf s) sheet
 header-entries {s} {h} given sheet = ap (λ (n : ℕ). entriesUpTo n sheet) (given .top-is) ∙ entries-are (instanceOf s) sheet
 
 pub header-counts :

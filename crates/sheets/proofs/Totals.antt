@@ -15,7 +15,7 @@ use Rattle.card.specs.declared.Header.{Header}
 use Rattle.laws.specs.Acceptance.{modules-range, down-range}
 use Rattle.sheets.specs.Marks.{byteCost, bytesCost, allOff, byteAt, stopCost, rowStopCost}
 use Rattle.sheets.specs.Asked.{BytesReady, RowPriced, SheetReady}
-use Rattle.sheets.proofs.Bytes.{part-ready, stop-bound}
+use Rattle.sheets.proofs.Bytes.{part-ready, stop-each}
 use Rattle.sheets.proofs.States.{stateBefore, state-is, before-is}
 use Rattle.sheets.proofs.Split.{from, first-length, earlier-length, later-length, later-at, last-length, last-at, rows-cost}
 
@@ -27,7 +27,8 @@ module _ (i : Instance) (s : List ℕ) (size : length s ≡ i .modules * i .slot
   by-slots : (f : ℕ → ℕ) → sum (length s) f ≡ sum (i .slots) (λ t. sum (i .modules) (λ k. f (t * i .modules + k)))
   by-slots f = ap (λ (n : ℕ). sum n f) (size ∙ mul-comm (i .modules) (i .slots)) ∙ sym (sum-blocks (i .slots) (i .modules) f)
 
-  steps-are : sum (length s) (λ x. stepCost i (getD s x 0)) ≡ sum (i .slots) (λ t. sum (i .modules) (λ k. stepCost i (stateAt i s (suc t) k)))
+  steps-are :
+      sum (length s) (λ x. stepCost i (getD s x 0)) ≡ sum (i .slots) (λ t. sum (i .modules) (λ k. stepCost i (stateAt i s (suc t) k)))
   steps-are =
       by-slots _ ∙ sum-ext (i .slots) (λ t h. sum-ext (i .modules) (λ k g. ap (stepCost i) (sym (state-is i s size t k h g))))
 
@@ -139,5 +140,5 @@ module _ {s : List ℕ} {h : Header} {sheet : List ℕ} (given : SheetReady s h 
 pub row-stop-most : {down stop : ℕ} {row : List ℕ} → RowPriced down row → stop ≡ rowStopCost down row → stop ≤ 200 * 500000000
 unfolding rowStopCost
 row-stop-most {down} {stop} {row} given e =
-    let each = sum-at-most (length row) (λ k g. stop-bound row k (given .priced)) in
+    let each = sum-at-most (length row) (stop-each row (given .priced)) in
     omega (arith, each, given .short)

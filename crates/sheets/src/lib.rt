@@ -7,8 +7,10 @@ ghost use Rattle.model.specs.Instance.{instanceOf};
 ghost use Rattle.model.specs.Sheets.{stepOf, sheetLight, sheetCost};
 ghost use Rattle.model.specs.Plans.{moduleByte, sheetOf, planServes};
 ghost use Rattle.model.specs.Thesis.{stepUp, countsCost};
-ghost use Rattle.sheets.specs.Marks.{written, countsUpTo, isEntry, entriesUpTo, rowLight, allOff, byteAt, byteCost, bytesCost, stopCost, rowStopCost};
-ghost use Rattle.sheets.specs.Asked.{RowFits, SlotReady, PlanSized, PlanReady, SheetRoom, ByteReady, BytesReady, RowShort, RowPriced, SheetSized, SheetReady};
+ghost use Rattle.sheets.specs.Marks.{written, countsUpTo, isEntry, entriesUpTo, rowLight};
+ghost use Rattle.sheets.specs.Marks.{byteCost, bytesCost, allOff, byteAt, stopCost, rowStopCost};
+ghost use Rattle.sheets.specs.Asked.{RowFits, SlotReady, PlanSized, PlanReady, SheetRoom};
+ghost use Rattle.sheets.specs.Asked.{ByteReady, BytesReady, RowShort, RowPriced, SheetSized, SheetReady};
 
 fn wide(x: u8) -> u64
     ensures { λ r. ⌜ r ≡ x ⌝ }
@@ -16,7 +18,7 @@ fn wide(x: u8) -> u64
     x as u64
 }
 
-// A slot's row: the first n modules are active, the first l mod n of these at step l div n + 1, the others at l div n.
+// Fills a slot's row: the first n modules are active, the first l mod n of these at step l div n + 1, the others at l div n.
 fn fill_slot(row: &mut [u8], n: u64, l: u64)
     requires { ⌜ RowFits (now row) n l ⌝ }
     ensures { λ _. ⌜ now (row .exit) ≡ tabulate (length (now (row .entry))) (moduleByte n l) ⌝ }
@@ -26,14 +28,15 @@ fn fill_slot(row: &mut [u8], n: u64, l: u64)
         return;
     }
     let active = n as usize;
-    let step = (l / n) as u8;
     let rest = (l % n) as usize;
-    buffers::fill(&mut row[..rest], step + 1);
+    let step = (l / n) as u8;
+    let next = step + 1;
+    buffers::fill(&mut row[..rest], next);
     buffers::fill(&mut row[rest..active], step);
     buffers::fill(&mut row[active..], 255);
 }
 
-// The sheet of a plan, slot by slot.
+// Writes the sheet of a plan. Each slot's part is lent to the slot filler, which sees that slot alone.
 pub fn write_sheet(card: &[u8], h: Header, plan: &[u8], sheet: &mut [u8])
     requires { ⌜ PlanReady (now card) h (now plan) ⌝ }
     requires { ⌜ SheetRoom (now card) (now sheet) ⌝ }
@@ -52,7 +55,8 @@ pub fn write_sheet(card: &[u8], h: Header, plan: &[u8], sheet: &mut [u8])
     }
 }
 
-// The cost of a slot by counts, where prev modules were active before it.
+// The cost of a slot by counts, where prev modules were active before it: the running cost, and the switching price for each
+// module that goes on.
 fn slot_cost(card: &[u8], h: Header, prev: u64, n: u64, l: u64) -> u64
     requires { ⌜ SlotReady (now card) h n l ⌝ }
     ensures { λ r. ⌜ r ≡ stepUp (instanceOf (now (card .entry))) prev n l ⌝ }
@@ -252,7 +256,7 @@ fn row_stop_cost(down: u64, row: &[u8]) -> u64
     cost
 }
 
-// The cost of a sheet: of its first row, of the later rows, and of the changes to off after the last.
+// Marking: the cost of a sheet, that of its first row, of the later rows, and of the changes to off after the last.
 pub fn sheet_cost(card: &[u8], h: Header, sheet: &[u8]) -> u64
     requires { ⌜ SheetReady (now card) h (now sheet) ⌝ }
     ensures { λ r. ⌜ r ≡ sheetCost (instanceOf (now (card .entry))) (now (sheet .entry)) ⌝ }

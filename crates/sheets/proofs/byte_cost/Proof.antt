@@ -40,14 +40,18 @@ add-result c =
 -- src/lib.rt:101:9
 returns-2 : tie.Need-returns-2
 returns-2 c =
-    let table = instanceOf (c .before .before .before .before .before .before .args .card .now) .table in
-    cost-started _ _ _ (c .before .before .before .before .if1 .left) (c .before .before .entry .ensures .is ∙ ap table (c .before .before .before .wide .ensures)) (c .before .if2 .taken) (c .before .before .before .before .before .before .pre .ready .header .up-is)
+    let s = c .before .before .before .before .before .before in
+    let wide = ap (instanceOf (s .args .card .now) .table) (c .before .before .before .wide .ensures) in
+    let step = c .before .before .entry .ensures .is ∙ wide in
+    cost-started _ _ _ (c .before .before .before .before .if1 .left) step (c .before .if2 .taken) (s .pre .ready .header .up-is)
 
 -- src/lib.rt:92:1
 returns-3 : tie.Need-returns-3
 returns-3 c =
-    let table = instanceOf (c .before .before .before .before .before .args .card .now) .table in
-    cost-kept _ _ _ (c .before .before .before .if1 .left) (c .before .entry .ensures .is ∙ ap table (c .before .before .wide .ensures)) (c .if2 .left)
+    let s = c .before .before .before .before .before in
+    let wide = ap (instanceOf (s .args .card .now) .table) (c .before .before .wide .ensures) in
+    let step = c .before .entry .ensures .is ∙ wide in
+    cost-kept _ _ _ (c .before .before .before .if1 .left) step (c .if2 .left)
 
 pub byte-cost-spec : {M : Type 1} → statement M
 byte-cost-spec =

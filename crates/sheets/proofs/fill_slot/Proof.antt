@@ -20,7 +20,13 @@ same-length c = search needs
 
 -- src/lib.rt:16:9
 returns : tie.Need-returns
-returns c = let a = c .before .before .before .before .before .before .args in row-off _ (a .l) (a .row .now) (c .before .before .before .before .if1 .taken) (c .before .before .fill .ensures)
+returns c =
+    let a = c .before .before .before .before .before .before .args in
+    row-off _ (a .l) (a .row .now) (c .before .before .before .before .if1 .taken) (c .before .before .fill .ensures)
+
+-- src/lib.rt:20:17
+rem-rest : tie.Need-rem-rest
+rem-rest c = search needs
 
 -- src/lib.rt:19:17
 div-step : tie.Need-div-step
@@ -28,23 +34,31 @@ div-step c = search needs
 
 -- src/lib.rt:19:16
 cast-step : tie.Need-cast-step
-cast-step c = record { fits = omega (arith, step-within (c .before .before .args .n) (c .before .before .args .l) (c .if1 .left) 200 (c .before .before .pre .serves)) }
+cast-step c =
+    let s = c .before .before in
+    let some = c .if1 .left in
+    record { fits = omega (arith, step-within (s .args .n) (s .args .l) some 200 (s .pre .serves)) }
 
--- src/lib.rt:20:17
-rem-rest : tie.Need-rem-rest
-rem-rest c = search needs
+-- src/lib.rt:32:16
+add-next : tie.Need-add-next
+add-next c =
+    let s = c .before .before in
+    let some = c .if1 .left in
+    record { fits = omega (arith, step-within (s .args .n) (s .args .l) some 200 (s .pre .serves)) }
 
 -- src/lib.rt:21:19
 slice-relend-prefix-fill : tie.Need-slice-relend-prefix-fill
-slice-relend-prefix-fill c = omega (arith, rest-below (c .before .before .args .n) (c .before .before .args .l) (c .if1 .left), c .before .before .pre .in-row)
+slice-relend-prefix-fill c =
+    let s = c .before .before in
+    let some = c .if1 .left in
+    omega (arith, rest-below (s .args .n) (s .args .l) some, s .pre .in-row)
 
 -- src/lib.rt:21:19
 slice-aggregate-fill : tie.Need-slice-aggregate-fill
-slice-aggregate-fill c = sym (length-take-le _ _ (omega (arith, rest-below (c .before .before .before .args .n) (c .before .before .before .args .l) (c .before .if1 .left), c .before .before .before .pre .in-row)))
-
--- src/lib.rt:21:37
-add-fill : tie.Need-add-fill
-add-fill c = record { fits = omega (arith, step-within (c .before .before .before .args .n) (c .before .before .before .args .l) (c .before .if1 .left) 200 (c .before .before .before .pre .serves)) }
+slice-aggregate-fill c =
+    let s = c .before .before .before in
+    let some = c .before .if1 .left in
+    sym (length-take-le _ _ (omega (arith, rest-below (s .args .n) (s .args .l) some, s .pre .in-row)))
 
 -- src/lib.rt:21:5
 fill-requires-2 : tie.Need-fill-requires-2
@@ -52,11 +66,17 @@ fill-requires-2 c κs = search needs
 
 -- src/lib.rt:22:19
 sub-fill : tie.Need-sub-fill
-sub-fill c = omega (arith, rest-below (c .before .before .before .before .before .before .args .n) (c .before .before .before .before .before .before .args .l) (c .before .before .before .before .if1 .left))
+sub-fill c =
+    let s = c .before .before .before .before .before .before in
+    let some = c .before .before .before .before .if1 .left in
+    omega (arith, rest-below (s .args .n) (s .args .l) some)
 
 -- src/lib.rt:22:19
 part-fill-start : tie.Need-part-fill-start
-part-fill-start c = omega (arith, rest-below (c .before .before .before .before .before .before .args .n) (c .before .before .before .before .before .before .args .l) (c .before .before .before .before .if1 .left))
+part-fill-start c =
+    let s = c .before .before .before .before .before .before in
+    let some = c .before .before .before .before .if1 .left in
+    omega (arith, rest-below (s .args .n) (s .args .l) some)
 
 -- src/lib.rt:22:19
 part-fill-end : tie.Need-part-fill-end
@@ -89,7 +109,11 @@ same-length-2 c = search needs
 -- src/lib.rt:10:1
 returns-2 : tie.Need-returns-2
 returns-2 c =
-    row-filled _ _ (c .before .before .before .before .before .before .before .before .before .before .before .before .if1 .left) _ (c .before .before .before .before .before .before .before .before .before .before .before .before .before .before .pre .in-row) (c .before .before .before .before .before .before .before .before .before .before .fill2 .ensures) (c .before .before .before .before .before .before .fill3 .ensures) (c .before .before .fill4 .ensures)
+    let s = c .before .before .before .before .before .before .before .before .before .before .before .before .before .before in
+    let some = c .before .before .before .before .before .before .before .before .before .before .before .before .if1 .left in
+    let first = c .before .before .before .before .before .before .before .before .before .before .fill2 .ensures in
+    let active = c .before .before .before .before .before .before .fill3 .ensures in
+    row-filled _ _ some _ (s .pre .in-row) first active (c .before .before .fill4 .ensures)
 
 pub fill-slot-spec : {M : Type 1} → statement M
 fill-slot-spec =
@@ -98,12 +122,12 @@ fill-slot-spec =
     fill-requires
     same-length
     returns
+    rem-rest
     div-step
     cast-step
-    rem-rest
+    add-next
     slice-relend-prefix-fill
     slice-aggregate-fill
-    add-fill
     fill-requires-2
     sub-fill
     part-fill-start

@@ -17,7 +17,8 @@ use Rattle.sheets.proofs.slot_cost.Reads as slot-cost-reads
 use Rattle.sheets.proofs.wide.Reads as wide-reads
 
 abbrev Inv-loop : tie.InvT-loop
-Inv-loop card h plan top cost₀ prev₀ t₀ cost prev t = Summed (instanceOf card .slots) (slotAt (instanceOf card) plan) t cost × (prev ≡ countAt 0 plan t)
+Inv-loop card h plan top cost₀ prev₀ t₀ cost prev t =
+    Summed (instanceOf card .slots) (slotAt (instanceOf card) plan) t cost × (prev ≡ countAt 0 plan t)
 
 abbrev μ-loop : tie.MeasureT-loop
 μ-loop card h plan top cost₀ prev₀ t₀ cost prev t = length plan - t
@@ -50,12 +51,13 @@ slot-cost-requires c κs =
 -- src/lib.rt:61:9
 add-cost : tie.Need-add-cost Inv-loop μ-loop
 add-cost c =
-    let p = c .before .before .before .before .before .before .before .before .pre in
-    let a = c .before .before .before .before .before .before .before .before .args in
+    let s = c .before .before .before .before .before .before .before .before in
+    let p = s .pre .sized in
     let l = c .before .before .before .before .before .loop .inv in
-    let slot = slot-is (instanceOf (a .card .now)) (a .plan .now) (l .1) (c .before .before .wide .ensures) (c .before .load .ensures .is) (c .slot-cost .ensures) in
-    let room = summed-room (l .0) (in-slots (p .sized) (c .before .before .before .before .loop-test .taken)) slot (slot-at-most p) in
-    record { fits = omega (arith, room, slots-range _ (p .sized .ready .accepted)) }
+    let n = c .before .before .wide .ensures in
+    let slot = slot-is (instanceOf (s .args .card .now)) (s .args .plan .now) (l .1) n (c .before .load .ensures .is) (c .slot-cost .ensures) in
+    let room = summed-room (l .0) (in-slots p (c .before .before .before .before .loop-test .taken)) slot (slot-at-most (s .pre)) in
+    record { fits = omega (arith, room, slots-range _ (p .ready .accepted)) }
 
 -- src/lib.rt:63:9
 add-t : tie.Need-add-t Inv-loop μ-loop
@@ -68,10 +70,11 @@ loop-less c = omega arith
 -- src/lib.rt:59:5
 loop-again : tie.Need-loop-again Inv-loop μ-loop
 loop-again c =
-    let a = c .before .before .before .before .before .before .before .before .args in
+    let s = c .before .before .before .before .before .before .before .before in
     let l = c .before .before .before .before .before .loop .inv in
     let n = c .before .before .wide .ensures in
-    (summed-more (l .0) (in-slots (c .before .before .before .before .before .before .before .before .pre .sized) (c .before .before .before .before .loop-test .taken)) (slot-is (instanceOf (a .card .now)) (a .plan .now) (l .1) n (c .before .load .ensures .is) (c .slot-cost .ensures)), count-next (a .plan .now) _ n)
+    let slot = slot-is (instanceOf (s .args .card .now)) (s .args .plan .now) (l .1) n (c .before .load .ensures .is) (c .slot-cost .ensures) in
+    (summed-more (l .0) (in-slots (s .pre .sized) (c .before .before .before .before .loop-test .taken)) slot, count-next (s .args .plan .now) _ n)
 
 -- src/lib.rt:51:1
 returns : tie.Need-returns Inv-loop μ-loop

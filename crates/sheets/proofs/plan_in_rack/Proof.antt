@@ -33,7 +33,9 @@ wide-requires c κs = search needs
 -- src/lib.rt:76:13
 returns : tie.Need-returns Inv-loop μ-loop
 unfolding countsUpTo
-returns c = passed-not (c .before .before .before .before .loop .inv) (c .before .before .before .loop-test .taken) (rw (← (c .before .wide .ensures)) (lt-leb _ _ (c .if1 .taken)))
+returns c =
+    passed-not (c .before .before .before .before .loop .inv) (c .before .before .before .loop-test .taken)
+    (rw (← (c .before .wide .ensures)) (lt-leb _ _ (c .if1 .taken)))
 
 -- src/lib.rt:78:9
 add-t : tie.Need-add-t Inv-loop μ-loop
@@ -45,7 +47,9 @@ loop-less c = omega arith
 
 -- src/lib.rt:74:5
 loop-again : tie.Need-loop-again Inv-loop μ-loop
-loop-again c = passed-more (c .before .before .before .before .loop .inv) (c .before .before .before .loop-test .taken) (rw (← (c .before .wide .ensures)) (le-leb _ _ (c .if1 .left)))
+loop-again c =
+    passed-more (c .before .before .before .before .loop .inv) (c .before .before .before .loop-test .taken)
+    (rw (← (c .before .wide .ensures)) (le-leb _ _ (c .if1 .left)))
 
 -- src/lib.rt:69:1
 returns-2 : tie.Need-returns-2 Inv-loop μ-loop

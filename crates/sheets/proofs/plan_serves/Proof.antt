@@ -37,11 +37,8 @@ wide-requires c κs = search needs
 -- src/lib.rt:91:20
 mul-most : tie.Need-mul-most Inv-loop μ-loop
 mul-most c =
-    record {
-      fits =
-          omega
-          (arith, mul-le-mul (byte-small (c .before .shared-slice-known3 .given (c .before .before .before .loop .t)) (c .wide .ensures)) (c .before .before .before .before .before .before .pre .ready .header .top-bound));
-    }
+    let n = byte-small (c .before .shared-slice-known3 .given (c .before .before .before .loop .t)) (c .wide .ensures) in
+    record { fits = omega (arith, mul-le-mul n (c .before .before .before .before .before .before .pre .ready .header .top-bound)) }
 
 -- src/lib.rt:92:19
 load-requires : tie.Need-load-requires Inv-loop μ-loop

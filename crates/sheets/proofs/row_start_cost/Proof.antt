@@ -33,7 +33,8 @@ byte-cost-requires c κs = byte-ready _ (c .before .before .before .before .befo
 add-cost : tie.Need-add-cost Inv-loop μ-loop
 add-cost c =
     let p = c .before .before .before .before .before .before .pre in
-    let room = summed-room (c .before .before .before .loop .inv) (c .before .before .loop-test .taken) (c .byte-cost .ensures) (bytes-each p allOff) in
+    let l = c .before .before .before .loop .inv in
+    let room = summed-room l (c .before .before .loop-test .taken) (c .byte-cost .ensures) (bytes-each p allOff) in
     record { fits = omega (arith, room, p .few) }
 
 -- src/lib.rt:221:9

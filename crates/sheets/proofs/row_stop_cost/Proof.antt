@@ -4,7 +4,7 @@ use lib.ListN.{length, getD}
 use borrow.Author.Needs.{needs}
 use Rattle.lists.specs.Summing.{Summed, summed-none, summed-more, summed-all, summed-room}
 use Rattle.sheets.specs.Marks.{stopCost, rowStopCost}
-use Rattle.sheets.proofs.Bytes.{stop-bound}
+use Rattle.sheets.proofs.Bytes.{stop-each}
 use Rattle.sheets.proofs.row_stop_cost.Statement.{statement}
 use Rattle.sheets.proofs.row_stop_cost.Tie as tie
 use Rattle.sheets.proofs.row_stop_cost.Reads as reads
@@ -32,12 +32,10 @@ stop-cost-requires c κs = search needs
 -- src/lib.rt:207:9
 add-cost : tie.Need-add-cost Inv-loop μ-loop
 add-cost c =
-    let p = c .before .before .before .before .before .pre in
-    record {
-      fits =
-          omega
-          (arith, summed-room (c .before .before .before .loop .inv) (c .before .before .loop-test .taken) (c .stop-cost .ensures) (λ j h. stop-bound (c .before .before .before .before .before .args .row .now) j (p .priced)), p .short);
-    }
+    let s = c .before .before .before .before .before in
+    let l = c .before .before .before .loop .inv in
+    let room = summed-room l (c .before .before .loop-test .taken) (c .stop-cost .ensures) (stop-each (s .args .row .now) (s .pre .priced)) in
+    record { fits = omega (arith, room, s .pre .short) }
 
 -- src/lib.rt:208:9
 add-k : tie.Need-add-k Inv-loop μ-loop

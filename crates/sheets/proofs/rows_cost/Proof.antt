@@ -32,15 +32,17 @@ shared-slice-read-byte-cost-2 c = omega arith
 
 -- src/lib.rt:235:17
 byte-cost-requires : tie.Need-byte-cost-requires Inv-loop μ-loop
-byte-cost-requires c κs = byte-ready _ (c .before .before .before .before .before .before .before .pre .0) (c .before .before .loop-test .taken)
+byte-cost-requires c κs =
+    let s = c .before .before .before .before .before .before .before in
+    byte-ready _ (s .pre .0) (c .before .before .loop-test .taken)
 
 -- src/lib.rt:235:9
 add-cost : tie.Need-add-cost Inv-loop μ-loop
 add-cost c =
-    let p = c .before .before .before .before .before .before .before .before .pre .0 in
-    let room =
-    summed-room (c .before .before .before .before .loop .inv) (c .before .before .before .loop-test .taken) (c .byte-cost .ensures) (bytes-each p (byteAt (c .before .before .before .before .before .before .before .before .args .earlier .now))) in
-    record { fits = omega (arith, room, p .few) }
+    let s = c .before .before .before .before .before .before .before .before in
+    let l = c .before .before .before .before .loop .inv in
+    let bound = bytes-each (s .pre .0) (byteAt (s .args .earlier .now)) in
+    record { fits = omega (arith, summed-room l (c .before .before .before .loop-test .taken) (c .byte-cost .ensures) bound, s .pre .0 .few) }
 
 -- src/lib.rt:236:9
 add-x : tie.Need-add-x Inv-loop μ-loop
@@ -52,7 +54,8 @@ loop-less c = omega arith
 
 -- src/lib.rt:234:5
 loop-again : tie.Need-loop-again Inv-loop μ-loop
-loop-again c = summed-more (c .before .before .before .before .loop .inv) (c .before .before .before .loop-test .taken) (c .byte-cost .ensures)
+loop-again c =
+    summed-more (c .before .before .before .before .loop .inv) (c .before .before .before .loop-test .taken) (c .byte-cost .ensures)
 
 -- src/lib.rt:227:1
 returns : tie.Need-returns Inv-loop μ-loop

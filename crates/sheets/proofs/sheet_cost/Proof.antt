@@ -2,7 +2,8 @@ use mathlib.Core.Path.{sym}
 use native.Mathlib.Omega.{arith}
 use Rattle.sheets.proofs.Bytes.{bytes-most}
 use Rattle.sheets.proofs.Split.{first-length, earlier-length}
-use Rattle.sheets.proofs.Totals.{header-rows, first-ready, later-ready, rows-paired, last-priced, row-stop-most, sheet-empty, sheet-whole}
+use Rattle.sheets.proofs.Totals.{header-rows, first-ready, later-ready, rows-paired, last-priced, row-stop-most}
+use Rattle.sheets.proofs.Totals.{sheet-empty, sheet-whole}
 use borrow.Author.Needs.{needs}
 use Rattle.sheets.proofs.sheet_cost.Statement.{statement}
 use Rattle.sheets.proofs.sheet_cost.Tie as tie
@@ -22,27 +23,45 @@ sub-last c = search needs
 
 -- src/lib.rt:264:17
 mul-last : tie.Need-mul-last
-mul-last c = record { fits = omega (arith, header-rows (c .before .before .before .before .before .before .pre) (c .before .before .if1 .left)) }
+mul-last c =
+    let s = c .before .before .before .before .before .before in
+    let some = c .before .before .if1 .left in
+    record { fits = omega (arith, header-rows (s .pre) some) }
 
 -- src/lib.rt:265:41
 slice-aggregate-row-start-cost : tie.Need-slice-aggregate-row-start-cost
-slice-aggregate-row-start-cost c = sym (first-length _ _ _ (header-rows (c .before .before .before .before .before .before .before .pre) (c .before .before .before .if1 .left)))
+slice-aggregate-row-start-cost c =
+    let s = c .before .before .before .before .before .before .before in
+    let some = c .before .before .before .if1 .left in
+    sym (first-length _ _ _ (header-rows (s .pre) some))
 
 -- src/lib.rt:265:9
 row-start-cost-requires : tie.Need-row-start-cost-requires
-row-start-cost-requires c κs = first-ready (c .before .before .before .before .before .before .before .pre) (c .before .before .before .if1 .left)
+row-start-cost-requires c κs =
+    let s = c .before .before .before .before .before .before .before in
+    let some = c .before .before .before .if1 .left in
+    first-ready (s .pre) some
 
 -- src/lib.rt:266:35
 slice-aggregate-rows-cost : tie.Need-slice-aggregate-rows-cost
-slice-aggregate-rows-cost c = sym (earlier-length _ _ _ (header-rows (c .before .before .before .before .before .before .before .before .before .pre) (c .before .before .before .before .before .if1 .left)))
+slice-aggregate-rows-cost c =
+    let s = c .before .before .before .before .before .before .before .before .before in
+    let some = c .before .before .before .before .before .if1 .left in
+    sym (earlier-length _ _ _ (header-rows (s .pre) some))
 
 -- src/lib.rt:266:51
 sub-rows-cost : tie.Need-sub-rows-cost
-sub-rows-cost c = omega (arith, header-rows (c .before .before .before .before .before .before .before .before .before .pre) (c .before .before .before .before .before .if1 .left))
+sub-rows-cost c =
+    let s = c .before .before .before .before .before .before .before .before .before in
+    let some = c .before .before .before .before .before .if1 .left in
+    omega (arith, header-rows (s .pre) some)
 
 -- src/lib.rt:266:51
 part-rows-cost-start : tie.Need-part-rows-cost-start
-part-rows-cost-start c = omega (arith, header-rows (c .before .before .before .before .before .before .before .before .before .pre) (c .before .before .before .before .before .if1 .left))
+part-rows-cost-start c =
+    let s = c .before .before .before .before .before .before .before .before .before in
+    let some = c .before .before .before .before .before .if1 .left in
+    omega (arith, header-rows (s .pre) some)
 
 -- src/lib.rt:266:51
 part-rows-cost-end : tie.Need-part-rows-cost-end
@@ -50,15 +69,24 @@ part-rows-cost-end c = search needs
 
 -- src/lib.rt:266:9
 rows-cost-requires : tie.Need-rows-cost-requires
-rows-cost-requires c κs = (later-ready (c .before .before .before .before .before .before .before .before .before .before .pre) (c .before .before .before .before .before .before .if1 .left), rows-paired (c .before .before .before .before .before .before .before .before .before .before .pre) (c .before .before .before .before .before .before .if1 .left))
+rows-cost-requires c κs =
+    let s = c .before .before .before .before .before .before .before .before .before .before in
+    let some = c .before .before .before .before .before .before .if1 .left in
+    (later-ready (s .pre) some, rows-paired (s .pre) some)
 
 -- src/lib.rt:267:38
 sub-row-stop-cost : tie.Need-sub-row-stop-cost
-sub-row-stop-cost c = omega (arith, header-rows (c .before .before .before .before .before .before .before .before .before .before .before .pre) (c .before .before .before .before .before .before .before .if1 .left))
+sub-row-stop-cost c =
+    let s = c .before .before .before .before .before .before .before .before .before .before .before in
+    let some = c .before .before .before .before .before .before .before .if1 .left in
+    omega (arith, header-rows (s .pre) some)
 
 -- src/lib.rt:267:38
 part-row-stop-cost-start : tie.Need-part-row-stop-cost-start
-part-row-stop-cost-start c = omega (arith, header-rows (c .before .before .before .before .before .before .before .before .before .before .before .pre) (c .before .before .before .before .before .before .before .if1 .left))
+part-row-stop-cost-start c =
+    let s = c .before .before .before .before .before .before .before .before .before .before .before in
+    let some = c .before .before .before .before .before .before .before .if1 .left in
+    omega (arith, header-rows (s .pre) some)
 
 -- src/lib.rt:267:38
 part-row-stop-cost-end : tie.Need-part-row-stop-cost-end
@@ -66,26 +94,37 @@ part-row-stop-cost-end c = search needs
 
 -- src/lib.rt:267:9
 row-stop-cost-requires : tie.Need-row-stop-cost-requires
-row-stop-cost-requires c κs = last-priced (c .before .before .before .before .before .before .before .before .before .before .before .before .pre) (c .before .before .before .before .before .before .before .before .if1 .left)
+row-stop-cost-requires c κs =
+    let s = c .before .before .before .before .before .before .before .before .before .before .before .before in
+    let some = c .before .before .before .before .before .before .before .before .if1 .left in
+    last-priced (s .pre) some
 
 -- src/lib.rt:268:5
 add-result : tie.Need-add-result
 add-result c =
-    let start = bytes-most (first-ready (c .before .before .before .before .before .before .before .before .before .before .before .before .before .pre) (c .before .before .before .before .before .before .before .before .before .if1 .left)) _ (c .before .before .before .before .before .row-start-cost .ensures) in
-    let rest = bytes-most (later-ready (c .before .before .before .before .before .before .before .before .before .before .before .before .before .pre) (c .before .before .before .before .before .before .before .before .before .if1 .left)) _ (c .before .before .rows-cost .ensures) in
+    let s = c .before .before .before .before .before .before .before .before .before .before .before .before .before in
+    let some = c .before .before .before .before .before .before .before .before .before .if1 .left in
+    let start = bytes-most (first-ready (s .pre) some) _ (c .before .before .before .before .before .row-start-cost .ensures) in
+    let rest = bytes-most (later-ready (s .pre) some) _ (c .before .before .rows-cost .ensures) in
     record { fits = omega (arith, start, rest) }
 
 -- src/lib.rt:268:5
 add-result-2 : tie.Need-add-result-2
 add-result-2 c =
-    let start = bytes-most (first-ready (c .before .before .before .before .before .before .before .before .before .before .before .before .before .pre) (c .before .before .before .before .before .before .before .before .before .if1 .left)) _ (c .before .before .before .before .before .row-start-cost .ensures) in
-    let rest = bytes-most (later-ready (c .before .before .before .before .before .before .before .before .before .before .before .before .before .pre) (c .before .before .before .before .before .before .before .before .before .if1 .left)) _ (c .before .before .rows-cost .ensures) in
-    let stop = row-stop-most (last-priced (c .before .before .before .before .before .before .before .before .before .before .before .before .before .pre) (c .before .before .before .before .before .before .before .before .before .if1 .left)) (c .row-stop-cost .ensures) in
+    let s = c .before .before .before .before .before .before .before .before .before .before .before .before .before in
+    let some = c .before .before .before .before .before .before .before .before .before .if1 .left in
+    let start = bytes-most (first-ready (s .pre) some) _ (c .before .before .before .before .before .row-start-cost .ensures) in
+    let rest = bytes-most (later-ready (s .pre) some) _ (c .before .before .rows-cost .ensures) in
+    let stop = row-stop-most (last-priced (s .pre) some) (c .row-stop-cost .ensures) in
     record { fits = omega (arith, start, rest, stop) }
 
 -- src/lib.rt:256:1
 returns-2 : tie.Need-returns-2
-returns-2 c = sheet-whole (c .before .before .before .before .before .before .before .before .before .before .before .before .before .pre) (c .before .before .before .before .before .before .before .before .before .if1 .left) (c .before .before .before .before .before .row-start-cost .ensures) (c .before .before .rows-cost .ensures) (c .row-stop-cost .ensures)
+returns-2 c =
+    let s = c .before .before .before .before .before .before .before .before .before .before .before .before .before in
+    let some = c .before .before .before .before .before .before .before .before .before .if1 .left in
+    let start = c .before .before .before .before .before .row-start-cost .ensures in
+    sheet-whole (s .pre) some start (c .before .before .rows-cost .ensures) (c .row-stop-cost .ensures)
 
 pub sheet-cost-spec : {M : Type 1} → statement M
 sheet-cost-spec =

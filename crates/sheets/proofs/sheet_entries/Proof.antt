@@ -36,7 +36,8 @@ unfolding entriesUpTo
 returns c =
     let a = c .before .before .before .before .before .before .args in
     let h = c .before .before .before .loop-test .taken in
-    passed-not (c .before .before .before .before .loop .inv) h (entry-read (a .top) (a .sheet .now) h (test-failed (c .before .is-entry .ensures) (c .if1 .taken)))
+    let failed = test-failed (c .before .is-entry .ensures) (c .if1 .taken) in
+    passed-not (c .before .before .before .before .loop .inv) h (entry-read (a .top) (a .sheet .now) h failed)
 
 -- src/lib.rt:119:9
 add-x : tie.Need-add-x Inv-loop μ-loop
@@ -51,7 +52,8 @@ loop-again : tie.Need-loop-again Inv-loop μ-loop
 loop-again c =
     let a = c .before .before .before .before .before .before .args in
     let h = c .before .before .before .loop-test .taken in
-    passed-more (c .before .before .before .before .loop .inv) h (entry-read (a .top) (a .sheet .now) h (test-passed (c .before .is-entry .ensures) (c .if1 .left)))
+    let passed = test-passed (c .before .is-entry .ensures) (c .if1 .left) in
+    passed-more (c .before .before .before .before .loop .inv) h (entry-read (a .top) (a .sheet .now) h passed)
 
 -- src/lib.rt:111:1
 returns-2 : tie.Need-returns-2 Inv-loop μ-loop

@@ -14,7 +14,8 @@ use Rattle.card.proofs.load.Reads as load-reads
 use Rattle.sheets.proofs.slot_light.Reads as slot-light-reads
 
 abbrev Inv-loop : tie.InvT-loop
-Inv-loop card sheet modules slots top t₀ t = Passed (instanceOf card .slots) (λ u. eqb (lightAt (instanceOf card) sheet (suc u)) (instanceOf card .load u)) t
+Inv-loop card sheet modules slots top t₀ t =
+    Passed (instanceOf card .slots) (λ u. eqb (lightAt (instanceOf card) sheet (suc u)) (instanceOf card .load u)) t
 
 abbrev μ-loop : tie.MeasureT-loop
 μ-loop card sheet modules slots top t₀ t = slots - t
@@ -66,9 +67,10 @@ returns : tie.Need-returns Inv-loop μ-loop
 unfolding sheetLight
 returns c =
     let p = c .before .before .before .before .before .before .before .before .pre in
+    let m = p .ready .header .modules-is in
     let below = in-header (p .ready) (c .before .before .before .before .loop-test .taken) in
-    passed-not (c .before .before .before .before .before .loop .inv) below
-    (light-failed _ _ (p .size) (p .ready .header .modules-is) below (c .before .before .slot-light .ensures) (c .before .load .ensures .is) (c .if1 .taken))
+    let test = light-failed _ _ (p .size) m below (c .before .before .slot-light .ensures) (c .before .load .ensures .is) (λ e. omega (arith, c .if1 .taken)) in
+    passed-not (c .before .before .before .before .before .loop .inv) below test
 
 -- src/lib.rt:184:9
 add-t : tie.Need-add-t Inv-loop μ-loop
@@ -82,9 +84,10 @@ loop-less c = omega arith
 loop-again : tie.Need-loop-again Inv-loop μ-loop
 loop-again c =
     let p = c .before .before .before .before .before .before .before .before .pre in
+    let m = p .ready .header .modules-is in
     let below = in-header (p .ready) (c .before .before .before .before .loop-test .taken) in
-    passed-more (c .before .before .before .before .before .loop .inv) below
-    (light-passed _ _ (p .size) (p .ready .header .modules-is) below (c .before .before .slot-light .ensures) (c .before .load .ensures .is) (c .if1 .left))
+    let test = light-passed _ _ (p .size) m below (c .before .before .slot-light .ensures) (c .before .load .ensures .is) (c .if1 .left) in
+    passed-more (c .before .before .before .before .before .loop .inv) below test
 
 -- src/lib.rt:169:1
 returns-2 : tie.Need-returns-2 Inv-loop μ-loop

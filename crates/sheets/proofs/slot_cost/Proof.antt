@@ -30,18 +30,18 @@ sub-result c = search needs
 -- src/lib.rt:47:11
 mul-result : tie.Need-mul-result
 mul-result c =
-    let p = c .before .before .before .before .pre in
-    record { fits = omega (arith, switching-most (p .served) (c .before .before .before .before .args .prev) (p .ready .header .up-is) (p .ready .header .down-is)) }
+    let s = c .before .before .before .before in
+    let p = s .pre .ready .header in
+    record { fits = omega (arith, switching-most (s .pre .served) (s .args .prev) (p .up-is) (p .down-is)) }
 
 -- src/lib.rt:47:5
 add-result : tie.Need-add-result
 add-result c =
-    let p = c .before .before .before .before .pre in
-    record {
-      fits =
-          omega
-          (arith, c .before .before .operating-cost .ensures, running-most (p .served), switching-most (p .served) (c .before .before .before .before .args .prev) (p .ready .header .up-is) (p .ready .header .down-is));
-    }
+    let s = c .before .before .before .before in
+    let p = s .pre .ready .header in
+    let run = running-most (s .pre .served) in
+    let switching = switching-most (s .pre .served) (s .args .prev) (p .up-is) (p .down-is) in
+    record { fits = omega (arith, c .before .before .operating-cost .ensures, run, switching) }
 
 -- src/lib.rt:38:1
 returns-2 : tie.Need-returns-2

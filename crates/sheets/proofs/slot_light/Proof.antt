@@ -5,7 +5,7 @@ use borrow.Author.Needs.{needs}
 use Rattle.lists.specs.Summing.{Summed, summed-none, summed-more, summed-all, summed-most, summed-room}
 use Rattle.model.specs.Sheets.{stepOf}
 use Rattle.sheets.specs.Marks.{rowLight}
-use Rattle.sheets.proofs.Bytes.{step-bound}
+use Rattle.sheets.proofs.Bytes.{step-each}
 use Rattle.sheets.proofs.slot_light.Statement.{statement}
 use Rattle.sheets.proofs.slot_light.Tie as tie
 use Rattle.sheets.proofs.slot_light.Reads as reads
@@ -33,12 +33,9 @@ step-of-requires c κs = search needs
 -- src/lib.rt:160:9
 add-light : tie.Need-add-light Inv-loop μ-loop
 add-light c =
-    let l = c .before .before .before .loop in
-    record {
-      fits =
-          omega
-          (arith, summed-room (l .inv) (c .before .before .loop-test .taken) (c .step-of .ensures) (λ j h. step-bound (c .before .shared-slice-known2 .given j)), c .before .before .before .before .before .pre .short);
-    }
+    let each = step-each (c .before .before .before .before .before .args .row .now) (c .before .shared-slice-known2 .given) in
+    let room = summed-room (c .before .before .before .loop .inv) (c .before .before .loop-test .taken) (c .step-of .ensures) each in
+    record { fits = omega (arith, room, c .before .before .before .before .before .pre .short) }
 
 -- src/lib.rt:161:9
 add-k : tie.Need-add-k Inv-loop μ-loop
@@ -55,11 +52,8 @@ loop-again c = summed-more (c .before .before .before .loop .inv) (c .before .be
 -- src/lib.rt:163:5
 cast-result : tie.Need-cast-result Inv-loop μ-loop
 cast-result c =
-    record {
-      fits =
-          omega
-          (arith, summed-most (c .before .loop .inv) (λ j h. step-bound (c .before .before .shared-slice-known .given j)), c .before .before .before .pre .short);
-    }
+    let each = step-each (c .before .before .before .args .row .now) (c .before .before .shared-slice-known .given) in
+    record { fits = omega (arith, summed-most (c .before .loop .inv) each, c .before .before .before .pre .short) }
 
 -- src/lib.rt:153:1
 returns : tie.Need-returns Inv-loop μ-loop

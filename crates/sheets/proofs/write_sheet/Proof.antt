@@ -60,17 +60,17 @@ part-fill-slot-start c = omega arith
 -- src/lib.rt:52:19
 part-fill-slot-end : tie.Need-part-fill-slot-end Inv-loop μ-loop
 part-fill-slot-end c =
-    let p = c .before .before .before .before .before .before .before .before .pre .0 .sized in
-    let room = c .before .before .before .before .before .before .before .before .pre .1 .room in
-    row-there (p .ready) (in-slots p (c .before .before .before .loop-test .taken)) (filled-room (c .before .before .before .before .loop .inv) room)
+    let s = c .before .before .before .before .before .before .before .before in
+    let below = in-slots (s .pre .0 .sized) (c .before .before .before .loop-test .taken) in
+    row-there (s .pre .0 .sized .ready) below (filled-room (c .before .before .before .before .loop .inv) (s .pre .1 .room))
 
 -- src/lib.rt:52:9
 fill-slot-requires : tie.Need-fill-slot-requires Inv-loop μ-loop
 fill-slot-requires c κs =
-    let p = c .before .before .before .before .before .before .before .before .before .pre .0 in
-    let room = c .before .before .before .before .before .before .before .before .before .pre .1 .room in
+    let s = c .before .before .before .before .before .before .before .before .before in
+    let p = s .pre .0 in
     let below = in-slots (p .sized) (c .before .before .before .before .loop-test .taken) in
-    let inside = row-there (p .sized .ready) below (filled-room (c .before .before .before .before .before .loop .inv) room) in
+    let inside = row-there (p .sized .ready) below (filled-room (c .before .before .before .before .before .loop .inv) (s .pre .1 .room)) in
     row-fits _ _ p below inside (c .before .before .wide .ensures) (c .before .load .ensures .is)
 
 -- src/lib.rt:53:9
@@ -84,9 +84,13 @@ loop-less c = omega arith
 -- src/lib.rt:47:5
 loop-again : tie.Need-loop-again Inv-loop μ-loop
 loop-again c =
-    let p = c .before .before .before .before .before .before .before .before .before .before .before .before .pre .0 .sized in
-    filled-more (c .before .before .before .before .before .before .before .before .loop .inv) (c .before .before .before .before .before .before .before .before .before .before .before .before .pre .1 .room) (in-slots p (c .before .before .before .before .before .before .before .loop-test .taken)) (p .ready .header .modules-is)
-    (c .before .before .before .before .before .wide .ensures) (c .before .before .before .before .load .ensures .is) (c .before .before .fill-slot .ensures)
+    let s = c .before .before .before .before .before .before .before .before .before .before .before .before in
+    let p = s .pre .0 .sized in
+    let below = in-slots p (c .before .before .before .before .before .before .before .loop-test .taken) in
+    let n = c .before .before .before .before .before .wide .ensures in
+    let load = c .before .before .before .before .load .ensures .is in
+    let l = c .before .before .before .before .before .before .before .before .loop .inv in
+    filled-more l (s .pre .1 .room) below (p .ready .header .modules-is) n load (c .before .before .fill-slot .ensures)
 
 -- src/lib.rt:39:1
 same-length : tie.Need-same-length Inv-loop μ-loop
@@ -94,7 +98,9 @@ same-length c = filled-size (c .before .loop .inv) (c .before .before .before .b
 
 -- src/lib.rt:39:1
 returns : tie.Need-returns Inv-loop μ-loop
-returns c = filled-all (c .before .loop .inv) (c .before .before .before .before .before .pre .1 .room) (no-more-slots (c .before .before .before .before .before .pre .0 .sized) (c .loop-test .left))
+returns c =
+    let s = c .before .before .before .before .before in
+    filled-all (c .before .loop .inv) (s .pre .1 .room) (no-more-slots (s .pre .0 .sized) (c .loop-test .left))
 
 pub write-sheet-spec : {M : Type 1} → statement M
 write-sheet-spec =
