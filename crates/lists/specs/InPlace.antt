@@ -9,7 +9,7 @@ use native.Mathlib.Omega.{arith}
 use lib.ListN.{length, getD, take, drop, List·getD-append}
 use lib.Seq.{ext-getD, take-at, drop-at, drop-drop}
 use Rattle.lists.specs.Lists.{tabulate, length-tabulate, getD-tabulate, rows, length-rows, getD-rows}
-use Rattle.lists.specs.Filling.{Upto, Downto}
+use Rattle.lists.specs.Filling.{Upto}
 
 -- tables of functions that agree below n
 pub tabulate-same : (n : ℕ) {f g : ℕ → ℕ} → ((k : ℕ) → k < n → f k ≡ g k) → tabulate n f ≡ tabulate n g
@@ -23,10 +23,6 @@ tabulate-same n {f} {g} h =
 pub upto-first : {f : ℕ → ℕ} (old : List ℕ) → getD old 0 0 ≡ f 0 → Upto f 1 old old
 upto-first {f} old e =
     record { size = refl; done = λ k h _. let same : k ≡ 0 = omega arith in rw same e; kept = λ k _. refl }
-
--- a loop downwards from the last place
-pub downto-last : (f : ℕ → ℕ) (old : List ℕ) (j : ℕ) → j + 1 ≡ length old → Downto f (j + 1) old old
-downto-last f old j e = record { size = refl; done = λ k h b. absurd (omega arith); kept = λ k _. refl }
 
 -- Rows of m entries each at the front of a list.
 module _ (m : ℕ) (f : ℕ → List ℕ) (sized : (t : ℕ) → length (f t) ≡ m) where

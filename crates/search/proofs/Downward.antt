@@ -6,8 +6,7 @@ use native.Mathlib.Nat.{sub-self}
 use native.Mathlib.Omega.{arith}
 use lib.ListN.{length, getD, set}
 use lib.Seq.{getD-set-other}
-use Rattle.lists.specs.Filling.{Downto, downto-more, downto-all}
-use Rattle.lists.specs.InPlace.{downto-last}
+use Rattle.lists.specs.Filling.{Downto, downto-none, downto-more, downto-all}
 use Rattle.model.specs.Instance.{Instance, instanceOf}
 use Rattle.columns.specs.Column.{Choice, countAtPlace, lastPlace, fromTop, downward}
 use Rattle.search.specs.Written.{servedAt, servedOrAbove, costIn, Holds}
@@ -53,11 +52,13 @@ module _
       best ≡ servedAt (instanceOf s) (countAtPlace counts j) l (costIn column₀ j) j → Loop column₀ places₀ best j
   down-starts {best} {j} last e =
       let two = p .allowed .two in
+      let column-end : j + 1 ≡ length column₀ = omega (arith, p .column-size) in
+      let places-end : j + 1 ≡ length places₀ = omega (arith, p .places-size) in
       record {
         inside = omega arith;
         here = e ∙ sym (downward-last (instanceOf s) counts l (costIn column₀) j last);
-        costs = downto-last _ column₀ j (omega (arith, p .column-size));
-        at-places = downto-last _ places₀ j (omega (arith, p .places-size));
+        costs = rw column-end (downto-none _ column₀);
+        at-places = rw places-end (downto-none _ places₀);
       }
 
   module _ {column places : List ℕ} {best : Choice} {j : ℕ} (f : Loop column places best j) where

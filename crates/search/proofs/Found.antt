@@ -11,7 +11,7 @@ use Rattle.model.specs.Instance.{Instance, instanceOf}
 use Rattle.card.specs.declared.Header.{Header}
 use Rattle.columns.specs.Column.{column, selection, wayBack, searchedPlan, searchedCost}
 use Rattle.search.specs.Written.{columnList, lastColumn, selectionRow, selectionRows, selectionsIn, wayThrough}
-use Rattle.search.specs.Asked.{Leading, SlotsAhead, Searchable}
+use Rattle.search.specs.Asked.{Leading, Searchable}
 use Rattle.search.proofs.Allowed.{counts-small}
 use Rattle.search.proofs.Columns.{upward-inside}
 use Rattle.search.proofs.Slots.{row-size}
@@ -47,11 +47,8 @@ module _ (i : Instance) (counts : List ℕ) where
         rw (there, row-entry t j h, way-same t (selection i counts 0 t j) (omega arith) (selection-inside some t j))
 
 module _ {s : List ℕ} {h : Header} {counts column₀ plan work : List ℕ} (p : Searchable s h counts column₀ plan work) where
-  pub slots-ahead : SlotsAhead s h counts column₀ work
-  slots-ahead = record { ready = p .ready; allowed = p .allowed; column-size = p .column-size; work-room = p .work-room }
-
   some-count : 1 ≤ length counts
-  some-count = omega (arith, p .allowed .two)
+  some-count = omega (arith, p .ahead .allowed .two)
 
   module _ {work₁ : List ℕ} (kept : length work₁ ≡ length work) (filled : work₁ ≡ selectionsIn (instanceOf s) counts work) where
     pub leads-back : Leading counts work₁ plan
@@ -59,8 +56,8 @@ module _ {s : List ℕ} {h : Header} {counts column₀ plan work : List ℕ} (p 
         let slots = ap (λ (x : ℕ). x * length counts) (p .plan-size) in
         record {
           some = some-count;
-          counts-range = counts-small s (p .ready .accepted) (p .allowed);
-          room = omega (arith, p .work-room);
+          counts-range = counts-small s (p .ahead .ready .accepted) (p .ahead .allowed);
+          room = omega (arith, p .ahead .work-room);
           inside = λ k b. rw filled (row-inside (instanceOf s) counts work some-count k (omega arith));
         }
 

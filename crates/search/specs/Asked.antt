@@ -58,16 +58,10 @@ pub record Choices (price : ℕ) (counts column places : List ℕ) : Type 0 wher
   pub places-size : length places ≡ length counts
   pub small : AtMost (2 * mostCost) column
 
+-- such a slot, with the switching price
 pub record PricedSlot (s : List ℕ) (top price : ℕ) (counts : List ℕ) (l : ℕ) (column places : List ℕ) : Type 0 where
   pub slot : SlotAfter s top counts l column places
   pub price-is : price ≡ switchingPrice (instanceOf s)
-
--- an accepted card with its header, the allowed counts, a column with an entry for each place, and a byte for each place and slot
-pub record SlotsAhead (s : List ℕ) (h : Header) (counts column work : List ℕ) : Type 0 where
-  pub ready : Ready s h
-  pub allowed : CountsUpTo counts (instanceOf s .modules)
-  pub column-size : length column ≡ length counts
-  pub work-room : length counts * instanceOf s .slots ≤ length work
 
 -- rows of selections for a plan's slots: each byte is a place, and each count fits in a byte
 pub record Leading (counts work plan : List ℕ) : Type 0 where
@@ -76,11 +70,15 @@ pub record Leading (counts work plan : List ℕ) : Type 0 where
   pub room : length plan * length counts ≤ length work
   pub inside : (k : ℕ) → k < length plan * length counts → getD work k 0 < length counts
 
--- An accepted card with its header, the allowed counts, a column with an entry for each place, a plan with a byte for each slot
--- and a work buffer with a byte for each place and slot.
-pub record Searchable (s : List ℕ) (h : Header) (counts column plan work : List ℕ) : Type 0 where
+-- an accepted card with its header, the allowed counts, a column with an entry for each place, and a work buffer with a byte for
+-- each place and slot
+pub record SlotsAhead (s : List ℕ) (h : Header) (counts column work : List ℕ) : Type 0 where
   pub ready : Ready s h
   pub allowed : CountsUpTo counts (instanceOf s .modules)
   pub column-size : length column ≡ length counts
-  pub plan-size : length plan ≡ instanceOf s .slots
   pub work-room : length counts * instanceOf s .slots ≤ length work
+
+-- what the search asks for: besides all this, a plan with a byte for each slot
+pub record Searchable (s : List ℕ) (h : Header) (counts column plan work : List ℕ) : Type 0 where
+  pub ahead : SlotsAhead s h counts column work
+  pub plan-size : length plan ≡ instanceOf s .slots

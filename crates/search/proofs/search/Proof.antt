@@ -1,5 +1,5 @@
 use native.Mathlib.Omega.{arith}
-use Rattle.search.proofs.Found.{slots-ahead, leads-back, plan-found, cost-found, cleared}
+use Rattle.search.proofs.Found.{leads-back, plan-found, cost-found, cleared}
 use borrow.Author.Needs.{needs}
 use Rattle.search.proofs.search.Statement.{statement}
 use Rattle.search.proofs.search.Tie as tie
@@ -10,12 +10,12 @@ use Rattle.search.proofs.all_slots.Reads as all-slots-reads
 use Rattle.search.proofs.way_back.Reads as way-back-reads
 
 all-slots-requires : tie.Need-all-slots-requires
-all-slots-requires c κs = slots-ahead (c .before .before .before .before .before .before .before .pre)
+all-slots-requires c κs = c .before .before .before .before .before .before .before .pre .ahead
 
 slice-read-cost : tie.Need-slice-read-cost
 slice-read-cost c =
     let p = c .before .before .before .before .before .before .before .before .before .before .before .before .before .pre in
-    omega (arith, p .allowed .two, p .column-size, c .before .before .before .before .before .all-slots .kept .1 .1 .1 .0)
+    omega (arith, p .ahead .allowed .two, p .ahead .column-size, c .before .before .before .before .before .all-slots .kept .1 .1 .1 .0)
 
 way-back-requires : tie.Need-way-back-requires
 way-back-requires c κs =
