@@ -1,6 +1,5 @@
 // The two planners on an accepted card: one search, over all counts or over the coarse ones.
 use card::Header;
-
 ghost use mathlib.Core.Path.{_≡_};
 ghost use lib.ListN.{length, replicate};
 ghost use Rattle.model.specs.Instance.{instanceOf};
