@@ -6,8 +6,9 @@ use model::Refusal;
 ghost use mathlib.Core.Path.{_≡_};
 ghost use Rattle.model.specs.Answers.{refusalNumber};
 ghost use Rattle.model.specs.declared.Answer.the-variants.{Refused};
-ghost use Rattle.model.specs.Calls.{Gives, answer, checkCard, runningCost, makeSheet, markSheet, roundCount, sheetAtExit};
-ghost use Rattle.model.specs.Promises.{MarkedAlike, AcceptsExactly};
+ghost use Rattle.model.specs.Calls.{Gives, answer, checkCard, runningCost, planExact, planCoarse, makeSheet, markSheet, roundCount};
+ghost use Rattle.model.specs.Calls.{exactPlanAtExit, exactWorkAtExit, coarsePlanAtExit, coarseWorkAtExit, sheetAtExit};
+ghost use Rattle.model.specs.Promises.{OwnSheet, AtMostTimes, MarkedAlike, AcceptsExactly};
 ghost use Rattle.card.specs.Checking.{Ready};
 
 // What every call returns: a refusal's number and cost 0, or number 0 and the cost.
@@ -185,6 +186,77 @@ pub extern "C" fn lamp_mark(card: &[u8], sheet: &[u8]) -> LampAnswer
 {
     match card::check(card) {
         Checked::Accepted(h) => mark(card, h, sheet),
+        Checked::NotAccepted(x) => refused(x),
+    }
+}
+
+// The exact planner on an accepted card.
+fn plan_exact(card: &[u8], h: Header, plan: &mut [u8], work: &mut [u8]) -> LampAnswer
+    requires { ⌜ Ready (now card) h ⌝ }
+    ensures { λ r. ⌜ Gives (answer (planExact (now (card .entry)) (now (plan .entry)) (now (work .entry)))) (r .number) (r .cost) ⌝ }
+    ensures { λ r. ⌜ now (plan .exit) ≡ exactPlanAtExit (now (card .entry)) (now (plan .entry)) (now (work .entry)) ⌝ }
+    ensures { λ r. ⌜ now (work .exit) ≡ exactWorkAtExit (now (card .entry)) (now (plan .entry)) (now (work .entry)) ⌝ }
+{
+    let slots = h.slots as usize;
+    let asked = ((h.modules + 1) * h.slots) as usize;
+    if plan.len() < slots {
+        return refused(Refusal::BufferTooShort);
+    }
+    if work.len() < asked {
+        return refused(Refusal::BufferTooShort);
+    }
+    let cost = planners::exact(card, h, &mut plan[..slots], &mut work[..asked]);
+    LampAnswer { number: 0, cost }
+}
+
+// The plan of least cost over all sheets: refusals 1 to 8, 10.
+#[no_mangle]
+pub extern "C" fn lamp_plan_exact(card: &[u8], plan: &mut [u8], work: &mut [u8]) -> LampAnswer
+    ensures outcome { λ r. ⌜ Gives (answer (planExact (now (card .entry)) (now (plan .entry)) (now (work .entry)))) (r .number) (r .cost) ⌝ }
+    ensures plan_bytes { λ r. ⌜ now (plan .exit) ≡ exactPlanAtExit (now (card .entry)) (now (plan .entry)) (now (work .entry)) ⌝ }
+    ensures work_bytes { λ r. ⌜ now (work .exit) ≡ exactWorkAtExit (now (card .entry)) (now (plan .entry)) (now (work .entry)) ⌝ }
+    ensures own_sheet { λ r. ⌜ OwnSheet (now (card .entry)) (now (plan .exit)) (r .number) (r .cost) ⌝ }
+    ensures least { λ r. ⌜ AtMostTimes 1 (now (card .entry)) (r .number) (r .cost) ⌝ }
+{
+    match card::check(card) {
+        Checked::Accepted(h) => plan_exact(card, h, plan, work),
+        Checked::NotAccepted(x) => refused(x),
+    }
+}
+
+// The coarse planner on an accepted card.
+fn plan_coarse(card: &[u8], h: Header, plan: &mut [u8], work: &mut [u8]) -> LampAnswer
+    requires { ⌜ Ready (now card) h ⌝ }
+    ensures { λ r. ⌜ Gives (answer (planCoarse (now (card .entry)) (now (plan .entry)) (now (work .entry)))) (r .number) (r .cost) ⌝ }
+    ensures { λ r. ⌜ now (plan .exit) ≡ coarsePlanAtExit (now (card .entry)) (now (plan .entry)) (now (work .entry)) ⌝ }
+    ensures { λ r. ⌜ now (work .exit) ≡ coarseWorkAtExit (now (card .entry)) (now (plan .entry)) (now (work .entry)) ⌝ }
+{
+    let slots = h.slots as usize;
+    let asked = (10 * h.slots) as usize;
+    if !card::never_falls(card, h.top) {
+        return refused(Refusal::NotMonotone);
+    }
+    if plan.len() < slots {
+        return refused(Refusal::BufferTooShort);
+    }
+    if work.len() < asked {
+        return refused(Refusal::BufferTooShort);
+    }
+    let cost = planners::coarse(card, h, &mut plan[..slots], &mut work[..asked]);
+    LampAnswer { number: 0, cost }
+}
+
+// The least plan with counts 0, the powers of two up to m, and m: refusals 1 to 10.
+#[no_mangle]
+pub extern "C" fn lamp_plan_coarse(card: &[u8], plan: &mut [u8], work: &mut [u8]) -> LampAnswer
+    ensures outcome { λ r. ⌜ Gives (answer (planCoarse (now (card .entry)) (now (plan .entry)) (now (work .entry)))) (r .number) (r .cost) ⌝ }
+    ensures plan_bytes { λ r. ⌜ now (plan .exit) ≡ coarsePlanAtExit (now (card .entry)) (now (plan .entry)) (now (work .entry)) ⌝ }
+    ensures work_bytes { λ r. ⌜ now (work .exit) ≡ coarseWorkAtExit (now (card .entry)) (now (plan .entry)) (now (work .entry)) ⌝ }
+    ensures own_sheet { λ r. ⌜ OwnSheet (now (card .entry)) (now (plan .exit)) (r .number) (r .cost) ⌝ }
+    ensures twice { λ r. ⌜ AtMostTimes 2 (now (card .entry)) (r .number) (r .cost) ⌝ }
+{
+    match card::check(card) {
+        Checked::Accepted(h) => plan_coarse(card, h, plan, work),
         Checked::NotAccepted(x) => refused(x),
     }
 }

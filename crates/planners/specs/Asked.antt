@@ -28,9 +28,9 @@ pub record CoarseRoom (s : List ℕ) (h : Header) (plan work : List ℕ) : Type 
   pub plan-size : length plan ≡ instanceOf s .slots
   pub work-room : coarseWork (instanceOf s) ≤ length work
 
--- room for all counts of the largest rack, and for its coarse counts
-pub record ExactCounts (counts : List ℕ) : Type 0 where
-  pub room : length counts ≡ 201
+-- room for a number for each count of the largest rack, and for its coarse counts
+pub record RackRoom (numbers : List ℕ) : Type 0 where
+  pub room : length numbers ≡ 201
 
 pub record CoarseCounts (counts : List ℕ) : Type 0 where
   pub room : length counts ≡ 10

@@ -5,7 +5,19 @@ ghost use lib.ListN.{length, replicate};
 ghost use Rattle.model.specs.Instance.{instanceOf};
 ghost use Rattle.model.specs.Plans.{planCost, leastPlan};
 ghost use Rattle.model.specs.Calls.{exactPlan, coarsePlan};
-ghost use Rattle.planners.specs.Asked.{PlanOver, ExactRoom, ExactCounts, CoarseRoom, CoarseCounts};
+ghost use Rattle.planners.specs.Asked.{PlanOver, RackRoom, ExactRoom, CoarseRoom, CoarseCounts};
+
+// The least plan over a list of allowed counts, with room for a column.
+fn plan_with(card: &[u8], h: Header, counts: &[u64], column: &mut [u64], plan: &mut [u8], work: &mut [u8]) -> u64
+    requires { ⌜ PlanOver (now card) h (now counts) (now plan) (now work) ⌝ }
+    requires { ⌜ RackRoom (now column) ⌝ }
+    ensures { λ r. ⌜ r ≡ planCost (instanceOf (now (card .entry))) (leastPlan (instanceOf (now (card .entry))) (now (counts .entry))) ⌝ }
+    ensures { λ _. ⌜ now (plan .exit) ≡ leastPlan (instanceOf (now (card .entry))) (now (counts .entry)) ⌝ }
+    ensures { λ _. ⌜ now (work .exit) ≡ replicate (length (now (work .entry))) 0 ⌝ }
+{
+    let width = counts.len();
+    search::search(card, h, counts, &mut column[..width], plan, work)
+}
 
 // The least plan over a list of allowed counts.
 fn plan_over(card: &[u8], h: Header, counts: &[u64], plan: &mut [u8], work: &mut [u8]) -> u64
@@ -15,14 +27,13 @@ fn plan_over(card: &[u8], h: Header, counts: &[u64], plan: &mut [u8], work: &mut
     ensures { λ _. ⌜ now (work .exit) ≡ replicate (length (now (work .entry))) 0 ⌝ }
 {
     let mut column = [0u64; 201];
-    let width = counts.len();
-    search::search(card, h, counts, &mut column[..width], plan, work)
+    plan_with(card, h, counts, &mut column, plan, work)
 }
 
 // The exact plan, with room for all counts from 0 to m.
 fn exact_over(card: &[u8], h: Header, counts: &mut [u64], plan: &mut [u8], work: &mut [u8]) -> u64
     requires { ⌜ ExactRoom (now card) h (now plan) (now work) ⌝ }
-    requires { ⌜ ExactCounts (now counts) ⌝ }
+    requires { ⌜ RackRoom (now counts) ⌝ }
     ensures { λ r. ⌜ r ≡ planCost (instanceOf (now (card .entry))) (exactPlan (instanceOf (now (card .entry)))) ⌝ }
     ensures { λ _. ⌜ now (plan .exit) ≡ exactPlan (instanceOf (now (card .entry))) ⌝ }
     ensures { λ _. ⌜ now (work .exit) ≡ replicate (length (now (work .entry))) 0 ⌝ }

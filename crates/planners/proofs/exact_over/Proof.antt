@@ -1,3 +1,7 @@
+use mathlib.Core.Path.{_∙_, ap}
+use Rattle.model.specs.Counts.{allCounts}
+use Rattle.planners.proofs.Fronts.{front-size, all-within, all-front}
+use Rattle.planners.proofs.Least.{rack-fits, over-all, over-as, planned-over}
 use borrow.Author.Needs.{needs}
 use Rattle.planners.proofs.exact_over.Statement.{statement}
 use Rattle.planners.proofs.exact_over.Tie as tie
@@ -12,11 +16,11 @@ add-width c = search needs
 
 -- src/lib.rt:32:22
 slice-relend-prefix-fill-all : tie.Need-slice-relend-prefix-fill-all
-slice-relend-prefix-fill-all c = ?
+slice-relend-prefix-fill-all c = rack-fits (c .before .before .before .before .pre .0 .ready) (c .before .before .before .before .pre .1)
 
 -- src/lib.rt:32:22
 slice-aggregate-fill-all : tie.Need-slice-aggregate-fill-all
-slice-aggregate-fill-all c = ?
+slice-aggregate-fill-all c = front-size _ _ (rack-fits (c .before .before .before .before .before .pre .0 .ready) (c .before .before .before .before .before .pre .1))
 
 -- src/lib.rt:32:5
 fill-all-requires : tie.Need-fill-all-requires
@@ -24,15 +28,21 @@ fill-all-requires c κs = search needs
 
 -- src/lib.rt:33:24
 slice-reshare-prefix-plan-over : tie.Need-slice-reshare-prefix-plan-over
-slice-reshare-prefix-plan-over c = ?
+slice-reshare-prefix-plan-over c =
+    all-within (c .before .before .before .before .before .before .before .before .args .h .modules) (c .before .before .before .before .before .before .before .before .args .counts .now) (c .before .before .fill-all .last .0) (rack-fits (c .before .before .before .before .before .before .before .before .pre .0 .ready) (c .before .before .before .before .before .before .before .before .pre .1)) (c .before .before .fill-all .ensures)
 
 -- src/lib.rt:33:24
 slice-aggregate-plan-over : tie.Need-slice-aggregate-plan-over
-slice-aggregate-plan-over c = ?
+slice-aggregate-plan-over c =
+    front-size _ _
+    (all-within (c .before .before .before .before .before .before .before .before .before .args .h .modules) (c .before .before .before .before .before .before .before .before .before .args .counts .now) (c .before .before .before .fill-all .last .0) (rack-fits (c .before .before .before .before .before .before .before .before .before .pre .0 .ready) (c .before .before .before .before .before .before .before .before .before .pre .1)) (c .before .before .before .fill-all .ensures))
 
 -- src/lib.rt:33:5
 plan-over-requires : tie.Need-plan-over-requires
-plan-over-requires c κs = ?
+plan-over-requires c κs =
+    over-as
+    (all-front (c .before .before .before .before .before .before .before .before .before .before .before .args .h .modules) (c .before .before .before .before .before .before .before .before .before .before .before .args .counts .now) (c .before .before .before .before .before .fill-all .last .0) (rack-fits (c .before .before .before .before .before .before .before .before .before .before .before .pre .0 .ready) (c .before .before .before .before .before .before .before .before .before .before .before .pre .1)) (c .before .before .before .before .before .fill-all .ensures) ∙ ap allCounts (c .before .before .before .before .before .before .before .before .before .before .before .pre .0 .ready .header .modules-is))
+    (over-all (c .before .before .before .before .before .before .before .before .before .before .before .pre .0))
 
 -- src/lib.rt:24:1
 same-length : tie.Need-same-length
@@ -48,7 +58,10 @@ same-length-3 c = search needs
 
 -- src/lib.rt:24:1
 returns : tie.Need-returns
-returns c = ?
+returns c =
+    planned-over _ _ _
+    (all-front (c .before .before .before .before .before .before .before .before .before .before .before .before .before .before .before .before .args .h .modules) (c .before .before .before .before .before .before .before .before .before .before .before .before .before .before .before .before .args .counts .now) (c .before .before .before .before .before .before .before .before .before .before .fill-all .last .0) (rack-fits (c .before .before .before .before .before .before .before .before .before .before .before .before .before .before .before .before .pre .0 .ready) (c .before .before .before .before .before .before .before .before .before .before .before .before .before .before .before .before .pre .1)) (c .before .before .before .before .before .before .before .before .before .before .fill-all .ensures) ∙ ap allCounts (c .before .before .before .before .before .before .before .before .before .before .before .before .before .before .before .before .pre .0 .ready .header .modules-is))
+    (c .before .before .before .before .plan-over .ensures)
 
 pub exact-over-spec : {M : Type 1} → statement M
 exact-over-spec =
