@@ -28,7 +28,7 @@ plan-over-requires c κs =
     let m-is = c .before .before .before .before .before .before .before .before .before .before .before .pre .0 .ready .header .modules-is in
     over-as (counts-front (c .before .before .before .before .before .before .before .before .before .before .before .args .h .modules) (c .before .before .before .before .before .before .before .before .before .before .before .args .counts .now) (c .before .before .before .before .before .fill-coarse .ensures .0) (c .before .before .before .before .before .fill-coarse .ensures .1) ∙ ap coarseCounts m-is)
     (over-coarse (c .before .before .before .before .before .before .before .before .before .before .before .pre .0)
-    (at-most-ten _ (c .before .before .before .before .before .before .before .before .before .before .before .pre .1) (c .before .before .before .before .before .fill-coarse .kept .0) (c .before .before .before .before .before .fill-coarse .ensures .0) (counts-within (c .before .before .before .before .before .before .before .before .before .before .before .args .h .modules) (c .before .before .before .before .before .before .before .before .before .before .before .args .counts .now) (c .before .before .before .before .before .fill-coarse .ensures .0) (c .before .before .before .before .before .fill-coarse .ensures .1)) m-is))
+    (at-most-ten (c .before .before .before .before .before .fill-coarse .last .0) (c .before .before .before .before .before .before .before .before .before .before .before .pre .1) (c .before .before .before .before .before .fill-coarse .kept .0) (c .before .before .before .before .before .fill-coarse .ensures .0) (counts-within (c .before .before .before .before .before .before .before .before .before .before .before .args .h .modules) (c .before .before .before .before .before .before .before .before .before .before .before .args .counts .now) (c .before .before .before .before .before .fill-coarse .ensures .0) (c .before .before .before .before .before .fill-coarse .ensures .1)) m-is))
 
 -- src/lib.rt:48:1
 same-length : tie.Need-same-length
