@@ -5,3 +5,4 @@ mod Rounding
 mod Marking
 mod Making
 mod Planning
+mod Promised

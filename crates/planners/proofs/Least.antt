@@ -35,7 +35,7 @@ module _ {s : List ℕ} {h : Header} {counts plan work : List ℕ} (p : PlanOver
   searchable e =
       record {
         ahead = record { ready = p .ready; allowed = p .allowed; column-size = e; work-room = p .work-room };
-        plan-size = p .plan-size
+        plan-size = p .plan-size;
       }
 
   -- the search's results are the least plan's
@@ -64,7 +64,7 @@ over-all {s} {h} {plan} {work} r =
       allowed = up-to (all-ascending m (range .0)) (omega (arith, range .1));
       short = omega (arith, range .1);
       plan-size = r .plan-size;
-      work-room = rw size (r .work-room)
+      work-room = rw size (r .work-room);
     }
 
 -- over the coarse counts, of which there are at most ten
@@ -78,7 +78,7 @@ over-coarse {s} {h} {plan} {work} r ten =
       allowed = up-to (coarse-ascending (instanceOf s .modules) (range .0)) (omega arith);
       short = omega arith;
       plan-size = r .plan-size;
-      work-room = le-trans (mul-le-mul-right (instanceOf s .slots) ten) (r .work-room)
+      work-room = le-trans (mul-le-mul-right (instanceOf s .slots) ten) (r .work-room);
     }
 
 -- a header's rack fits into the room for the largest one
@@ -90,7 +90,7 @@ coarse-fits {s} r n =
     record {
       some = omega (arith, r .header .modules-is, modules-range s (r .accepted) .0);
       most = omega (arith, r .header .modules-is, modules-range s (r .accepted) .1);
-      room = omega (arith, n .room)
+      room = omega (arith, n .room);
     }
 
 pub over-as :

@@ -8,7 +8,14 @@ ghost use Rattle.model.specs.Calls.{exactPlan, coarsePlan};
 ghost use Rattle.planners.specs.Asked.{PlanOver, RackRoom, ExactRoom, CoarseRoom, CoarseCounts};
 
 // The least plan over a list of allowed counts, with room for a column.
-fn plan_with(card: &[u8], h: Header, counts: &[u64], column: &mut [u64], plan: &mut [u8], work: &mut [u8]) -> u64
+fn plan_with(
+    card: &[u8],
+    h: Header,
+    counts: &[u64],
+    column: &mut [u64],
+    plan: &mut [u8],
+    work: &mut [u8],
+) -> u64
     requires { ⌜ PlanOver (now card) h (now counts) (now plan) (now work) ⌝ }
     requires { ⌜ RackRoom (now column) ⌝ }
     ensures { λ r. ⌜ r ≡ planCost (instanceOf (now (card .entry))) (leastPlan (instanceOf (now (card .entry))) (now (counts .entry))) ⌝ }

@@ -1,0 +1,115 @@
+-- Condition 3 for a planner that gives the answer of its definition and leaves the plan of its definition.
+use Prim.Native.Nat.{ℕ, _*_, _≤_}
+use mathlib.Core.Path.{_≡_, sym, _∙_, ap}
+use mathlib.Core.Bool.{true}
+use mathlib.Core.List.{List, [], _∷_, _++_}
+use native.Mathlib.Nat.{one-mul}
+use native.Mathlib.Omega.{arith}
+use lib.ListN.{length, take, drop}
+use lib.Seq.{take-at}
+use Rattle.model.specs.declared.Refusal.the-variants.{NotMonotone, BufferTooShort}
+use Rattle.model.specs.declared.Answer.{Answer}
+use Rattle.model.specs.declared.Answer.the-variants.{Cost, Refused}
+use Rattle.model.specs.Answers.{numberOf}
+use Rattle.model.specs.Instance.{instanceOf}
+use Rattle.model.specs.Counts.{allCounts, coarseCounts}
+use Rattle.model.specs.Sheets.{serves, sheetCost}
+use Rattle.model.specs.Plans.{planCost, leastPlan, sheetOf}
+use Rattle.model.specs.Calls.{Gives, checkCard, planExact, planCoarse, answer, requestOf, refusals, successCost, atExit, exactPlanAtExit, coarsePlanAtExit}
+use Rattle.model.specs.Promises.{OwnSheet, AtMostTimes}
+use Rattle.laws.specs.Acceptance.{modules-range}
+use Rattle.laws.specs.Lowest.{lowest-passed}
+use Rattle.laws.specs.OnCard.{on-card-passed, on-card-accepted}
+use Rattle.theory.specs.Setting.{Ascending, NeverFalls}
+use Rattle.theory.specs.Lists.{all-ascending, coarse-ascending}
+use Rattle.theory.specs.Refusals.{succeeded}
+use Rattle.theory.specs.Condition3.{accepted-plannable, least-plan-fits, least-sheet, exact-least, coarse-twice, monotone-never-falls}
+
+-- One argument for both planners: the answer a, where it is a cost, is the least plan's over the counts, on an accepted card.
+module _
+    (c counts : List ℕ) (a : Answer) {number cost : ℕ} (gives : Gives a number cost)
+    (accepted : numberOf a ≡ 0 → answer (checkCard c) ≡ Cost 0)
+    (least : numberOf a ≡ 0 → a ≡ Cost (planCost (instanceOf c) (leastPlan (instanceOf c) counts)))
+    (asc : answer (checkCard c) ≡ Cost 0 → Ascending counts (instanceOf c .modules)) where
+  cost-of : {x : ℕ} → a ≡ Cost x → cost ≡ x
+  cost-of e = gives .cost-is ∙ rw e
+
+  zero-of : number ≡ 0 → numberOf a ≡ 0
+  zero-of e = sym (gives .number-is) ∙ e
+
+  taken : (entry : List ℕ) → number ≡ 0 → take (instanceOf c .slots) (atExit a (leastPlan (instanceOf c) counts) entry) ≡ leastPlan (instanceOf c) counts
+  unfolding atExit
+  taken entry e =
+      let given = accepted (zero-of e) in
+      rw (least (zero-of e))
+      (take-at (leastPlan (instanceOf c) counts) _ (instanceOf c .slots)
+      (least-plan-fits (accepted-plannable c given) counts (asc given) .slotwise))
+
+  best :
+      number ≡ 0 →
+      (serves (instanceOf c) (sheetOf (instanceOf c) (leastPlan (instanceOf c) counts)) ≡ true) ×
+      (sheetCost (instanceOf c) (sheetOf (instanceOf c) (leastPlan (instanceOf c) counts)) ≡ planCost (instanceOf c) (leastPlan (instanceOf c) counts))
+  best e = let given = accepted (zero-of e) in least-sheet (accepted-plannable c given) counts (asc given)
+
+  own-sheet : {plan : List ℕ} (entry : List ℕ) → plan ≡ atExit a (leastPlan (instanceOf c) counts) entry → OwnSheet c plan number cost
+  own-sheet entry p =
+      record {
+        sheet-serves = λ e. rw (p, taken entry e) (best e .0);
+        sheet-costs = λ e. rw (p, taken entry e) (best e .1 ∙ sym (cost-of (least (zero-of e))));
+      }
+
+  at-most :
+      (r : ℕ) →
+      (numberOf a ≡ 0 → (s : List ℕ) → serves (instanceOf c) s ≡ true → planCost (instanceOf c) (leastPlan (instanceOf c) counts) ≤ r * sheetCost (instanceOf c) s) →
+      AtMostTimes r c number cost
+  at-most r bound e s h = rw (cost-of (least (zero-of e))) (bound (zero-of e) s h)
+
+-- The exact planner.
+module _ (c p w : List ℕ) {number cost : ℕ} (gives : Gives (answer (planExact c p w)) number cost) where
+  exact-on : numberOf (answer (planExact c p w)) ≡ 0 → answer (checkCard c) ≡ Cost 0
+  unfolding answer requestOf refusals
+  exact-on e = on-card-accepted c _ _ _ _ (succeeded (planExact c p w) e)
+
+  exact-success : numberOf (answer (planExact c p w)) ≡ 0 → answer (planExact c p w) ≡ Cost (planCost (instanceOf c) (leastPlan (instanceOf c) (allCounts (instanceOf c .modules))))
+  unfolding successCost
+  exact-success e = succeeded (planExact c p w) e
+
+  all-asc : answer (checkCard c) ≡ Cost 0 → Ascending (allCounts (instanceOf c .modules)) (instanceOf c .modules)
+  all-asc given = all-ascending (instanceOf c .modules) (modules-range c given .0)
+
+  pub exact-own : {plan : List ℕ} → plan ≡ exactPlanAtExit c p w → OwnSheet c plan number cost
+  unfolding exactPlanAtExit
+  exact-own e = own-sheet c _ (answer (planExact c p w)) gives exact-on exact-success all-asc p e
+
+  pub exact-bound : AtMostTimes 1 c number cost
+  exact-bound =
+      at-most c _ (answer (planExact c p w)) gives exact-on exact-success all-asc 1
+      (λ e s h. rw one-mul (exact-least (accepted-plannable c (exact-on e)) s h))
+
+-- The coarse planner.
+module _ (c p w : List ℕ) {number cost : ℕ} (gives : Gives (answer (planCoarse c p w)) number cost) where
+  coarse-on : numberOf (answer (planCoarse c p w)) ≡ 0 → answer (checkCard c) ≡ Cost 0
+  unfolding answer requestOf refusals
+  coarse-on e = on-card-accepted c _ _ _ _ (succeeded (planCoarse c p w) e)
+
+  coarse-success : numberOf (answer (planCoarse c p w)) ≡ 0 → answer (planCoarse c p w) ≡ Cost (planCost (instanceOf c) (leastPlan (instanceOf c) (coarseCounts (instanceOf c .modules))))
+  unfolding successCost
+  coarse-success e = succeeded (planCoarse c p w) e
+
+  coarse-asc : answer (checkCard c) ≡ Cost 0 → Ascending (coarseCounts (instanceOf c .modules)) (instanceOf c .modules)
+  coarse-asc given = coarse-ascending (instanceOf c .modules) (modules-range c given .0)
+
+  rises : numberOf (answer (planCoarse c p w)) ≡ 0 → NeverFalls (instanceOf c .topStep) (instanceOf c .table)
+  unfolding answer requestOf refusals
+  rises e =
+      monotone-never-falls c p w
+      (lowest-passed _ _ _ (sym (on-card-passed c _ _ (NotMonotone ∷ BufferTooShort ∷ []) _ (coarse-on e)) ∙ coarse-success e) .0)
+
+  pub coarse-own : {plan : List ℕ} → plan ≡ coarsePlanAtExit c p w → OwnSheet c plan number cost
+  unfolding coarsePlanAtExit
+  coarse-own e = own-sheet c _ (answer (planCoarse c p w)) gives coarse-on coarse-success coarse-asc p e
+
+  pub coarse-bound : AtMostTimes 2 c number cost
+  coarse-bound =
+      at-most c _ (answer (planCoarse c p w)) gives coarse-on coarse-success coarse-asc 2
+      (λ e s h. coarse-twice (accepted-plannable c (coarse-on e)) (rises e) s h)
