@@ -93,7 +93,7 @@ fn all_sheets() {
     let mut random = Random::new(51);
     let mut done = 0;
     while done < 6_000 {
-        let (modules, top, slots) = (1 + random.below(3), 1 + random.below(3), random.below(4));
+        let (modules, top, slots) = (1 + random.below(6), 1 + random.below(3), random.below(4));
         if (top + 2).pow((modules * slots) as u32) > 5_000 {
             continue;
         }
