@@ -13,31 +13,25 @@ use Rattle.card.proofs.entry.Reads as entry-reads
 use Rattle.sheets.proofs.stop_cost.Reads as stop-cost-reads
 use Rattle.sheets.proofs.wide.Reads as wide-reads
 
--- src/lib.rt:97:9
 stop-cost-requires : tie.Need-stop-cost-requires
 stop-cost-requires c κs = search needs
 
--- src/lib.rt:97:9
 returns : tie.Need-returns
 returns c = cost-stopped _ _ _ (c .before .if1 .taken) (c .before .before .before .pre .ready .header .down-is) (c .stop-cost .ensures)
 
--- src/lib.rt:99:33
 wide-requires : tie.Need-wide-requires
 wide-requires c κs = search needs
 
--- src/lib.rt:99:9
 entry-requires : tie.Need-entry-requires
 entry-requires c κs =
     let p = c .before .before .before .pre in
     rw (c .wide .ensures) (entry-within _ (p .ready .accepted) _ (active-step (c .before .if1 .left) _ (p .in-range)))
 
--- src/lib.rt:101:16
 add-result : tie.Need-add-result
 add-result c =
     let p = c .before .before .before .before .before .before .pre .ready in
     record { fits = omega (arith, p .header .up-is, up-range _ (p .accepted), c .before .before .entry .ensures .bound) }
 
--- src/lib.rt:101:9
 returns-2 : tie.Need-returns-2
 returns-2 c =
     let s = c .before .before .before .before .before .before in
@@ -45,7 +39,6 @@ returns-2 c =
     let step = c .before .before .entry .ensures .is ∙ wide in
     cost-started _ _ _ (c .before .before .before .before .if1 .left) step (c .before .if2 .taken) (s .pre .ready .header .up-is)
 
--- src/lib.rt:92:1
 returns-3 : tie.Need-returns-3
 returns-3 c =
     let s = c .before .before .before .before .before in

@@ -10,103 +10,83 @@ use Rattle.sheets.proofs.fill_slot.Reads as reads
 use Rattle.sheets.proofs.fill_slot.Lts as lts
 use Rattle.buffers.proofs.fill.Reads as fill-reads
 
--- src/lib.rt:15:9
 fill-requires : tie.Need-fill-requires
 fill-requires c κs = search needs
 
--- src/lib.rt:16:9
 same-length : tie.Need-same-length
 same-length c = search needs
 
--- src/lib.rt:16:9
 returns : tie.Need-returns
 returns c =
     let a = c .before .before .before .before .before .before .args in
     row-off _ (a .l) (a .row .now) (c .before .before .before .before .if1 .taken) (c .before .before .fill .ensures)
 
--- src/lib.rt:20:17
 rem-rest : tie.Need-rem-rest
 rem-rest c = search needs
 
--- src/lib.rt:19:17
 div-step : tie.Need-div-step
 div-step c = search needs
 
--- src/lib.rt:19:16
 cast-step : tie.Need-cast-step
 cast-step c =
     let s = c .before .before in
     let some = c .if1 .left in
     record { fits = omega (arith, step-within (s .args .n) (s .args .l) some 200 (s .pre .serves)) }
 
--- src/lib.rt:32:16
 add-next : tie.Need-add-next
 add-next c =
     let s = c .before .before in
     let some = c .if1 .left in
     record { fits = omega (arith, step-within (s .args .n) (s .args .l) some 200 (s .pre .serves)) }
 
--- src/lib.rt:21:19
 slice-relend-prefix-fill : tie.Need-slice-relend-prefix-fill
 slice-relend-prefix-fill c =
     let s = c .before .before in
     let some = c .if1 .left in
     omega (arith, rest-below (s .args .n) (s .args .l) some, s .pre .in-row)
 
--- src/lib.rt:21:19
 slice-aggregate-fill : tie.Need-slice-aggregate-fill
 slice-aggregate-fill c =
     let s = c .before .before .before in
     let some = c .before .if1 .left in
     sym (length-take-le _ _ (omega (arith, rest-below (s .args .n) (s .args .l) some, s .pre .in-row)))
 
--- src/lib.rt:21:5
 fill-requires-2 : tie.Need-fill-requires-2
 fill-requires-2 c κs = search needs
 
--- src/lib.rt:22:19
 sub-fill : tie.Need-sub-fill
 sub-fill c =
     let s = c .before .before .before .before .before .before in
     let some = c .before .before .before .before .if1 .left in
     omega (arith, rest-below (s .args .n) (s .args .l) some)
 
--- src/lib.rt:22:19
 part-fill-start : tie.Need-part-fill-start
 part-fill-start c =
     let s = c .before .before .before .before .before .before in
     let some = c .before .before .before .before .if1 .left in
     omega (arith, rest-below (s .args .n) (s .args .l) some)
 
--- src/lib.rt:22:19
 part-fill-end : tie.Need-part-fill-end
 part-fill-end c = search needs
 
--- src/lib.rt:22:5
 fill-requires-3 : tie.Need-fill-requires-3
 fill-requires-3 c κs = search needs
 
--- src/lib.rt:23:19
 sub-fill-2 : tie.Need-sub-fill-2
 sub-fill-2 c = search needs
 
--- src/lib.rt:23:19
 part-fill-start-2 : tie.Need-part-fill-start-2
 part-fill-start-2 c = search needs
 
--- src/lib.rt:23:19
 part-fill-end-2 : tie.Need-part-fill-end-2
 part-fill-end-2 c = search needs
 
--- src/lib.rt:23:5
 fill-requires-4 : tie.Need-fill-requires-4
 fill-requires-4 c κs = search needs
 
--- src/lib.rt:10:1
 same-length-2 : tie.Need-same-length-2
 same-length-2 c = search needs
 
--- src/lib.rt:10:1
 returns-2 : tie.Need-returns-2
 returns-2 c =
     let s = c .before .before .before .before .before .before .before .before .before .before .before .before .before .before in

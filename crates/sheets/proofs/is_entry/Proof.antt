@@ -6,15 +6,12 @@ use Rattle.sheets.proofs.is_entry.Reads as reads
 use Rattle.sheets.proofs.is_entry.Lts as lts
 use Rattle.sheets.proofs.wide.Reads as wide-reads
 
--- src/lib.rt:55:9
 returns : tie.Need-returns
 returns c = off-entry (c .if1 .taken) (c .before .args .top)
 
--- src/lib.rt:57:5
 wide-requires : tie.Need-wide-requires
 wide-requires c κs = search needs
 
--- src/lib.rt:51:1
 returns-2 : tie.Need-returns-2
 returns-2 c = active-entry (c .before .if1 .left) (c .before .before .args .top) (c .wide .ensures)
 

@@ -23,32 +23,26 @@ Inv-loop card h plan top cost₀ prev₀ t₀ cost prev t =
 abbrev μ-loop : tie.MeasureT-loop
 μ-loop card h plan top cost₀ prev₀ t₀ cost prev t = length plan - t
 
--- src/lib.rt:59:5
 loop-holds : tie.Need-loop-holds Inv-loop μ-loop
 unfolding countAt
 loop-holds c = (summed-none _ _, refl)
 
--- src/lib.rt:60:22
 shared-slice-read-wide : tie.Need-shared-slice-read-wide Inv-loop μ-loop
 shared-slice-read-wide c = omega arith
 
--- src/lib.rt:60:13
 wide-requires : tie.Need-wide-requires Inv-loop μ-loop
 wide-requires c κs = search needs
 
--- src/lib.rt:61:45
 load-requires : tie.Need-load-requires Inv-loop μ-loop
 load-requires c κs =
     let p = c .before .before .before .before .before .before .pre .sized in
     (load-there (p .ready) (in-slots p (c .before .before .loop-test .taken)), p .ready .header .top-is)
 
--- src/lib.rt:61:17
 slot-cost-requires : tie.Need-slot-cost-requires Inv-loop μ-loop
 slot-cost-requires c κs =
     let p = c .before .before .before .before .before .before .before .pre in
     slot-ready p (in-slots (p .sized) (c .before .before .before .loop-test .taken)) (c .before .wide .ensures) (c .load .ensures .is)
 
--- src/lib.rt:61:9
 add-cost : tie.Need-add-cost Inv-loop μ-loop
 add-cost c =
     let s = c .before .before .before .before .before .before .before .before in
@@ -59,15 +53,12 @@ add-cost c =
     let room = summed-room (l .0) (in-slots p (c .before .before .before .before .loop-test .taken)) slot (slot-at-most (s .pre)) in
     record { fits = omega (arith, room, slots-range _ (p .ready .accepted)) }
 
--- src/lib.rt:63:9
 add-t : tie.Need-add-t Inv-loop μ-loop
 add-t c = omega arith
 
--- src/lib.rt:59:5
 loop-less : tie.Need-loop-less Inv-loop μ-loop
 loop-less c = omega arith
 
--- src/lib.rt:59:5
 loop-again : tie.Need-loop-again Inv-loop μ-loop
 loop-again c =
     let s = c .before .before .before .before .before .before .before .before in
@@ -76,7 +67,6 @@ loop-again c =
     let slot = slot-is (instanceOf (s .args .card .now)) (s .args .plan .now) (l .1) n (c .before .load .ensures .is) (c .slot-cost .ensures) in
     (summed-more (l .0) (in-slots (s .pre .sized) (c .before .before .before .before .loop-test .taken)) slot, count-next (s .args .plan .now) _ n)
 
--- src/lib.rt:51:1
 returns : tie.Need-returns Inv-loop μ-loop
 unfolding countsCost
 returns c = summed-all (c .before .loop .inv .0) (no-more-slots (c .before .before .before .before .pre .sized) (c .loop-test .left))

@@ -18,40 +18,32 @@ Inv-loop plan modules t₀ t = Passed (length plan) (λ u. leb (getD plan u 0) m
 abbrev μ-loop : tie.MeasureT-loop
 μ-loop plan modules t₀ t = length plan - t
 
--- src/lib.rt:74:5
 loop-holds : tie.Need-loop-holds Inv-loop μ-loop
 loop-holds c = passed-none _ _
 
--- src/lib.rt:75:27
 shared-slice-read-wide : tie.Need-shared-slice-read-wide Inv-loop μ-loop
 shared-slice-read-wide c = omega arith
 
--- src/lib.rt:75:22
 wide-requires : tie.Need-wide-requires Inv-loop μ-loop
 wide-requires c κs = search needs
 
--- src/lib.rt:76:13
 returns : tie.Need-returns Inv-loop μ-loop
 unfolding countsUpTo
 returns c =
     passed-not (c .before .before .before .before .loop .inv) (c .before .before .before .loop-test .taken)
     (rw (← (c .before .wide .ensures)) (lt-leb _ _ (c .if1 .taken)))
 
--- src/lib.rt:78:9
 add-t : tie.Need-add-t Inv-loop μ-loop
 add-t c = omega arith
 
--- src/lib.rt:74:5
 loop-less : tie.Need-loop-less Inv-loop μ-loop
 loop-less c = omega arith
 
--- src/lib.rt:74:5
 loop-again : tie.Need-loop-again Inv-loop μ-loop
 loop-again c =
     passed-more (c .before .before .before .before .loop .inv) (c .before .before .before .loop-test .taken)
     (rw (← (c .before .wide .ensures)) (le-leb _ _ (c .if1 .left)))
 
--- src/lib.rt:69:1
 returns-2 : tie.Need-returns-2 Inv-loop μ-loop
 unfolding countsUpTo
 returns-2 c = passed-all (c .before .loop .inv) (c .loop-test .left)

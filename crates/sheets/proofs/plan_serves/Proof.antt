@@ -22,31 +22,25 @@ Inv-loop card plan top t₀ t = Passed (instanceOf card .slots) (λ u. canServe 
 abbrev μ-loop : tie.MeasureT-loop
 μ-loop card plan top t₀ t = length plan - t
 
--- src/lib.rt:90:5
 loop-holds : tie.Need-loop-holds Inv-loop μ-loop
 loop-holds c = passed-none _ _
 
--- src/lib.rt:91:25
 shared-slice-read-wide : tie.Need-shared-slice-read-wide Inv-loop μ-loop
 shared-slice-read-wide c = omega arith
 
--- src/lib.rt:91:20
 wide-requires : tie.Need-wide-requires Inv-loop μ-loop
 wide-requires c κs = search needs
 
--- src/lib.rt:91:20
 mul-most : tie.Need-mul-most Inv-loop μ-loop
 mul-most c =
     let n = byte-small (c .before .shared-slice-known3 .given (c .before .before .before .loop .t)) (c .wide .ensures) in
     record { fits = omega (arith, mul-le-mul n (c .before .before .before .before .before .before .pre .ready .header .top-bound)) }
 
--- src/lib.rt:92:19
 load-requires : tie.Need-load-requires Inv-loop μ-loop
 load-requires c κs =
     let p = c .before .before .before .before .before .before .pre in
     (load-there (p .ready) (in-slots p (c .before .before .loop-test .taken)), p .ready .header .top-is)
 
--- src/lib.rt:93:13
 returns : tie.Need-returns Inv-loop μ-loop
 unfolding planServes
 returns c =
@@ -54,22 +48,18 @@ returns c =
     passed-not (c .before .before .before .before .before .loop .inv) (in-slots p (c .before .before .before .before .loop-test .taken))
     (serve-failed _ _ _ (c .before .before .wide .ensures) (c .before .load .ensures .is) (p .ready .header .top-is) (c .if1 .taken))
 
--- src/lib.rt:95:9
 add-t : tie.Need-add-t Inv-loop μ-loop
 add-t c = omega arith
 
--- src/lib.rt:90:5
 loop-less : tie.Need-loop-less Inv-loop μ-loop
 loop-less c = omega arith
 
--- src/lib.rt:90:5
 loop-again : tie.Need-loop-again Inv-loop μ-loop
 loop-again c =
     let p = c .before .before .before .before .before .before .before .before .pre in
     passed-more (c .before .before .before .before .before .loop .inv) (in-slots p (c .before .before .before .before .loop-test .taken))
     (serve-passed _ _ _ (c .before .before .wide .ensures) (c .before .load .ensures .is) (p .ready .header .top-is) (c .if1 .left))
 
--- src/lib.rt:84:1
 returns-2 : tie.Need-returns-2 Inv-loop μ-loop
 unfolding planServes
 returns-2 c = passed-all (c .before .loop .inv) (no-more-slots (c .before .before .before .before .pre) (c .loop-test .left))

@@ -17,19 +17,15 @@ Inv-loop card h row cost₀ k₀ cost k = Summed (length row) (λ j. byteCost (i
 abbrev μ-loop : tie.MeasureT-loop
 μ-loop card h row cost₀ k₀ cost k = length row - k
 
--- src/lib.rt:219:5
 loop-holds : tie.Need-loop-holds Inv-loop μ-loop
 loop-holds c = summed-none _ _
 
--- src/lib.rt:220:41
 shared-slice-read-byte-cost : tie.Need-shared-slice-read-byte-cost Inv-loop μ-loop
 shared-slice-read-byte-cost c = omega arith
 
--- src/lib.rt:220:17
 byte-cost-requires : tie.Need-byte-cost-requires Inv-loop μ-loop
 byte-cost-requires c κs = byte-ready _ (c .before .before .before .before .before .pre) (c .before .loop-test .taken)
 
--- src/lib.rt:220:9
 add-cost : tie.Need-add-cost Inv-loop μ-loop
 add-cost c =
     let p = c .before .before .before .before .before .before .pre in
@@ -37,19 +33,15 @@ add-cost c =
     let room = summed-room l (c .before .before .loop-test .taken) (c .byte-cost .ensures) (bytes-each p allOff) in
     record { fits = omega (arith, room, p .few) }
 
--- src/lib.rt:221:9
 add-k : tie.Need-add-k Inv-loop μ-loop
 add-k c = omega arith
 
--- src/lib.rt:219:5
 loop-less : tie.Need-loop-less Inv-loop μ-loop
 loop-less c = omega arith
 
--- src/lib.rt:219:5
 loop-again : tie.Need-loop-again Inv-loop μ-loop
 loop-again c = summed-more (c .before .before .before .loop .inv) (c .before .before .loop-test .taken) (c .byte-cost .ensures)
 
--- src/lib.rt:213:1
 returns : tie.Need-returns Inv-loop μ-loop
 unfolding bytesCost
 returns c = summed-all (c .before .loop .inv) (c .loop-test .left)

@@ -17,19 +17,15 @@ Inv-loop down row cost₀ k₀ cost k = Summed (length row) (λ j. stopCost down
 abbrev μ-loop : tie.MeasureT-loop
 μ-loop down row cost₀ k₀ cost k = length row - k
 
--- src/lib.rt:206:5
 loop-holds : tie.Need-loop-holds Inv-loop μ-loop
 loop-holds c = summed-none _ _
 
--- src/lib.rt:207:33
 shared-slice-read-stop-cost : tie.Need-shared-slice-read-stop-cost Inv-loop μ-loop
 shared-slice-read-stop-cost c = omega arith
 
--- src/lib.rt:207:17
 stop-cost-requires : tie.Need-stop-cost-requires Inv-loop μ-loop
 stop-cost-requires c κs = search needs
 
--- src/lib.rt:207:9
 add-cost : tie.Need-add-cost Inv-loop μ-loop
 add-cost c =
     let s = c .before .before .before .before .before in
@@ -37,19 +33,15 @@ add-cost c =
     let room = summed-room l (c .before .before .loop-test .taken) (c .stop-cost .ensures) (stop-each (s .args .row .now) (s .pre .priced)) in
     record { fits = omega (arith, room, s .pre .short) }
 
--- src/lib.rt:208:9
 add-k : tie.Need-add-k Inv-loop μ-loop
 add-k c = omega arith
 
--- src/lib.rt:206:5
 loop-less : tie.Need-loop-less Inv-loop μ-loop
 loop-less c = omega arith
 
--- src/lib.rt:206:5
 loop-again : tie.Need-loop-again Inv-loop μ-loop
 loop-again c = summed-more (c .before .before .before .loop .inv) (c .before .before .loop-test .taken) (c .stop-cost .ensures)
 
--- src/lib.rt:200:1
 returns : tie.Need-returns Inv-loop μ-loop
 unfolding rowStopCost
 returns c = summed-all (c .before .loop .inv) (c .loop-test .left)

@@ -18,25 +18,20 @@ Inv-loop card h earlier later cost₀ x₀ cost x =
 abbrev μ-loop : tie.MeasureT-loop
 μ-loop card h earlier later cost₀ x₀ cost x = length later - x
 
--- src/lib.rt:234:5
 loop-holds : tie.Need-loop-holds Inv-loop μ-loop
 loop-holds c = summed-none _ _
 
--- src/lib.rt:235:36
 shared-slice-read-byte-cost : tie.Need-shared-slice-read-byte-cost Inv-loop μ-loop
 shared-slice-read-byte-cost c = omega arith
 
--- src/lib.rt:235:48
 shared-slice-read-byte-cost-2 : tie.Need-shared-slice-read-byte-cost-2 Inv-loop μ-loop
 shared-slice-read-byte-cost-2 c = omega arith
 
--- src/lib.rt:235:17
 byte-cost-requires : tie.Need-byte-cost-requires Inv-loop μ-loop
 byte-cost-requires c κs =
     let s = c .before .before .before .before .before .before .before in
     byte-ready _ (s .pre .0) (c .before .before .loop-test .taken)
 
--- src/lib.rt:235:9
 add-cost : tie.Need-add-cost Inv-loop μ-loop
 add-cost c =
     let s = c .before .before .before .before .before .before .before .before in
@@ -44,20 +39,16 @@ add-cost c =
     let bound = bytes-each (s .pre .0) (byteAt (s .args .earlier .now)) in
     record { fits = omega (arith, summed-room l (c .before .before .before .loop-test .taken) (c .byte-cost .ensures) bound, s .pre .0 .few) }
 
--- src/lib.rt:236:9
 add-x : tie.Need-add-x Inv-loop μ-loop
 add-x c = omega arith
 
--- src/lib.rt:234:5
 loop-less : tie.Need-loop-less Inv-loop μ-loop
 loop-less c = omega arith
 
--- src/lib.rt:234:5
 loop-again : tie.Need-loop-again Inv-loop μ-loop
 loop-again c =
     summed-more (c .before .before .before .before .loop .inv) (c .before .before .before .loop-test .taken) (c .byte-cost .ensures)
 
--- src/lib.rt:227:1
 returns : tie.Need-returns Inv-loop μ-loop
 unfolding bytesCost
 returns c = summed-all (c .before .loop .inv) (c .loop-test .left)

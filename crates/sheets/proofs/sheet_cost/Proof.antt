@@ -13,93 +13,78 @@ use Rattle.sheets.proofs.row_start_cost.Reads as row-start-cost-reads
 use Rattle.sheets.proofs.row_stop_cost.Reads as row-stop-cost-reads
 use Rattle.sheets.proofs.rows_cost.Reads as rows-cost-reads
 
--- src/lib.rt:261:9
 returns : tie.Need-returns
 returns c = sheet-empty (c .before .before .before .before .pre) (c .if1 .taken)
 
--- src/lib.rt:264:18
 sub-last : tie.Need-sub-last
 sub-last c = search needs
 
--- src/lib.rt:264:17
 mul-last : tie.Need-mul-last
 mul-last c =
     let s = c .before .before .before .before .before .before in
     let some = c .before .before .if1 .left in
     record { fits = omega (arith, header-rows (s .pre) some) }
 
--- src/lib.rt:265:41
 slice-aggregate-row-start-cost : tie.Need-slice-aggregate-row-start-cost
 slice-aggregate-row-start-cost c =
     let s = c .before .before .before .before .before .before .before in
     let some = c .before .before .before .if1 .left in
     sym (first-length _ _ _ (header-rows (s .pre) some))
 
--- src/lib.rt:265:9
 row-start-cost-requires : tie.Need-row-start-cost-requires
 row-start-cost-requires c κs =
     let s = c .before .before .before .before .before .before .before in
     let some = c .before .before .before .if1 .left in
     first-ready (s .pre) some
 
--- src/lib.rt:266:35
 slice-aggregate-rows-cost : tie.Need-slice-aggregate-rows-cost
 slice-aggregate-rows-cost c =
     let s = c .before .before .before .before .before .before .before .before .before in
     let some = c .before .before .before .before .before .if1 .left in
     sym (earlier-length _ _ _ (header-rows (s .pre) some))
 
--- src/lib.rt:266:51
 sub-rows-cost : tie.Need-sub-rows-cost
 sub-rows-cost c =
     let s = c .before .before .before .before .before .before .before .before .before in
     let some = c .before .before .before .before .before .if1 .left in
     omega (arith, header-rows (s .pre) some)
 
--- src/lib.rt:266:51
 part-rows-cost-start : tie.Need-part-rows-cost-start
 part-rows-cost-start c =
     let s = c .before .before .before .before .before .before .before .before .before in
     let some = c .before .before .before .before .before .if1 .left in
     omega (arith, header-rows (s .pre) some)
 
--- src/lib.rt:266:51
 part-rows-cost-end : tie.Need-part-rows-cost-end
 part-rows-cost-end c = search needs
 
--- src/lib.rt:266:9
 rows-cost-requires : tie.Need-rows-cost-requires
 rows-cost-requires c κs =
     let s = c .before .before .before .before .before .before .before .before .before .before in
     let some = c .before .before .before .before .before .before .if1 .left in
     (later-ready (s .pre) some, rows-paired (s .pre) some)
 
--- src/lib.rt:267:38
 sub-row-stop-cost : tie.Need-sub-row-stop-cost
 sub-row-stop-cost c =
     let s = c .before .before .before .before .before .before .before .before .before .before .before in
     let some = c .before .before .before .before .before .before .before .if1 .left in
     omega (arith, header-rows (s .pre) some)
 
--- src/lib.rt:267:38
 part-row-stop-cost-start : tie.Need-part-row-stop-cost-start
 part-row-stop-cost-start c =
     let s = c .before .before .before .before .before .before .before .before .before .before .before in
     let some = c .before .before .before .before .before .before .before .if1 .left in
     omega (arith, header-rows (s .pre) some)
 
--- src/lib.rt:267:38
 part-row-stop-cost-end : tie.Need-part-row-stop-cost-end
 part-row-stop-cost-end c = search needs
 
--- src/lib.rt:267:9
 row-stop-cost-requires : tie.Need-row-stop-cost-requires
 row-stop-cost-requires c κs =
     let s = c .before .before .before .before .before .before .before .before .before .before .before .before in
     let some = c .before .before .before .before .before .before .before .before .if1 .left in
     last-priced (s .pre) some
 
--- src/lib.rt:268:5
 add-result : tie.Need-add-result
 add-result c =
     let s = c .before .before .before .before .before .before .before .before .before .before .before .before .before in
@@ -108,7 +93,6 @@ add-result c =
     let rest = bytes-most (later-ready (s .pre) some) _ (c .before .before .rows-cost .ensures) in
     record { fits = omega (arith, start, rest) }
 
--- src/lib.rt:268:5
 add-result-2 : tie.Need-add-result-2
 add-result-2 c =
     let s = c .before .before .before .before .before .before .before .before .before .before .before .before .before in
@@ -118,7 +102,6 @@ add-result-2 c =
     let stop = row-stop-most (last-priced (s .pre) some) (c .row-stop-cost .ensures) in
     record { fits = omega (arith, start, rest, stop) }
 
--- src/lib.rt:256:1
 returns-2 : tie.Need-returns-2
 returns-2 c =
     let s = c .before .before .before .before .before .before .before .before .before .before .before .before .before in

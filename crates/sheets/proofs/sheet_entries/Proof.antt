@@ -18,19 +18,15 @@ Inv-loop top sheet x₀ x = Passed (length sheet) (λ y. isEntry top (getD sheet
 abbrev μ-loop : tie.MeasureT-loop
 μ-loop top sheet x₀ x = length sheet - x
 
--- src/lib.rt:115:5
 loop-holds : tie.Need-loop-holds Inv-loop μ-loop
 loop-holds c = passed-none _ _
 
--- src/lib.rt:116:27
 shared-slice-read-is-entry : tie.Need-shared-slice-read-is-entry Inv-loop μ-loop
 shared-slice-read-is-entry c = omega arith
 
--- src/lib.rt:116:13
 is-entry-requires : tie.Need-is-entry-requires Inv-loop μ-loop
 is-entry-requires c κs = search needs
 
--- src/lib.rt:117:13
 returns : tie.Need-returns Inv-loop μ-loop
 unfolding entriesUpTo
 returns c =
@@ -39,15 +35,12 @@ returns c =
     let failed = test-failed (c .before .is-entry .ensures) (c .if1 .taken) in
     passed-not (c .before .before .before .before .loop .inv) h (entry-read (a .top) (a .sheet .now) h failed)
 
--- src/lib.rt:119:9
 add-x : tie.Need-add-x Inv-loop μ-loop
 add-x c = omega arith
 
--- src/lib.rt:115:5
 loop-less : tie.Need-loop-less Inv-loop μ-loop
 loop-less c = omega arith
 
--- src/lib.rt:115:5
 loop-again : tie.Need-loop-again Inv-loop μ-loop
 loop-again c =
     let a = c .before .before .before .before .before .before .args in
@@ -55,7 +48,6 @@ loop-again c =
     let passed = test-passed (c .before .is-entry .ensures) (c .if1 .left) in
     passed-more (c .before .before .before .before .loop .inv) h (entry-read (a .top) (a .sheet .now) h passed)
 
--- src/lib.rt:111:1
 returns-2 : tie.Need-returns-2 Inv-loop μ-loop
 unfolding entriesUpTo
 returns-2 c = passed-all (c .before .loop .inv) (c .loop-test .left)

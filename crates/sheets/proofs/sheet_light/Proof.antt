@@ -20,49 +20,40 @@ Inv-loop card sheet modules slots top t₀ t =
 abbrev μ-loop : tie.MeasureT-loop
 μ-loop card sheet modules slots top t₀ t = slots - t
 
--- src/lib.rt:177:5
 loop-holds : tie.Need-loop-holds Inv-loop μ-loop
 loop-holds c = passed-none _ _
 
--- src/lib.rt:178:21
 mul-start : tie.Need-mul-start Inv-loop μ-loop
 mul-start c =
     let p = c .before .before .before .before .pre .ready in
     record { fits = omega (arith, row-small p (in-header p (c .loop-test .taken))) }
 
--- src/lib.rt:179:19
 add-end : tie.Need-add-end Inv-loop μ-loop
 add-end c =
     let p = c .before .before .before .before .pre .ready in
     record { fits = omega (arith, row-small p (in-header p (c .loop-test .taken))) }
 
--- src/lib.rt:180:32
 sub-slot-light : tie.Need-sub-slot-light Inv-loop μ-loop
 sub-slot-light c = omega arith
 
--- src/lib.rt:180:32
 part-slot-light-start : tie.Need-part-slot-light-start Inv-loop μ-loop
 part-slot-light-start c = omega arith
 
--- src/lib.rt:180:32
 part-slot-light-end : tie.Need-part-slot-light-end Inv-loop μ-loop
 part-slot-light-end c =
     let p = c .before .before .before .before .pre in
     row-there (p .ready) (in-header (p .ready) (c .loop-test .taken)) (omega (arith, p .size))
 
--- src/lib.rt:180:13
 slot-light-requires : tie.Need-slot-light-requires Inv-loop μ-loop
 slot-light-requires c κs =
     let p = c .before .before .before .before .before .pre in
     row-short _ _ (p .ready) (row-there (p .ready) (in-header (p .ready) (c .before .loop-test .taken)) (omega (arith, p .size)))
 
--- src/lib.rt:181:21
 load-requires : tie.Need-load-requires Inv-loop μ-loop
 load-requires c κs =
     let p = c .before .before .before .before .before .before .pre .ready in
     (load-there p (in-header p (c .before .before .loop-test .taken)), p .header .top-is)
 
--- src/lib.rt:182:13
 returns : tie.Need-returns Inv-loop μ-loop
 unfolding sheetLight
 returns c =
@@ -72,15 +63,12 @@ returns c =
     let test = light-failed _ _ (p .size) m below (c .before .before .slot-light .ensures) (c .before .load .ensures .is) (λ e. omega (arith, c .if1 .taken)) in
     passed-not (c .before .before .before .before .before .loop .inv) below test
 
--- src/lib.rt:184:9
 add-t : tie.Need-add-t Inv-loop μ-loop
 add-t c = omega arith
 
--- src/lib.rt:177:5
 loop-less : tie.Need-loop-less Inv-loop μ-loop
 loop-less c = omega arith
 
--- src/lib.rt:177:5
 loop-again : tie.Need-loop-again Inv-loop μ-loop
 loop-again c =
     let p = c .before .before .before .before .before .before .before .before .pre in
@@ -89,7 +77,6 @@ loop-again c =
     let test = light-passed _ _ (p .size) m below (c .before .before .slot-light .ensures) (c .before .load .ensures .is) (c .if1 .left) in
     passed-more (c .before .before .before .before .before .loop .inv) below test
 
--- src/lib.rt:169:1
 returns-2 : tie.Need-returns-2 Inv-loop μ-loop
 unfolding sheetLight
 returns-2 c = passed-all (c .before .loop .inv) (past-header (c .before .before .before .before .pre .ready) (c .loop-test .left))

@@ -9,32 +9,26 @@ use Rattle.sheets.proofs.slot_cost.Reads as reads
 use Rattle.sheets.proofs.slot_cost.Lts as lts
 use Rattle.counts.proofs.operating_cost.Reads as operating-cost-reads
 
--- src/lib.rt:42:9
 operating-cost-requires : tie.Need-operating-cost-requires
 operating-cost-requires c κs = search needs
 
--- src/lib.rt:44:9
 returns : tie.Need-returns
 returns c = slot-kept _ _ _ _ (c .before .operating-cost .ensures) (c .if1 .taken)
 
--- src/lib.rt:46:17
 add-price : tie.Need-add-price
 add-price c =
     let p = c .before .before .before .before .pre .ready in
     record { fits = omega (arith, p .header .up-is, p .header .down-is, up-range _ (p .accepted), down-range _ (p .accepted)) }
 
--- src/lib.rt:47:20
 sub-result : tie.Need-sub-result
 sub-result c = search needs
 
--- src/lib.rt:47:11
 mul-result : tie.Need-mul-result
 mul-result c =
     let s = c .before .before .before .before in
     let p = s .pre .ready .header in
     record { fits = omega (arith, switching-most (s .pre .served) (s .args .prev) (p .up-is) (p .down-is)) }
 
--- src/lib.rt:47:5
 add-result : tie.Need-add-result
 add-result c =
     let s = c .before .before .before .before in
@@ -43,7 +37,6 @@ add-result c =
     let switching = switching-most (s .pre .served) (s .args .prev) (p .up-is) (p .down-is) in
     record { fits = omega (arith, c .before .before .operating-cost .ensures, run, switching) }
 
--- src/lib.rt:38:1
 returns-2 : tie.Need-returns-2
 returns-2 c =
     let p = c .before .before .before .before .pre .ready .header in

@@ -18,44 +18,35 @@ Inv-loop row light₀ k₀ light k = Summed (length row) (λ j. stepOf (getD row
 abbrev μ-loop : tie.MeasureT-loop
 μ-loop row light₀ k₀ light k = length row - k
 
--- src/lib.rt:159:5
 loop-holds : tie.Need-loop-holds Inv-loop μ-loop
 loop-holds c = summed-none _ _
 
--- src/lib.rt:160:26
 shared-slice-read-step-of : tie.Need-shared-slice-read-step-of Inv-loop μ-loop
 shared-slice-read-step-of c = omega arith
 
--- src/lib.rt:160:18
 step-of-requires : tie.Need-step-of-requires Inv-loop μ-loop
 step-of-requires c κs = search needs
 
--- src/lib.rt:160:9
 add-light : tie.Need-add-light Inv-loop μ-loop
 add-light c =
     let each = step-each (c .before .before .before .before .before .args .row .now) (c .before .shared-slice-known2 .given) in
     let room = summed-room (c .before .before .before .loop .inv) (c .before .before .loop-test .taken) (c .step-of .ensures) each in
     record { fits = omega (arith, room, c .before .before .before .before .before .pre .short) }
 
--- src/lib.rt:161:9
 add-k : tie.Need-add-k Inv-loop μ-loop
 add-k c = omega arith
 
--- src/lib.rt:159:5
 loop-less : tie.Need-loop-less Inv-loop μ-loop
 loop-less c = omega arith
 
--- src/lib.rt:159:5
 loop-again : tie.Need-loop-again Inv-loop μ-loop
 loop-again c = summed-more (c .before .before .before .loop .inv) (c .before .before .loop-test .taken) (c .step-of .ensures)
 
--- src/lib.rt:163:5
 cast-result : tie.Need-cast-result Inv-loop μ-loop
 cast-result c =
     let each = step-each (c .before .before .before .args .row .now) (c .before .before .shared-slice-known .given) in
     record { fits = omega (arith, summed-most (c .before .loop .inv) each, c .before .before .before .pre .short) }
 
--- src/lib.rt:153:1
 returns : tie.Need-returns Inv-loop μ-loop
 unfolding rowLight
 returns c = summed-all (c .before .loop .inv) (c .loop-test .left)

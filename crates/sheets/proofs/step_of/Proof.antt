@@ -4,11 +4,9 @@ use Rattle.sheets.proofs.step_of.Tie as tie
 use Rattle.sheets.proofs.step_of.Reads as reads
 use Rattle.sheets.proofs.step_of.Lts as lts
 
--- src/lib.rt:147:9
 returns : tie.Need-returns
 returns c = off-none (c .if1 .taken) (c .before .args .b)
 
--- src/lib.rt:143:1
 returns-2 : tie.Need-returns-2
 returns-2 c = active-all (c .if1 .left) (c .before .args .b)
 

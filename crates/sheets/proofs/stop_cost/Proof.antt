@@ -4,11 +4,9 @@ use Rattle.sheets.proofs.stop_cost.Tie as tie
 use Rattle.sheets.proofs.stop_cost.Reads as reads
 use Rattle.sheets.proofs.stop_cost.Lts as lts
 
--- src/lib.rt:86:9
 returns : tie.Need-returns
 returns c = off-none (c .if1 .taken) (c .before .args .down)
 
--- src/lib.rt:82:1
 returns-2 : tie.Need-returns-2
 returns-2 c = active-all (c .if1 .left) (c .before .args .down)
 

@@ -19,52 +19,42 @@ Inv-loop card plan sheet₀ modules top t₀ sheet t = Filled (instanceOf card) 
 abbrev μ-loop : tie.MeasureT-loop
 μ-loop card plan sheet₀ modules top t₀ sheet t = length plan - t
 
--- src/lib.rt:47:5
 loop-holds : tie.Need-loop-holds Inv-loop μ-loop
 loop-holds c = filled-none _ _ _
 
--- src/lib.rt:48:22
 shared-slice-read-wide : tie.Need-shared-slice-read-wide Inv-loop μ-loop
 shared-slice-read-wide c = omega arith
 
--- src/lib.rt:48:13
 wide-requires : tie.Need-wide-requires Inv-loop μ-loop
 wide-requires c κs = search needs
 
--- src/lib.rt:49:13
 load-requires : tie.Need-load-requires Inv-loop μ-loop
 load-requires c κs =
     let p = c .before .before .before .before .before .before .before .pre .0 .sized in
     (load-there (p .ready) (in-slots p (c .before .before .loop-test .taken)), p .ready .header .top-is)
 
--- src/lib.rt:50:21
 mul-start : tie.Need-mul-start Inv-loop μ-loop
 mul-start c =
     let p = c .before .before .before .before .before .before .before .before .pre .0 .sized in
     record { fits = omega (arith, row-small (p .ready) (in-slots p (c .before .before .before .loop-test .taken))) }
 
--- src/lib.rt:51:19
 add-end : tie.Need-add-end Inv-loop μ-loop
 add-end c =
     let p = c .before .before .before .before .before .before .before .before .pre .0 .sized in
     record { fits = omega (arith, row-small (p .ready) (in-slots p (c .before .before .before .loop-test .taken))) }
 
--- src/lib.rt:52:19
 sub-fill-slot : tie.Need-sub-fill-slot Inv-loop μ-loop
 sub-fill-slot c = omega arith
 
--- src/lib.rt:52:19
 part-fill-slot-start : tie.Need-part-fill-slot-start Inv-loop μ-loop
 part-fill-slot-start c = omega arith
 
--- src/lib.rt:52:19
 part-fill-slot-end : tie.Need-part-fill-slot-end Inv-loop μ-loop
 part-fill-slot-end c =
     let s = c .before .before .before .before .before .before .before .before in
     let below = in-slots (s .pre .0 .sized) (c .before .before .before .loop-test .taken) in
     row-there (s .pre .0 .sized .ready) below (filled-room (c .before .before .before .before .loop .inv) (s .pre .1 .room))
 
--- src/lib.rt:52:9
 fill-slot-requires : tie.Need-fill-slot-requires Inv-loop μ-loop
 fill-slot-requires c κs =
     let s = c .before .before .before .before .before .before .before .before .before in
@@ -73,15 +63,12 @@ fill-slot-requires c κs =
     let inside = row-there (p .sized .ready) below (filled-room (c .before .before .before .before .before .loop .inv) (s .pre .1 .room)) in
     row-fits _ _ p below inside (c .before .before .wide .ensures) (c .before .load .ensures .is)
 
--- src/lib.rt:53:9
 add-t : tie.Need-add-t Inv-loop μ-loop
 add-t c = omega arith
 
--- src/lib.rt:47:5
 loop-less : tie.Need-loop-less Inv-loop μ-loop
 loop-less c = omega arith
 
--- src/lib.rt:47:5
 loop-again : tie.Need-loop-again Inv-loop μ-loop
 loop-again c =
     let s = c .before .before .before .before .before .before .before .before .before .before .before .before in
@@ -92,11 +79,9 @@ loop-again c =
     let l = c .before .before .before .before .before .before .before .before .loop .inv in
     filled-more l (s .pre .1 .room) below (p .ready .header .modules-is) n load (c .before .before .fill-slot .ensures)
 
--- src/lib.rt:39:1
 same-length : tie.Need-same-length Inv-loop μ-loop
 same-length c = filled-size (c .before .loop .inv) (c .before .before .before .before .before .pre .1 .room)
 
--- src/lib.rt:39:1
 returns : tie.Need-returns Inv-loop μ-loop
 returns c =
     let s = c .before .before .before .before .before in
