@@ -232,17 +232,17 @@ fn plan_coarse(card: &[u8], h: Header, plan: &mut [u8], work: &mut [u8]) -> Lamp
     ensures { λ r. ⌜ now (work .exit) ≡ coarseWorkAtExit (now (card .entry)) (now (plan .entry)) (now (work .entry)) ⌝ }
 {
     let slots = h.slots as usize;
-    let asked = (10 * h.slots) as usize;
+    let room = (10 * h.slots) as usize;
     if !card::never_falls(card, h.top) {
         return refused(Refusal::NotMonotone);
     }
     if plan.len() < slots {
         return refused(Refusal::BufferTooShort);
     }
-    if work.len() < asked {
+    if work.len() < room {
         return refused(Refusal::BufferTooShort);
     }
-    let cost = planners::coarse(card, h, &mut plan[..slots], &mut work[..asked]);
+    let cost = planners::coarse(card, h, &mut plan[..slots], &mut work[..room]);
     LampAnswer { number: 0, cost }
 }
 

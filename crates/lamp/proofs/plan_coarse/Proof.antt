@@ -13,8 +13,8 @@ use Rattle.lamp.proofs.refused.Reads as refused-reads
 use Rattle.planners.proofs.coarse.Reads as coarse-reads
 
 -- src/lib.rt:235:18
-mul-asked : tie.Need-mul-asked
-mul-asked c = search needs
+mul-room : tie.Need-mul-room
+mul-room c = search needs
 
 -- src/lib.rt:236:9
 never-falls-requires : tie.Need-never-falls-requires
@@ -95,7 +95,7 @@ pub plan-coarse-spec : {M : Type 1} → statement M
 plan-coarse-spec =
     tie.close
     (tie.spec
-    mul-asked
+    mul-room
     never-falls-requires
     refused-requires
     returns
