@@ -7,7 +7,7 @@ import sys
 import time
 
 ROOT = pathlib.Path(__file__).resolve().parent.parent
-PROGRAM = ROOT / "target" / "bin" / "plan"
+PROGRAM = ROOT / "target" / "host" / "plan"
 done = 0
 
 
