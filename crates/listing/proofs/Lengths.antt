@@ -3,15 +3,11 @@ use Prim.Native.Nat.{ℕ, _+_, _*_, _^_, _≤_, _<_}
 use mathlib.Core.Path.{ap}
 use mathlib.Core.Bool.{Bool, true, false, cond}
 use mathlib.Core.List.{List, [], _∷_, _++_}
-use mathlib.Core.Logic.{⊎-elim}
-use native.Mathlib.Nat.{le-refl, mul-le-mul-right, mul-le-mul-left}
 use native.Mathlib.Omega.{arith}
-use lib.ListN.{length, getD, take, drop, length-append, length-take, List·getD-eq-default}
+use lib.ListN.{length, getD, take, drop, length-append, length-take}
 use lib.Seq.{getD-take, getD-drop}
-use Rattle.lists.specs.Numbers.{le-or-lt}
-use Rattle.lists.specs.Lists.{rows}
 use Rattle.lists.specs.Writing.{Room, rows-at-most}
-use Rattle.model.specs.Sheets.{off, isOff}
+use Rattle.model.specs.Sheets.{isOff}
 use Rattle.model.specs.Listing.{decimal, newline, costLine, planLine, stepText, slotLine, listing, refusedLine}
 use Rattle.listing.specs.Texts.{numberedLine, countText, countTexts, moduleText, moduleTexts, sheetLine, sheetLines, Printable, LineRoom}
 use Rattle.listing.proofs.Digits.{decimal-most}

@@ -36,10 +36,6 @@ sheetLine m sheet t = slotLine t (take m (drop (t * m) sheet))
 abbrev pub sheetLines : ℕ → ℕ → List ℕ → List ℕ
 sheetLines m n sheet = rows n (sheetLine m sheet)
 
--- the text from the first place on, and then what was there
-abbrev pub atStart : List ℕ → List ℕ → List ℕ
-atStart text old = text ++ drop (length text) old
-
 -- the sheet has a row of m bytes for each of n slots, and n is within the document's bound
 pub record InRows (m n : ℕ) (sheet : List ℕ) : Type 0 where
   pub entries : length sheet ≡ m * n

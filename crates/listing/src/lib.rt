@@ -3,9 +3,9 @@ ghost use mathlib.Core.Path.{_≡_};
 ghost use Prim.Native.Nat.{_<_};
 ghost use mathlib.Core.List.{[], _∷_};
 ghost use lib.ListN.{length};
-ghost use Rattle.lists.specs.Writing.{Room, Written};
+ghost use Rattle.lists.specs.Writing.{Room, Written, atStart};
 ghost use Rattle.model.specs.Listing.{decimal, stepText, planLine, slotLine, listing, refusedLine};
-ghost use Rattle.listing.specs.Texts.{numberedLine, countTexts, moduleTexts, slotNumber, sheetLines, atStart, InRows, Printable, LineRoom};
+ghost use Rattle.listing.specs.Texts.{numberedLine, countTexts, moduleTexts, slotNumber, sheetLines, InRows, Printable, LineRoom};
 
 // A byte.
 fn put(out: &mut [u8], at: usize, byte: u8) -> usize

@@ -1,15 +1,14 @@
 -- Texts written one after the other into a list of bytes.
 use Prim.Native.Nat.{ℕ, zero, suc, _+_, _*_, _≤_, _<_}
 use mathlib.Core.Path.{_≡_, refl, sym, _∙_, ap}
-use mathlib.Core.List.{List, [], _∷_, _++_, append-assoc, append-nil}
-use mathlib.Core.Logic.{⊎-elim}
+use mathlib.Core.List.{List, [], _∷_, _++_, append-assoc}
 use native.Mathlib.Nat.{le-refl, add-zero, zero-add}
 use native.Mathlib.Numerals.{add-one}
 use native.Mathlib.Omega.{arith}
-use lib.ListN.{length, getD, set, take, drop, length-append, length-set, length-drop, take-append-drop, List·getD-eq-default}
+use lib.ListN.{length, getD, set, take, drop, length-append, length-set, take-append-drop}
 use lib.Seq.{set-split, take-at, drop-drop, drop-append-add, length-take-le, take-suc, take-length}
-use Rattle.lists.specs.Numbers.{le-or-lt}
 use Rattle.lists.specs.Lists.{rows}
+use Rattle.lists.specs.Kept.{rises-to}
 
 -- the text fits into the list from place p on
 pub record Room (text : List ℕ) (p : ℕ) (l : List ℕ) : Type 0 where
@@ -64,9 +63,26 @@ written-more {a} {b} {p} {q} {r} {old} {mid} {new} v w =
         rw (rest, cut, take-at front (drop (p + length a) old) q long-front)
         (simp append-assoc)
 
--- from the first place on
-pub written-start : {text old new : List ℕ} {r : ℕ} → Written text 0 old new r → (r ≡ length text) × (new ≡ text ++ drop (length text) old)
+-- the text from the first place on, and then what was there
+unfoldable pub atStart : List ℕ → List ℕ → List ℕ
+atStart text old = text ++ drop (length text) old
+
+pub written-start : {text old new : List ℕ} {r : ℕ} → Written text 0 old new r → (r ≡ length text) × (new ≡ atStart text old)
+unfolding atStart
 written-start {text} {old} w = (omega (arith, w .place), rw (zero-add (length text)) at (w .bytes))
+
+-- what a caller knows of the part up to the place after the text
+pub start-within : (text old : List ℕ) {r : ℕ} {new : List ℕ} → r ≡ length text → new ≡ atStart text old → r ≤ length new
+unfolding atStart
+start-within text old e d = omega (arith, ap length d, length-append text (drop (length text) old))
+
+pub start-text : (text old : List ℕ) {r : ℕ} {new : List ℕ} → r ≡ length text → new ≡ atStart text old → take r new ≡ text
+unfolding atStart
+start-text text old e d = rw d (take-at text (drop (length text) old) _ (sym e))
+
+pub start-same :
+    (a b old : List ℕ) {r : ℕ} {new : List ℕ} → a ≡ b → (r ≡ length a) × (new ≡ atStart a old) → (r ≡ length b) × (new ≡ atStart b old)
+start-same a b old e w = rw e at w
 
 pub room-less : {a b : List ℕ} {p : ℕ} {l : List ℕ} → length b ≤ length a → Room a p l → Room b p l
 room-less h r = record { room = omega (arith, r .room) }
@@ -81,12 +97,8 @@ room-rest {a} {b} h w = record { room = omega (arith, h .room, length-append a b
 -- the lengths of rows
 pub rows-rise : (f : ℕ → List ℕ) (j n : ℕ) → j ≤ n → length (rows j f) ≤ length (rows n f)
 unfolding rows
-rows-rise f j zero h = let none : j ≡ 0 = omega arith in rw none (le-refl 0)
-rows-rise f j (suc n) h =
-    ⊎-elim
-    (λ (same : suc n ≤ j). let e : j ≡ suc n = omega arith in rw e (le-refl (length (rows (suc n) f))))
-    (λ (less : j < suc n). omega (arith, rows-rise f j n (omega arith), length-append (rows n f) (f n)))
-    (le-or-lt (suc n) j)
+rows-rise f j n h =
+    rises-to (λ k. length (rows k f)) n (λ k l. rw (add-one k) (omega (arith, length-append (rows k f) (f k)))) j n h (le-refl n)
 
 pub rows-at-most : (b n : ℕ) (f : ℕ → List ℕ) → ((k : ℕ) → k < n → length (f k) ≤ b) → length (rows n f) ≤ n * b
 unfolding rows
