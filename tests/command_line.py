@@ -7,7 +7,7 @@ import sys
 import time
 
 ROOT = pathlib.Path(__file__).resolve().parent.parent
-PROGRAM = ROOT / "target" / "host" / "plan"
+PROGRAM = ROOT / "target" / "bin" / "plan"
 done = 0
 
 

@@ -8,7 +8,7 @@ use native.Mathlib.Omega.{arith}
 use lib.ListN.{length, getD, set, take, drop, length-append, length-set, take-append-drop}
 use lib.Seq.{set-split, take-at, drop-drop, drop-append-add, length-take-le, take-suc, take-length}
 use Rattle.lists.specs.Lists.{rows}
-use Rattle.lists.specs.Kept.{rises-to}
+use Rattle.lists.specs.Rising.{rises-to}
 
 -- the text fits into the list from place p on
 pub record Room (text : List ℕ) (p : ℕ) (l : List ℕ) : Type 0 where

@@ -1,0 +1,61 @@
+use mathlib.Core.Path.{sym}
+use lib.Seq.{length-take-le}
+use Rattle.lists.specs.Writing.{start-within}
+use borrow.Author.Needs.{needs}
+use Rattle.plan.proofs.main.Statement.{statement}
+use Rattle.plan.proofs.main.Tie as tie
+use Rattle.plan.proofs.main.Reads as reads
+use Rattle.plan.proofs.main.Lts as lts
+use Rattle.io.proofs.read_full.Reads as read-full-reads
+use Rattle.io.proofs.write_all.Reads as write-all-reads
+use Rattle.plan.proofs.print_card.Reads as print-card-reads
+use Rattle.plan.proofs.text_area.Reads as text-area-reads
+
+slice-aggregate-read-full : tie.Need-slice-aggregate-read-full
+slice-aggregate-read-full c = search needs
+
+read-full-requires : tie.Need-read-full-requires
+read-full-requires c κs = search needs
+
+text-area-requires : tie.Need-text-area-requires
+text-area-requires c κs = search needs
+
+array-share-prefix-card : tie.Need-array-share-prefix-card
+array-share-prefix-card c = search needs
+
+slice-aggregate-print-card : tie.Need-slice-aggregate-print-card
+slice-aggregate-print-card c = search needs
+
+slice-aggregate-print-card-2 : tie.Need-slice-aggregate-print-card-2
+slice-aggregate-print-card-2 c = search needs
+
+print-card-requires : tie.Need-print-card-requires
+print-card-requires c κs = search needs
+
+array-share-prefix-text : tie.Need-array-share-prefix-text
+array-share-prefix-text c = start-within _ _ (c .before .print-card .ensures .0) (c .before .print-card .ensures .1)
+
+slice-aggregate-write-all : tie.Need-slice-aggregate-write-all
+slice-aggregate-write-all c = sym (length-take-le _ _ (start-within _ _ (c .before .before .print-card .ensures .0) (c .before .before .print-card .ensures .1)))
+
+write-all-requires : tie.Need-write-all-requires
+write-all-requires c κs = search needs
+
+returns : tie.Need-returns
+returns c = search needs
+
+pub main-spec : {M : Type 1} → statement M
+main-spec =
+    tie.close
+    (tie.spec
+    slice-aggregate-read-full
+    read-full-requires
+    text-area-requires
+    array-share-prefix-card
+    slice-aggregate-print-card
+    slice-aggregate-print-card-2
+    print-card-requires
+    array-share-prefix-text
+    slice-aggregate-write-all
+    write-all-requires
+    returns)
