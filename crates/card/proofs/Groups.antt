@@ -6,7 +6,6 @@ use native.Mathlib.Omega.{arith}
 use Rattle.model.specs.declared.Refusal.{Refusal}
 use Rattle.model.specs.declared.Answer.{Answer}
 use Rattle.model.specs.declared.Answer.the-variants.{Cost, Refused}
-use Rattle.model.specs.Instance.{instanceOf}
 use Rattle.model.specs.Calls.{checkCard, applies, requestOf, lowest, answer, refusals, successCost}
 use Rattle.card.specs.declared.Header.{Header}
 use Rattle.card.specs.declared.Checked.the-variants.{Accepted, NotAccepted}

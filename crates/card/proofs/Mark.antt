@@ -1,15 +1,15 @@
 -- The mark, one byte at a time.
 use Prim.Native.Nat.{ℕ, _≤_}
-use mathlib.Core.Path.{_≡_, refl, sym, _∙_}
-use mathlib.Core.Bool.{true, false, _&&_, and-true}
+use mathlib.Core.Path.{_≡_, _∙_}
+use mathlib.Core.Bool.{false, _&&_, and-true}
 use mathlib.Core.List.{List, [], _∷_}
 use native.Mathlib.Nat.{not-suc-le-zero}
 use native.Mathlib.Omega.{arith}
-use lib.ListN.{length, getD, take}
+use lib.ListN.{length, getD}
 use lib.Dec.{eqb}
 use borrow.Author.Tests.{eq-eqb, ne-eqb}
 use Rattle.lists.specs.Lists.{sameList}
-use Rattle.lists.specs.Bytes.{littleEndian, little-one}
+use Rattle.lists.specs.Bytes.{little-one}
 use Rattle.model.specs.Instance.{markOf, cardMark}
 use Rattle.card.specs.Reading.{ReadAt}
 use Rattle.card.proofs.Reading.{read-at}

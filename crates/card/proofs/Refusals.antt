@@ -1,23 +1,17 @@
 -- What the tests of a card look at, and the refusal that each way through the checks gives.
 use Prim.Native.Nat.{ℕ, _+_, _*_, _≤_, _<_}
-use mathlib.Core.Path.{_≡_, refl, sym, _∙_, ap}
-use mathlib.Core.Bool.{Bool, true, false, not, _&&_, _||_, or-true, false≢true}
-use mathlib.Core.List.{List, [], _∷_, _++_}
-use mathlib.Core.Logic.{⊎-elim}
-use native.Mathlib.Nat.{not-suc-le-zero}
-use native.Mathlib.Omega.{arith}
-use lib.ListN.{length, getD, take}
+use mathlib.Core.Path.{_≡_, refl, sym, _∙_}
+use mathlib.Core.Bool.{Bool, true, false, not, _&&_}
+use mathlib.Core.List.{List}
+use lib.ListN.{length}
 use lib.Dec.{eqb, leb, ltb}
-use borrow.Author.Tests.{lt-ltb, le-ltb, ltb-false, le-leb, lt-leb, leb-true, eq-eqb, ne-eqb, eqb-true, not-false}
-use Rattle.lists.specs.Numbers.{true-or-false}
+use borrow.Author.Tests.{lt-ltb, le-ltb, ltb-false, le-leb, lt-leb, eq-eqb, ne-eqb, eqb-true, not-false}
 use Rattle.lists.specs.Lists.{sameList}
-use Rattle.lists.specs.Tests.{every, or-left}
-use Rattle.model.specs.declared.Refusal.{Refusal}
+use Rattle.lists.specs.Tests.{or-left}
 use Rattle.model.specs.declared.Refusal.the-variants.{NotACard, Version, RackSize, SlotCount, CardLength, PriceRange, NotConvex, LoadRange}
-use Rattle.model.specs.declared.Answer.{Answer}
 use Rattle.model.specs.declared.Answer.the-variants.{Cost, Refused}
-use Rattle.model.specs.Instance.{Instance, instanceOf, markOf, cardMark, versionOf, cardLength, convex, tableInRange, pricesInRange, loadsInRange}
-use Rattle.model.specs.Calls.{Call, checkCard, applies, requestOf, lowest, answer, cardRefusals, refusals, successCost}
+use Rattle.model.specs.Instance.{instanceOf, markOf, cardMark, versionOf, cardLength, convex, tableInRange, pricesInRange, loadsInRange}
+use Rattle.model.specs.Calls.{Call, checkCard, applies, requestOf, lowest}
 use Rattle.laws.specs.Lowest.{lowest-passed}
 use Rattle.card.specs.declared.Header.{Header}
 use Rattle.card.specs.Checking.{HeaderOf, Sized, rackInRange, found, frontRefusals, sizeRefusals, bodyRefusals}

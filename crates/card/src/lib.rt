@@ -2,8 +2,7 @@
 use model::Answer;
 use model::Refusal;
 ghost use mathlib.Core.Path.{_≡_};
-ghost use Prim.Native.Nat.{ℕ, _+_, _*_, _≤_};
-ghost use mathlib.Core.Bool.{Bool};
+ghost use Prim.Native.Nat.{_+_, _≤_};
 ghost use lib.ListN.{length};
 ghost use Rattle.lists.specs.Lists.{sameList};
 ghost use Rattle.model.specs.Instance.{instanceOf, entryPlace, loadPlace, markOf, cardMark, versionOf, bendsUp, convex, neverFalls, tableInRange, loadsInRange};

@@ -11,8 +11,3 @@ pub record Served (s : List ℕ) (n l : ℕ) : Type 0 where
   pub accepted : answer (checkCard s) ≡ Cost 0
   pub in-rack : n ≤ instanceOf s .modules
   pub serves : l ≤ n * instanceOf s .topStep
-
--- a top step and a count that each fit a byte
-pub record ByteNumbers (top n : ℕ) : Type 0 where
-  pub top-small : top ≤ 255
-  pub n-small : n ≤ 255

@@ -1,12 +1,11 @@
 // Counts of active modules: the lists of allowed counts, the rounded count, and the running cost of a count.
 ghost use mathlib.Core.Path.{_≡_};
 ghost use mathlib.Core.List.{_++_};
-ghost use Prim.Native.Nat.{_*_, _^_, _≤_, _<_};
+ghost use Prim.Native.Nat.{_^_, _≤_, _<_};
 ghost use lib.ListN.{length, drop};
-ghost use lib.Dec.{leb};
 ghost use Rattle.model.specs.Instance.{instanceOf};
 ghost use Rattle.model.specs.Counts.{operatingCost, coarseCounts, roundedCount};
-ghost use Rattle.counts.specs.Serving.{Served, ByteNumbers};
+ghost use Rattle.counts.specs.Serving.{Served};
 ghost use Rattle.counts.specs.AllowedCounts.{CoarseRoom, RackCount, numbersBelow, firstPowers, firstNotBelow};
 
 // The powers of two among the coarse counts of the largest rack.
@@ -83,14 +82,6 @@ pub fn rounded(count: u64, modules: u64) -> u64
     let mut counts = [0u64; 10];
     let n = fill_coarse(&mut counts, modules);
     first_not_below(&counts[..n], count)
-}
-
-// A count n can serve the load l, where Q is top.
-pub fn can_serve(top: u64, n: u64, l: u64) -> bool
-    requires { ⌜ ByteNumbers top n ⌝ }
-    ensures { λ r. ⌜ r ≡ leb l (n * top) ⌝ }
-{
-    l <= n * top
 }
 
 // Running cost of a count: (n - r)F(q) + rF(q + 1) with q = l / n and r = l % n; F(q + 1) is read only if r is not 0.

@@ -4,18 +4,16 @@ use mathlib.Core.Path.{_≡_, sym, _∙_, ap}
 use mathlib.Core.Bool.{true, false}
 use mathlib.Core.List.{List, [], _∷_, _++_}
 use native.Mathlib.Omega.{arith}
-use lib.ListN.{length, drop, getD}
+use lib.ListN.{length, drop}
 use borrow.Author.Tests.{lt-ltb, le-ltb, eq-eqb, ne-eqb, leb-true}
 use Rattle.lists.specs.Tests.{every-at}
 use Rattle.model.specs.declared.Refusal.{Refusal}
 use Rattle.model.specs.declared.Refusal.the-variants.{BufferTooShort, WrongLength, EntryRange, LoadNotServed}
-use Rattle.model.specs.declared.Answer.{Answer}
 use Rattle.model.specs.declared.Answer.the-variants.{Cost, Refused}
 use Rattle.model.specs.Answers.{numberOf}
 use Rattle.model.specs.Instance.{instanceOf}
-use Rattle.model.specs.Sheets.{off}
 use Rattle.model.specs.Thesis.{countsCost}
-use Rattle.model.specs.Plans.{planServes, planCost, sheetOf}
+use Rattle.model.specs.Plans.{planServes, sheetOf}
 use Rattle.model.specs.Calls.{Area, Gives, checkCard, makeSheet, plan, area, sheetBytes, answer, requestOf, refusals, applies, anyShort, rightLength}
 use Rattle.model.specs.Calls.{entriesInRange, loadsServed, lowest, successCost, sheetAtExit, atExit}
 use Rattle.model.specs.Promises.{MarkedAlike}

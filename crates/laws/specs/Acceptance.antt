@@ -20,7 +20,7 @@ pub record Passes (s : List ℕ) : Type 0 where
   pub slots : applies (requestOf (checkCard s)) SlotCount ≡ false
   pub size : applies (requestOf (checkCard s)) CardLength ≡ false
   pub prices : applies (requestOf (checkCard s)) PriceRange ≡ false
-  pub bend : applies (requestOf (checkCard s)) NotConvex ≡ false
+  pub convexity : applies (requestOf (checkCard s)) NotConvex ≡ false
   pub loads : applies (requestOf (checkCard s)) LoadRange ≡ false
 
 pub passes : (s : List ℕ) → answer (checkCard s) ≡ Cost 0 → Passes s
@@ -32,9 +32,9 @@ passes s e =
     let slots = lowest-passed _ _ _ (rack .1) in
     let size = lowest-passed _ _ _ (slots .1) in
     let prices = lowest-passed _ _ _ (size .1) in
-    let bent = lowest-passed _ _ _ (prices .1) in
-    let loads = lowest-passed _ _ _ (bent .1) in
-    record { rack = rack .0; slots = slots .0; size = size .0; prices = prices .0; bend = bent .0; loads = loads .0 }
+    let convexity = lowest-passed _ _ _ (prices .1) in
+    let loads = lowest-passed _ _ _ (convexity .1) in
+    record { rack = rack .0; slots = slots .0; size = size .0; prices = prices .0; convexity = convexity .0; loads = loads .0 }
 
 module _ (s : List ℕ) (given : answer (checkCard s) ≡ Cost 0) where
   rack-numbers : (rackNumber (instanceOf s .modules) && rackNumber (instanceOf s .topStep)) ≡ true
@@ -81,7 +81,7 @@ module _ (s : List ℕ) (given : answer (checkCard s) ≡ Cost 0) where
 
   pub table-convex : convex (instanceOf s .topStep) (instanceOf s .table) ≡ true
   unfolding applies requestOf
-  table-convex = not-false _ (passes s given .bend)
+  table-convex = not-false _ (passes s given .convexity)
 
   pub load-range : (t : ℕ) → t < instanceOf s .slots → instanceOf s .load t ≤ instanceOf s .modules * instanceOf s .topStep
   unfolding applies requestOf loadsInRange

@@ -1,6 +1,6 @@
 -- Counts of active modules: their running cost, and which counts are allowed (document 01, 'Running cost of a count', 'The plans').
 use Prim.Native.Nat.{ℕ, _+_, _-_, _*_, _/_, _%_, _^_}
-use mathlib.Core.Bool.{Bool, true, false, cond, not, _||_}
+use mathlib.Core.Bool.{Bool, cond, not, _||_}
 use mathlib.Core.List.{List, headD}
 use lib.Dec.{leb, eqb}
 use Rattle.lists.specs.Tests.{every}

@@ -3,23 +3,20 @@ use Prim.Native.Nat.{ℕ, zero, suc, _-_, _/_, _%_}
 use Prim.Native.String.{String}
 use mathlib.Core.Path.{_≡_, refl, ap, sym, _∙_}
 use mathlib.Core.Bool.{Bool, true, false, not, false≢true}
-use mathlib.Core.List.{List, [], _∷_, _++_, map, flatMap, headD}
+use mathlib.Core.List.{List, [], _∷_, _++_, flatMap, headD}
 use lib.ListN.{length, take, set, replicate}
 use native.Mathlib.Omega.{arith}
 use Rattle.lists.specs.Tests.{every}
 use Rattle.lists.specs.Sums.{sum}
 use Rattle.lists.specs.Lists.{tabulate, rows, keep, sameList, sameLists, same-selves, same-lists-equal}
 use Rattle.lists.specs.Bytes.{littleEndian}
-use Rattle.model.specs.declared.Answer.{Answer}
-use Rattle.model.specs.declared.Answer.the-variants.{Cost, Refused}
-use Rattle.model.specs.declared.Refusal.the-variants.{LoadRange, BufferTooShort}
 use Rattle.model.specs.Answers.{numberOf, costOf}
 use Rattle.model.specs.Instance.{instanceOf, cardMark, cardLength, bendsUp, convex, neverFalls, tableInRange, pricesInRange, loadsInRange}
 use Rattle.model.specs.Counts.{canServe, operatingCost, allCounts, powerOfTwo, coarseCounts, roundedCount}
 use Rattle.model.specs.Sheets.{stateAt, sheetLength, sheetEntries, lightAt, sheetLight, stepCost, changeCost, sheetCost}
 use Rattle.model.specs.Plans.{moduleByte, slotRow, sheetOf, planCost, planServes, plansInOrder, cheapest, cheapestOf, leastPlan}
 use Rattle.model.specs.Listing.{digits, decimal, costLine, planLine, stepText, slotLine, listing, refusedLine, printedFor, printed}
-use Rattle.model.specs.Calls.{Call, checkCard, runningCost, planExact, planCoarse, makeSheet, markSheet, roundCount}
+use Rattle.model.specs.Calls.{Call, checkCard, runningCost, planExact, planCoarse, makeSheet, markSheet}
 use Rattle.model.specs.Calls.{rightLength, entriesInRange, loadsServed, anyShort, requestOf, applies, refusals, lowest, successCost}
 use Rattle.model.specs.Calls.{answer, atExit, exactPlanAtExit, exactWorkAtExit, coarsePlanAtExit, coarseWorkAtExit, sheetAtExit, buffersAtExit, outcome}
 

@@ -6,7 +6,7 @@ use mathlib.Core.Bool.{true}
 use mathlib.Core.List.{List}
 use lib.ListN.{take}
 use Rattle.model.specs.declared.Answer.the-variants.{Cost}
-use Rattle.model.specs.Instance.{Instance, instanceOf}
+use Rattle.model.specs.Instance.{instanceOf}
 use Rattle.model.specs.Sheets.{serves, sheetCost}
 use Rattle.model.specs.Plans.{sheetOf}
 use Rattle.model.specs.Calls.{answer, checkCard, markSheet}

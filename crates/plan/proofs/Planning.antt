@@ -1,12 +1,12 @@
 -- What the planner's answer and its plan area say of a card.
-use Prim.Native.Nat.{ℕ, _+_, _*_, _≤_, _<_}
+use Prim.Native.Nat.{ℕ, _+_, _*_, _≤_}
 use mathlib.Core.Path.{_≡_, refl, sym, _∙_, ap}
 use mathlib.Core.Bool.{Bool, true, false, _||_, true≢false}
 use mathlib.Core.List.{List, [], _∷_, _++_}
 use native.Mathlib.Omega.{arith}
 use lib.Dec.{ltb}
-use lib.ListN.{length, getD, drop}
-use borrow.Author.Tests.{ltb-false, le-leb}
+use lib.ListN.{length, drop}
+use borrow.Author.Tests.{ltb-false}
 use Rattle.model.specs.declared.Refusal.{Refusal}
 use Rattle.model.specs.declared.Refusal.the-variants.{NotACard, Version, RackSize, SlotCount, CardLength, PriceRange, NotConvex, LoadRange, NotMonotone, BufferTooShort, WrongLength, EntryRange, LoadNotServed}
 use Rattle.model.specs.declared.Answer.{Answer}
@@ -14,8 +14,8 @@ use Rattle.model.specs.declared.Answer.the-variants.{Cost, Refused}
 use Rattle.model.specs.Answers.{refusalNumber}
 use Rattle.model.specs.Instance.{instanceOf}
 use Rattle.model.specs.Counts.{allCounts}
-use Rattle.model.specs.Plans.{Allowed, sheetOf, slotRow}
-use Rattle.model.specs.Calls.{Gives, Area, nothing, plan, area, checkCard, planExact, answer, applies, anyShort, requestOf, refusals, successCost, exactPlan, exactWork, entriesInRange, atExit, exactPlanAtExit, sheetAtExit}
+use Rattle.model.specs.Plans.{Allowed, sheetOf}
+use Rattle.model.specs.Calls.{Gives, Area, nothing, plan, area, checkCard, planExact, answer, applies, anyShort, requestOf, refusals, successCost, exactPlan, exactWork, atExit, exactPlanAtExit, sheetAtExit}
 use Rattle.laws.specs.Lowest.{lowest-passed}
 use Rattle.laws.specs.OnCard.{on-card-accepted, on-card-passed}
 use Rattle.laws.specs.Acceptance.{modules-range, load-range}

@@ -5,7 +5,7 @@ use mathlib.Core.List.{List, _++_}
 use native.Mathlib.Omega.{arith}
 use lib.ListN.{length, take, drop, length-append}
 use lib.Seq.{length-take-le, take-at}
-use Rattle.lists.specs.Lists.{tabulate, length-tabulate}
+use Rattle.lists.specs.Lists.{length-tabulate}
 use Rattle.model.specs.Counts.{allCounts}
 use Rattle.counts.specs.AllowedCounts.{numbersBelow}
 use Rattle.counts.proofs.Terms.{all-counts}
