@@ -2,4 +2,4 @@ pub mod Division
 pub mod Powers
 pub mod Writing
 pub mod Rounding
-pub mod Terms
+pub mod Fronts

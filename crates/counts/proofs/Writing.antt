@@ -1,17 +1,27 @@
--- The coarse counts as they are written over a list: 0 at the first place, the powers of two after it, and m if it is no power.
+-- The allowed counts as they are written over a list: all of them, or 0 at the first place, the powers of two after it, and m if it is
+-- no power.
 use Prim.Native.Nat.{ℕ, zero, suc, _+_, _-_, _^_, _≤_, _<_}
 use mathlib.Core.Path.{_≡_, sym, _∙_, ap}
 use mathlib.Core.List.{List, [], _∷_, _++_, append-assoc}
 use native.Mathlib.Numerals.{add-one}
 use native.Mathlib.Omega.{arith}
-use lib.ListN.{length, getD, drop, set, length-set, length-append, List·getD-append}
-use lib.Seq.{take-suc-set, drop-set-lt, drop-cons, set-at}
+use lib.ListN.{length, getD, take, drop, set, length-set, length-append, List·getD-append}
+use lib.Seq.{length-take-le, take-suc-set, drop-set-lt, drop-cons, set-at}
 use borrow.Author.Tests.{eq-eqb, ne-eqb}
 use borrow.Rule.Slice.PartMut.{putMid, midOf, mid-len, post-is}
-use Rattle.lists.specs.Lists.{length-tabulate, getD-tabulate}
-use Rattle.model.specs.Counts.{coarseCounts}
-use Rattle.counts.specs.AllowedCounts.{CoarseRoom, firstPowers}
+use Rattle.lists.specs.Lists.{tabulate, length-tabulate, getD-tabulate}
+use Rattle.model.specs.Counts.{allCounts, coarseCounts}
+use Rattle.counts.specs.AllowedCounts.{CoarseRoom, numbersBelow, firstPowers}
 use Rattle.counts.proofs.Powers.{powersUpTo, zeroAndPowers, written, Coarse, coarse-known}
+
+-- all counts from 0 to m
+pub all-written :
+    (m : ℕ) (old : List ℕ) {front : List ℕ} → m + 1 ≤ length old → front ≡ numbersBelow (length (take (m + 1) old)) →
+    (m + 1 ≡ length (allCounts m)) × (front ++ drop (m + 1) old ≡ allCounts m ++ drop (length (allCounts m)) old)
+unfolding numbersBelow allCounts
+all-written m old room filled =
+    let size : length (tabulate (m + 1) (λ n. n)) ≡ m + 1 = length-tabulate (m + 1) (λ n. n) in
+    (sym size, rw (filled, length-take-le (m + 1) old room, size))
 
 length-zeroAndPowers : (p : ℕ) → length (zeroAndPowers p) ≡ p + 1
 unfolding zeroAndPowers firstPowers

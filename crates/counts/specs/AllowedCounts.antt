@@ -1,10 +1,14 @@
 -- The lists of allowed counts as they are written to memory, and what writing them asks for.
-use Prim.Native.Nat.{ℕ, _^_, _≤_}
+use Prim.Native.Nat.{ℕ, _+_, _^_, _≤_}
 use mathlib.Core.List.{List}
 use lib.ListN.{length}
 use lib.Dec.{leb}
 use Rattle.lists.specs.Lists.{tabulate}
 use Rattle.lists.specs.Searching.{firstKept}
+
+-- there is room for all counts from 0 to m
+pub record AllRoom (counts : List ℕ) (m : ℕ) : Type 0 where
+  pub room : m + 1 ≤ length counts
 
 -- a rack has from 1 to 200 modules, and there is room for all its coarse counts: 0, at most eight powers of two, and m
 pub record CoarseRoom (counts : List ℕ) (m : ℕ) : Type 0 where

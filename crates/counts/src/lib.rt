@@ -4,9 +4,9 @@ ghost use mathlib.Core.List.{_++_};
 ghost use Prim.Native.Nat.{_^_, _≤_, _<_};
 ghost use lib.ListN.{length, drop};
 ghost use Rattle.model.specs.Instance.{instanceOf};
-ghost use Rattle.model.specs.Counts.{operatingCost, coarseCounts, roundedCount};
+ghost use Rattle.model.specs.Counts.{operatingCost, allCounts, coarseCounts, roundedCount};
 ghost use Rattle.counts.specs.Serving.{Served};
-ghost use Rattle.counts.specs.AllowedCounts.{CoarseRoom, RackCount, numbersBelow, firstPowers, firstNotBelow};
+ghost use Rattle.counts.specs.AllowedCounts.{AllRoom, CoarseRoom, RackCount, numbersBelow, firstPowers, firstNotBelow};
 
 // The powers of two among the coarse counts of the largest rack.
 const POWERS: [u16; 8] = [1, 2, 4, 8, 16, 32, 64, 128];
@@ -48,15 +48,26 @@ pub fn fill_coarse(counts: &mut [u64], m: u64) -> usize
     end + 1
 }
 
-// The exact plan's allowed counts: all from 0 on.
-pub fn fill_all(counts: &mut [u64])
-    ensures { λ _. ⌜ now (counts .exit) ≡ numbersBelow (length (now (counts .entry))) ⌝ }
+// Each number of the part is its place: 0, 1, 2, and so on.
+fn fill_places(part: &mut [u64])
+    ensures { λ _. ⌜ now (part .exit) ≡ numbersBelow (length (now (part .entry))) ⌝ }
 {
     let mut k = 0;
-    while k < counts.len() {
-        counts[k] = k as u64;
+    while k < part.len() {
+        part[k] = k as u64;
         k += 1;
     }
+}
+
+// The exact plan's allowed counts for a rack of m: all from 0 to m. Returns how many they are.
+pub fn fill_all(counts: &mut [u64], m: u64) -> usize
+    requires { ⌜ AllRoom (now counts) m ⌝ }
+    ensures { λ r. ⌜ r ≡ length (allCounts m) ⌝ }
+    ensures { λ r. ⌜ now (counts .exit) ≡ allCounts m ++ drop (length (allCounts m)) (now (counts .entry)) ⌝ }
+{
+    let end = m as usize + 1;
+    fill_places(&mut counts[..end]);
+    end
 }
 
 // The first of the counts that is not below the count given, and 0 where all are below.

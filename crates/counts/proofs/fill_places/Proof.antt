@@ -1,0 +1,54 @@
+use Prim.Native.Nat.{_-_}
+use mathlib.Core.Path.{refl}
+use native.Mathlib.Omega.{arith}
+use lib.ListN.{length}
+use Rattle.lists.specs.Filling.{Upto, upto-none, upto-more, upto-all}
+use Rattle.counts.specs.AllowedCounts.{numbersBelow}
+use Rattle.counts.proofs.fill_places.Statement.{statement}
+use Rattle.counts.proofs.fill_places.Tie as tie
+
+abbrev Inv-loop : tie.InvT-loop
+Inv-loop part₀ k₀ part k = Upto (λ j. j) k part₀ part
+
+abbrev μ-loop : tie.MeasureT-loop
+μ-loop part₀ k₀ part k = length part₀ - k
+
+loop-holds : tie.Need-loop-holds Inv-loop μ-loop
+loop-holds c = upto-none _ _
+
+mul-part : tie.Need-mul-part Inv-loop μ-loop
+mul-part c = omega arith
+
+slice-write-part : tie.Need-slice-write-part Inv-loop μ-loop
+slice-write-part c = omega arith
+
+add-k : tie.Need-add-k Inv-loop μ-loop
+add-k c = omega arith
+
+loop-less : tie.Need-loop-less Inv-loop μ-loop
+loop-less c = omega arith
+
+loop-again : tie.Need-loop-again Inv-loop μ-loop
+loop-again c = upto-more (c .before .loop .inv) (omega arith) refl
+
+same-length : tie.Need-same-length Inv-loop μ-loop
+same-length c = c .before .loop .inv .size
+
+returns : tie.Need-returns Inv-loop μ-loop
+unfolding numbersBelow
+returns c = upto-all (c .before .loop .inv) (omega arith)
+
+pub fill-places-spec : {M : Type 1} → statement M
+fill-places-spec =
+    tie.close
+    (tie.spec
+    Inv-loop
+    μ-loop
+    loop-holds
+    mul-part
+    slice-write-part
+    add-k
+    loop-less
+    loop-again
+    same-length
+    returns)
