@@ -13,7 +13,7 @@ use borrow.Author.Tests.{eq-eqb, ne-eqb, leb-true}
 use Rattle.lists.specs.Tests.{every, every-at, and-left, and-right}
 use Rattle.lists.specs.Lists.{tabulate, getD-tabulate, keep, sameList, same-list-equal}
 use Rattle.lists.specs.Prefixes.{tabulate-more, keep-append, keep-tabulate}
-use Rattle.model.specs.Counts.{allCounts, powerOfTwo, coarseCounts}
+use Rattle.model.specs.Counts.{allCounts, powerOfTwo, isCoarse, coarseCounts}
 use Rattle.counts.specs.AllowedCounts.{firstPowers}
 
 -- how many powers of two are at most m, for m below 2 to the 64
@@ -41,18 +41,15 @@ unfolding smaller
 smaller-more m = rw (tabulate-more m (λ n. n), keep-append)
 
 -- the coarse counts are these and m
-abbrev coarseTest : ℕ → ℕ → Bool
-coarseTest m n = eqb n 0 || (eqb n m || powerOfTwo n)
-
 coarse-split : (m : ℕ) → coarseCounts m ≡ smaller m ++ (m ∷ [])
 unfolding coarseCounts allCounts smaller keep
 coarse-split m =
-    rw (add-one, tabulate-more m (λ n. n), keep-append, kept, keep-tabulate m (λ n. n) (coarseTest m) zeroOrPower below)
+    rw (add-one, tabulate-more m (λ n. n), keep-append, kept, keep-tabulate m (λ n. n) (isCoarse m) zeroOrPower below)
   where
-    kept : keep (coarseTest m) (m ∷ []) ≡ m ∷ []
+    kept : keep (isCoarse m) (m ∷ []) ≡ m ∷ []
     kept = rw (eq-eqb m m refl, or-true (eqb m 0))
 
-    below : (n : ℕ) → n < m → coarseTest m n ≡ zeroOrPower n
+    below : (n : ℕ) → n < m → isCoarse m n ≡ zeroOrPower n
     below n h = rw (ne-eqb n m (omega arith))
 
 -- Two tests at k, for a rack of m = k + 1. The first: m joins the smaller counts of the next rack if it is a power.

@@ -27,8 +27,11 @@ unfoldable pub powerOfTwo : ℕ → Bool
 powerOfTwo n = not (every n (λ j. not (eqb n (2 ^ j))))
 
 -- 'Coarse: the allowed counts 0, each power of two up to m, and m', ascending
+abbrev pub isCoarse : ℕ → ℕ → Bool
+isCoarse m n = eqb n 0 || (eqb n m || powerOfTwo n)
+
 unfoldable pub coarseCounts : ℕ → List ℕ
-coarseCounts m = keep (λ n. eqb n 0 || (eqb n m || powerOfTwo n)) (allCounts m)
+coarseCounts m = keep (isCoarse m) (allCounts m)
 
 -- 'Rounded count of n in a rack of m: the smallest allowed count not below n.' For n above m it means nothing.
 unfoldable pub roundedCount : ℕ → ℕ → ℕ
