@@ -2,10 +2,12 @@
 -- no power.
 use Prim.Native.Nat.{ℕ, zero, suc, _+_, _-_, _^_, _≤_, _<_}
 use mathlib.Core.Path.{_≡_, sym, _∙_, ap}
+use mathlib.Core.Bool.{Bool, true, false, cond}
 use mathlib.Core.List.{List, [], _∷_, _++_, append-assoc}
 use native.Mathlib.Numerals.{add-one}
 use native.Mathlib.Omega.{arith}
 use lib.ListN.{length, getD, take, drop, set, length-set, length-append, List·getD-append}
+use lib.Dec.{eqb}
 use lib.Seq.{length-take-le, take-suc-set, drop-set-lt, drop-cons, set-at}
 use borrow.Author.Tests.{eq-eqb, ne-eqb}
 use borrow.Rule.Slice.PartMut.{putMid, midOf, mid-len, post-is}
@@ -33,6 +35,19 @@ last-power zero h = absurd (omega arith)
 last-power (suc q) h =
     let e : suc q - 1 ≡ q = omega arith in
     rw e (getD-tabulate (suc q) (λ k. 2 ^ k) q 0 (omega arith))
+
+-- there are at most ten coarse counts
+pub coarse-ten : (m : ℕ) → 1 ≤ m → m ≤ 200 → length (coarseCounts m) ≤ 10
+unfolding written
+coarse-ten m some most = rw (known .list) (sized (eqb (2 ^ (powersUpTo m - 1)) m))
+  where
+    known : Coarse m
+    known = coarse-known m some most
+
+    sized : (b : Bool) → length (cond b (zeroAndPowers (powersUpTo m)) (zeroAndPowers (powersUpTo m) ++ (m ∷ []))) ≤ 10
+    sized true = omega (arith, known .high, length-zeroAndPowers (powersUpTo m))
+    sized false =
+        omega (arith, known .high, length-zeroAndPowers (powersUpTo m), length-append (zeroAndPowers (powersUpTo m)) (m ∷ []))
 
 module _ (xs : List ℕ) (m : ℕ) (asked : CoarseRoom xs m) where
   abbrev known : Coarse m

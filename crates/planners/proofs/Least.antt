@@ -1,10 +1,10 @@
 -- The search's plan over an ascending list of allowed counts is the least plan.
 use Prim.Native.Nat.{ℕ, _+_, _≤_}
 use mathlib.Core.Path.{_≡_, _∙_, ap}
-use mathlib.Core.List.{List}
+use mathlib.Core.List.{List, _++_}
 use native.Mathlib.Nat.{mul-le-mul-right, le-trans}
 use native.Mathlib.Omega.{arith}
-use lib.ListN.{length}
+use lib.ListN.{length, take, drop}
 use Rattle.lists.specs.Lists.{length-tabulate}
 use Rattle.model.specs.Instance.{Instance, instanceOf}
 use Rattle.model.specs.Counts.{allCounts, coarseCounts}
@@ -16,9 +16,11 @@ use Rattle.theory.specs.Lists.{all-ascending, coarse-ascending}
 use Rattle.theory.specs.Condition3.{accepted-plannable, searched-plan}
 use Rattle.card.specs.declared.Header.{Header}
 use Rattle.card.specs.Checking.{Ready}
-use Rattle.counts.specs.AllowedCounts as counts
+use Rattle.counts.specs.AllowedCounts.{AllRoom, CoarseRoom}
+use Rattle.counts.proofs.Fronts.{front-is}
+use Rattle.counts.proofs.Writing.{coarse-ten}
 use Rattle.search.specs.Asked.{CountsUpTo, Searchable}
-use Rattle.planners.specs.Asked.{PlanOver, RackRoom, ExactRoom, CoarseRoom, CoarseCounts}
+use Rattle.planners.specs.Asked.{PlanOver, RackRoom, ExactBuffers, CoarseBuffers, CoarseNumbers}
 
 up-to : {counts : List ℕ} {m : ℕ} → Ascending counts m → length counts ≤ 256 → CountsUpTo counts m
 up-to a short = record { two = a .two; bytes = short; first = a .first; last = a .last; rises = a .rises }
@@ -34,70 +36,76 @@ module _ {s : List ℕ} {h : Header} {counts plan work : List ℕ} (p : PlanOver
   pub searchable : {column : List ℕ} → length column ≡ length counts → Searchable s h counts column plan work
   searchable e =
       record {
-        ahead = record { ready = p .ready; allowed = p .allowed; column-size = e; work-room = p .work-room };
-        plan-size = p .plan-size;
+        ahead = record { ready = p .buffers .ready; allowed = p .allowed; column-size = e; work-room = p .buffers .work-room };
+        plan-size = p .buffers .plan-size;
       }
 
   -- the search's results are the least plan's
   pub planned :
-      {cost : ℕ} {made cleared cleared′ : List ℕ} → cost ≡ searchedCost (instanceOf s) counts 0 → made ≡ searchedPlan (instanceOf s) counts 0 →
-      cleared ≡ cleared′ → Planned (instanceOf s) counts cost made cleared cleared′
+      {cost : ℕ} {made cleared cleared′ : List ℕ} → cost ≡ searchedCost (instanceOf s) counts 0 →
+      made ≡ searchedPlan (instanceOf s) counts 0 → cleared ≡ cleared′ → Planned (instanceOf s) counts cost made cleared cleared′
   planned c m z =
-      let best = searched-plan (accepted-plannable s (p .ready .accepted)) counts (ascending (p .allowed)) in
+      let best = searched-plan (accepted-plannable s (p .buffers .ready .accepted)) counts (ascending (p .allowed)) in
       (c ∙ best .1, (m ∙ best .0, z))
 
--- the same over a list known by another name
-pub planned-over :
-    (i : Instance) (counts counts′ : List ℕ) {cost : ℕ} {plan work cleared : List ℕ} → counts ≡ counts′ → Planned i counts cost plan work cleared →
-    Planned i counts′ cost plan work cleared
-planned-over i counts counts′ e (c, (p, z)) = (c ∙ ap (λ (l : List ℕ). planCost i (leastPlan i l)) e, (p ∙ ap (leastPlan i) e, z))
+-- Both planners: the counts at the front of the room, filled in by the header's rack, are those of the card's rack.
+module _
+    (counts : ℕ → List ℕ) {s : List ℕ} {h : Header} (r : Ready s h) (old : List ℕ) {new : List ℕ} {n : ℕ}
+    (size : n ≡ length (counts (h .modules))) (filled : new ≡ counts (h .modules) ++ drop (length (counts (h .modules))) old) where
+  abbrev own : List ℕ
+  own = counts (instanceOf s .modules)
+
+  front-own : take n new ≡ own
+  front-own = front-is counts _ old size filled ∙ ap counts (r .header .modules-is)
+
+  pub over-front : {plan work : List ℕ} → PlanOver s h own plan work → PlanOver s h (take n new) plan work
+  over-front p = rw front-own p
+
+  pub planned-front :
+      {cost : ℕ} {plan work cleared : List ℕ} → Planned (instanceOf s) (take n new) cost plan work cleared →
+      Planned (instanceOf s) own cost plan work cleared
+  planned-front p = rw (← front-own) p
 
 -- over all counts
-pub over-all : {s : List ℕ} {h : Header} {plan work : List ℕ} → ExactRoom s h plan work → PlanOver s h (allCounts (instanceOf s .modules)) plan work
+pub over-all :
+    {s : List ℕ} {h : Header} {plan work : List ℕ} → ExactBuffers s h plan work → PlanOver s h (allCounts (instanceOf s .modules)) plan work
 unfolding allCounts
-over-all {s} {h} {plan} {work} r =
+over-all {s} {h} {plan} {work} b =
     let m = instanceOf s .modules in
-    let range = modules-range s (r .ready .accepted) in
+    let range = modules-range s (b .ready .accepted) in
     let size : length (allCounts m) ≡ m + 1 = length-tabulate (m + 1) (λ n. n) in
     record {
-      ready = r .ready;
+      buffers = record { ready = b .ready; plan-size = b .plan-size; work-room = rw size (b .work-room) };
       allowed = up-to (all-ascending m (range .0)) (omega (arith, range .1));
       short = omega (arith, range .1);
-      plan-size = r .plan-size;
-      work-room = rw size (r .work-room);
     }
 
 -- over the coarse counts, of which there are at most ten
 pub over-coarse :
-    {s : List ℕ} {h : Header} {plan work : List ℕ} → CoarseRoom s h plan work → length (coarseCounts (instanceOf s .modules)) ≤ 10 →
+    {s : List ℕ} {h : Header} {plan work : List ℕ} → CoarseBuffers s h plan work →
     PlanOver s h (coarseCounts (instanceOf s .modules)) plan work
-over-coarse {s} {h} {plan} {work} r ten =
-    let range = modules-range s (r .ready .accepted) in
+over-coarse {s} {h} {plan} {work} b =
+    let range = modules-range s (b .ready .accepted) in
+    let ten = coarse-ten (instanceOf s .modules) (range .0) (range .1) in
     record {
-      ready = r .ready;
+      buffers =
+          record {
+            ready = b .ready;
+            plan-size = b .plan-size;
+            work-room = le-trans (mul-le-mul-right (instanceOf s .slots) ten) (b .work-room);
+          };
       allowed = up-to (coarse-ascending (instanceOf s .modules) (range .0)) (omega arith);
       short = omega arith;
-      plan-size = r .plan-size;
-      work-room = le-trans (mul-le-mul-right (instanceOf s .slots) ten) (r .work-room);
     }
 
 -- a header's rack fits into the room for the largest one
-pub rack-fits : {s : List ℕ} {h : Header} {numbers : List ℕ} → Ready s h → RackRoom numbers → h .modules + 1 ≤ length numbers
-rack-fits {s} r n = omega (arith, r .header .modules-is, modules-range s (r .accepted) .1, n .room)
+pub rack-fits : {s : List ℕ} {h : Header} {numbers : List ℕ} → Ready s h → RackRoom numbers → AllRoom numbers (h .modules)
+rack-fits {s} r n = record { room = omega (arith, r .header .modules-is, modules-range s (r .accepted) .1, n .room) }
 
-pub coarse-fits : {s : List ℕ} {h : Header} {numbers : List ℕ} → Ready s h → CoarseCounts numbers → counts.CoarseRoom numbers (h .modules)
+pub coarse-fits : {s : List ℕ} {h : Header} {numbers : List ℕ} → Ready s h → CoarseNumbers numbers → CoarseRoom numbers (h .modules)
 coarse-fits {s} r n =
     record {
       some = omega (arith, r .header .modules-is, modules-range s (r .accepted) .0);
       most = omega (arith, r .header .modules-is, modules-range s (r .accepted) .1);
       room = omega (arith, n .room);
     }
-
-pub over-as :
-    {s : List ℕ} {h : Header} {counts counts′ plan work : List ℕ} → counts ≡ counts′ → PlanOver s h counts′ plan work → PlanOver s h counts plan work
-over-as e p = rw e p
-
-pub at-most-ten :
-    {old : List ℕ} (last : List ℕ) {m m′ r : ℕ} → CoarseCounts old → length last ≡ length old → r ≡ length (coarseCounts m) →
-    r ≤ length last → m ≡ m′ → length (coarseCounts m′) ≤ 10
-at-most-ten last n kept size within e = rw (← e) (omega (arith, n .room))

@@ -5,7 +5,7 @@ ghost use lib.ListN.{length, replicate};
 ghost use Rattle.model.specs.Instance.{instanceOf};
 ghost use Rattle.model.specs.Plans.{planCost, leastPlan};
 ghost use Rattle.model.specs.Calls.{exactPlan, coarsePlan};
-ghost use Rattle.planners.specs.Asked.{PlanOver, RackRoom, ExactRoom, CoarseRoom, CoarseCounts};
+ghost use Rattle.planners.specs.Asked.{PlanOver, RackRoom, ExactBuffers, CoarseBuffers, CoarseNumbers};
 
 // The least plan over a list of allowed counts, with room for a column.
 fn plan_with(
@@ -39,20 +39,19 @@ fn plan_over(card: &[u8], h: Header, counts: &[u64], plan: &mut [u8], work: &mut
 
 // The exact plan, with room for all counts from 0 to m.
 fn exact_over(card: &[u8], h: Header, counts: &mut [u64], plan: &mut [u8], work: &mut [u8]) -> u64
-    requires { ⌜ ExactRoom (now card) h (now plan) (now work) ⌝ }
+    requires { ⌜ ExactBuffers (now card) h (now plan) (now work) ⌝ }
     requires { ⌜ RackRoom (now counts) ⌝ }
     ensures { λ r. ⌜ r ≡ planCost (instanceOf (now (card .entry))) (exactPlan (instanceOf (now (card .entry)))) ⌝ }
     ensures { λ _. ⌜ now (plan .exit) ≡ exactPlan (instanceOf (now (card .entry))) ⌝ }
     ensures { λ _. ⌜ now (work .exit) ≡ replicate (length (now (work .entry))) 0 ⌝ }
 {
-    let width = h.modules as usize + 1;
-    counts::fill_all(&mut counts[..width]);
+    let width = counts::fill_all(counts, h.modules);
     plan_over(card, h, &counts[..width], plan, work)
 }
 
 // The exact planner: a plan of least cost over all counts, and its cost.
 pub fn exact(card: &[u8], h: Header, plan: &mut [u8], work: &mut [u8]) -> u64
-    requires { ⌜ ExactRoom (now card) h (now plan) (now work) ⌝ }
+    requires { ⌜ ExactBuffers (now card) h (now plan) (now work) ⌝ }
     ensures { λ r. ⌜ r ≡ planCost (instanceOf (now (card .entry))) (exactPlan (instanceOf (now (card .entry)))) ⌝ }
     ensures { λ _. ⌜ now (plan .exit) ≡ exactPlan (instanceOf (now (card .entry))) ⌝ }
     ensures { λ _. ⌜ now (work .exit) ≡ replicate (length (now (work .entry))) 0 ⌝ }
@@ -63,8 +62,8 @@ pub fn exact(card: &[u8], h: Header, plan: &mut [u8], work: &mut [u8]) -> u64
 
 // The coarse plan, with room for the coarse counts.
 fn coarse_over(card: &[u8], h: Header, counts: &mut [u64], plan: &mut [u8], work: &mut [u8]) -> u64
-    requires { ⌜ CoarseRoom (now card) h (now plan) (now work) ⌝ }
-    requires { ⌜ CoarseCounts (now counts) ⌝ }
+    requires { ⌜ CoarseBuffers (now card) h (now plan) (now work) ⌝ }
+    requires { ⌜ CoarseNumbers (now counts) ⌝ }
     ensures { λ r. ⌜ r ≡ planCost (instanceOf (now (card .entry))) (coarsePlan (instanceOf (now (card .entry)))) ⌝ }
     ensures { λ _. ⌜ now (plan .exit) ≡ coarsePlan (instanceOf (now (card .entry))) ⌝ }
     ensures { λ _. ⌜ now (work .exit) ≡ replicate (length (now (work .entry))) 0 ⌝ }
@@ -75,7 +74,7 @@ fn coarse_over(card: &[u8], h: Header, counts: &mut [u64], plan: &mut [u8], work
 
 // The coarse planner: a plan of least cost over 0, the powers of two up to m, and m, and its cost.
 pub fn coarse(card: &[u8], h: Header, plan: &mut [u8], work: &mut [u8]) -> u64
-    requires { ⌜ CoarseRoom (now card) h (now plan) (now work) ⌝ }
+    requires { ⌜ CoarseBuffers (now card) h (now plan) (now work) ⌝ }
     ensures { λ r. ⌜ r ≡ planCost (instanceOf (now (card .entry))) (coarsePlan (instanceOf (now (card .entry)))) ⌝ }
     ensures { λ _. ⌜ now (plan .exit) ≡ coarsePlan (instanceOf (now (card .entry))) ⌝ }
     ensures { λ _. ⌜ now (work .exit) ≡ replicate (length (now (work .entry))) 0 ⌝ }
