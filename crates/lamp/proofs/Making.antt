@@ -14,8 +14,8 @@ use Rattle.model.specs.Answers.{numberOf}
 use Rattle.model.specs.Instance.{instanceOf}
 use Rattle.model.specs.Thesis.{countsCost}
 use Rattle.model.specs.Plans.{planServes, sheetOf}
-use Rattle.model.specs.Calls.{Area, Gives, checkCard, makeSheet, plan, area, sheetBytes, answer, requestOf, refusals, applies, anyShort, rightLength}
-use Rattle.model.specs.Calls.{entriesInRange, loadsServed, lowest, successCost, sheetAtExit, atExit}
+use Rattle.model.specs.Calls.{Area, Gives, checkCard, makeSheet, plan, area, sheetBytes, answer, requestOf, refusals, applies}
+use Rattle.model.specs.Calls.{anyShort, rightLength, entriesInRange, loadsServed, lowest, successCost, sheetAtExit, atExit}
 use Rattle.model.specs.Promises.{MarkedAlike}
 use Rattle.laws.specs.Acceptance.{top-range}
 use Rattle.laws.specs.OnCard.{on-card-refused, on-card-passed}
@@ -41,7 +41,9 @@ module _ (s p x : List ℕ) where
   make-refused e = on-card-refused s lent (plan p) further _ e
 
   -- the sheet at exit, of a call that answers a cost and of one that refuses
-  pub sheet-written : {n : ℕ} → answer (makeSheet s p x) ≡ Cost n → sheetOf (instanceOf s) p ++ drop (length (sheetOf (instanceOf s) p)) x ≡ sheetAtExit s p x
+  pub sheet-written :
+      {n : ℕ} → answer (makeSheet s p x) ≡ Cost n →
+      sheetOf (instanceOf s) p ++ drop (length (sheetOf (instanceOf s) p)) x ≡ sheetAtExit s p x
   unfolding sheetAtExit atExit
   sheet-written e = rw e
 
@@ -50,7 +52,9 @@ module _ (s p x : List ℕ) where
   sheet-kept e = rw e
 
   -- the sheet made is marked at the cost given
-  pub marked-alike : {y : List ℕ} {number cost : ℕ} → Gives (answer (makeSheet s p x)) number cost → y ≡ sheetAtExit s p x → MarkedAlike s y number cost
+  pub marked-alike :
+      {y : List ℕ} {number cost : ℕ} → Gives (answer (makeSheet s p x)) number cost → y ≡ sheetAtExit s p x →
+      MarkedAlike s y number cost
   marked-alike {y} {number} {cost} g e z =
       let zero : numberOf (answer (makeSheet s p x)) ≡ 0 = sym (g .number-is) ∙ z in
       rw e (made-marked s p x zero ∙ (number-zero _ zero ∙ ap Cost (sym (g .cost-is))))
@@ -75,7 +79,7 @@ module _ (s p x : List ℕ) where
           rw (le-ltb _ _ room, ne-eqb (length p) (instanceOf s .slots) (λ e. n (e ∙ sym (r .header .slots-is)))))
 
       module _ (slotwise : length p ≡ h .slots) where
-        pub plan-sized : PlanSized s h p
+        plan-sized : PlanSized s h p
         plan-sized = record { ready = r; slotwise = slotwise ∙ r .header .slots-is }
 
         entries-as : countsUpTo (h .modules) p ≡ entriesInRange (instanceOf s) (plan p)

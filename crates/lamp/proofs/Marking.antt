@@ -10,7 +10,8 @@ use Rattle.model.specs.declared.Refusal.the-variants.{WrongLength, EntryRange, 
 use Rattle.model.specs.declared.Answer.the-variants.{Cost, Refused}
 use Rattle.model.specs.Instance.{instanceOf}
 use Rattle.model.specs.Sheets.{sheetLength, sheetEntries, sheetLight, sheetCost}
-use Rattle.model.specs.Calls.{checkCard, markSheet, sheet, answer, requestOf, refusals, applies, rightLength, entriesInRange, loadsServed, lowest, successCost, Gives}
+use Rattle.model.specs.Calls.{checkCard, markSheet, sheet, answer, requestOf, refusals, applies, rightLength, entriesInRange}
+use Rattle.model.specs.Calls.{loadsServed, lowest, successCost, Gives}
 use Rattle.model.specs.Promises.{AcceptsExactly}
 use Rattle.laws.specs.OnCard.{on-card-refused, on-card-passed}
 use Rattle.theory.specs.Outcomes.{mark-number}

@@ -14,7 +14,8 @@ use Rattle.model.specs.Instance.{instanceOf}
 use Rattle.model.specs.Counts.{allCounts, coarseCounts}
 use Rattle.model.specs.Sheets.{serves, sheetCost}
 use Rattle.model.specs.Plans.{planCost, leastPlan, sheetOf}
-use Rattle.model.specs.Calls.{Gives, checkCard, planExact, planCoarse, answer, requestOf, refusals, successCost, atExit, exactPlanAtExit, coarsePlanAtExit}
+use Rattle.model.specs.Calls.{Gives, checkCard, planExact, planCoarse, exactPlan, coarsePlan, answer, requestOf, refusals, successCost}
+use Rattle.model.specs.Calls.{atExit, exactPlanAtExit, coarsePlanAtExit}
 use Rattle.model.specs.Promises.{OwnSheet, AtMostTimes}
 use Rattle.laws.specs.Acceptance.{modules-range}
 use Rattle.laws.specs.Lowest.{lowest-passed}
@@ -30,46 +31,51 @@ module _
     (accepted : numberOf a ≡ 0 → answer (checkCard c) ≡ Cost 0)
     (least : numberOf a ≡ 0 → a ≡ Cost (planCost (instanceOf c) (leastPlan (instanceOf c) counts)))
     (asc : answer (checkCard c) ≡ Cost 0 → Ascending counts (instanceOf c .modules)) where
-  cost-of : {x : ℕ} → a ≡ Cost x → cost ≡ x
-  cost-of e = gives .cost-is ∙ rw e
+  abbrev best : List ℕ
+  best = leastPlan (instanceOf c) counts
 
   zero-of : number ≡ 0 → numberOf a ≡ 0
   zero-of e = sym (gives .number-is) ∙ e
 
-  taken : (entry : List ℕ) → number ≡ 0 → take (instanceOf c .slots) (atExit a (leastPlan (instanceOf c) counts) entry) ≡ leastPlan (instanceOf c) counts
+  cost-of : number ≡ 0 → cost ≡ planCost (instanceOf c) best
+  cost-of e = gives .cost-is ∙ rw (least (zero-of e))
+
+  -- the first T plan bytes at exit are the least plan
+  taken : (entry : List ℕ) → number ≡ 0 → take (instanceOf c .slots) (atExit a best entry) ≡ best
   unfolding atExit
   taken entry e =
       let given = accepted (zero-of e) in
-      rw (least (zero-of e))
-      (take-at (leastPlan (instanceOf c) counts) _ (instanceOf c .slots)
-      (least-plan-fits (accepted-plannable c given) counts (asc given) .slotwise))
+      rw (least (zero-of e)) (take-at best _ _ (least-plan-fits (accepted-plannable c given) counts (asc given) .slotwise))
 
-  best :
+  best-sheet :
       number ≡ 0 →
-      (serves (instanceOf c) (sheetOf (instanceOf c) (leastPlan (instanceOf c) counts)) ≡ true) ×
-      (sheetCost (instanceOf c) (sheetOf (instanceOf c) (leastPlan (instanceOf c) counts)) ≡ planCost (instanceOf c) (leastPlan (instanceOf c) counts))
-  best e = let given = accepted (zero-of e) in least-sheet (accepted-plannable c given) counts (asc given)
+      (serves (instanceOf c) (sheetOf (instanceOf c) best) ≡ true) × (sheetCost (instanceOf c) (sheetOf (instanceOf c) best) ≡ cost)
+  best-sheet e =
+      let given = accepted (zero-of e) in
+      let sheet = least-sheet (accepted-plannable c given) counts (asc given) in
+      (sheet .0, sheet .1 ∙ sym (cost-of e))
 
-  own-sheet : {plan : List ℕ} (entry : List ℕ) → plan ≡ atExit a (leastPlan (instanceOf c) counts) entry → OwnSheet c plan number cost
+  own-sheet : {plan : List ℕ} (entry : List ℕ) → plan ≡ atExit a best entry → OwnSheet c plan number cost
   own-sheet entry p =
       record {
-        sheet-serves = λ e. rw (p, taken entry e) (best e .0);
-        sheet-costs = λ e. rw (p, taken entry e) (best e .1 ∙ sym (cost-of (least (zero-of e))));
+        sheet-serves = λ e. rw (p, taken entry e) (best-sheet e .0);
+        sheet-costs = λ e. rw (p, taken entry e) (best-sheet e .1);
       }
 
   at-most :
       (r : ℕ) →
-      (numberOf a ≡ 0 → (s : List ℕ) → serves (instanceOf c) s ≡ true → planCost (instanceOf c) (leastPlan (instanceOf c) counts) ≤ r * sheetCost (instanceOf c) s) →
+      (numberOf a ≡ 0 → (s : List ℕ) → serves (instanceOf c) s ≡ true → planCost (instanceOf c) best ≤ r * sheetCost (instanceOf c) s) →
       AtMostTimes r c number cost
-  at-most r bound e s h = rw (cost-of (least (zero-of e))) (bound (zero-of e) s h)
+  at-most r bound e s h = rw (cost-of e) (bound (zero-of e) s h)
 
 -- The exact planner.
 module _ (c p w : List ℕ) {number cost : ℕ} (gives : Gives (answer (planExact c p w)) number cost) where
-  exact-on : numberOf (answer (planExact c p w)) ≡ 0 → answer (checkCard c) ≡ Cost 0
+  exact-accepted : numberOf (answer (planExact c p w)) ≡ 0 → answer (checkCard c) ≡ Cost 0
   unfolding answer requestOf refusals
-  exact-on e = on-card-accepted c _ _ _ _ (succeeded (planExact c p w) e)
+  exact-accepted e = on-card-accepted c _ _ _ _ (succeeded (planExact c p w) e)
 
-  exact-success : numberOf (answer (planExact c p w)) ≡ 0 → answer (planExact c p w) ≡ Cost (planCost (instanceOf c) (leastPlan (instanceOf c) (allCounts (instanceOf c .modules))))
+  exact-success :
+      numberOf (answer (planExact c p w)) ≡ 0 → answer (planExact c p w) ≡ Cost (planCost (instanceOf c) (exactPlan (instanceOf c)))
   unfolding successCost
   exact-success e = succeeded (planExact c p w) e
 
@@ -78,20 +84,21 @@ module _ (c p w : List ℕ) {number cost : ℕ} (gives : Gives (answer (planExac
 
   pub exact-own : {plan : List ℕ} → plan ≡ exactPlanAtExit c p w → OwnSheet c plan number cost
   unfolding exactPlanAtExit
-  exact-own e = own-sheet c _ (answer (planExact c p w)) gives exact-on exact-success all-asc p e
+  exact-own e = own-sheet c _ (answer (planExact c p w)) gives exact-accepted exact-success all-asc p e
 
   pub exact-bound : AtMostTimes 1 c number cost
   exact-bound =
-      at-most c _ (answer (planExact c p w)) gives exact-on exact-success all-asc 1
-      (λ e s h. rw one-mul (exact-least (accepted-plannable c (exact-on e)) s h))
+      at-most c _ (answer (planExact c p w)) gives exact-accepted exact-success all-asc 1
+      (λ e s h. rw one-mul (exact-least (accepted-plannable c (exact-accepted e)) s h))
 
 -- The coarse planner.
 module _ (c p w : List ℕ) {number cost : ℕ} (gives : Gives (answer (planCoarse c p w)) number cost) where
-  coarse-on : numberOf (answer (planCoarse c p w)) ≡ 0 → answer (checkCard c) ≡ Cost 0
+  coarse-accepted : numberOf (answer (planCoarse c p w)) ≡ 0 → answer (checkCard c) ≡ Cost 0
   unfolding answer requestOf refusals
-  coarse-on e = on-card-accepted c _ _ _ _ (succeeded (planCoarse c p w) e)
+  coarse-accepted e = on-card-accepted c _ _ _ _ (succeeded (planCoarse c p w) e)
 
-  coarse-success : numberOf (answer (planCoarse c p w)) ≡ 0 → answer (planCoarse c p w) ≡ Cost (planCost (instanceOf c) (leastPlan (instanceOf c) (coarseCounts (instanceOf c .modules))))
+  coarse-success :
+      numberOf (answer (planCoarse c p w)) ≡ 0 → answer (planCoarse c p w) ≡ Cost (planCost (instanceOf c) (coarsePlan (instanceOf c)))
   unfolding successCost
   coarse-success e = succeeded (planCoarse c p w) e
 
@@ -102,13 +109,13 @@ module _ (c p w : List ℕ) {number cost : ℕ} (gives : Gives (answer (planCoar
   unfolding answer requestOf refusals
   rises e =
       monotone-never-falls c p w
-      (lowest-passed _ _ _ (sym (on-card-passed c _ _ (NotMonotone ∷ BufferTooShort ∷ []) _ (coarse-on e)) ∙ coarse-success e) .0)
+      (lowest-passed _ _ _ (sym (on-card-passed c _ _ (NotMonotone ∷ BufferTooShort ∷ []) _ (coarse-accepted e)) ∙ coarse-success e) .0)
 
   pub coarse-own : {plan : List ℕ} → plan ≡ coarsePlanAtExit c p w → OwnSheet c plan number cost
   unfolding coarsePlanAtExit
-  coarse-own e = own-sheet c _ (answer (planCoarse c p w)) gives coarse-on coarse-success coarse-asc p e
+  coarse-own e = own-sheet c _ (answer (planCoarse c p w)) gives coarse-accepted coarse-success coarse-asc p e
 
   pub coarse-bound : AtMostTimes 2 c number cost
   coarse-bound =
-      at-most c _ (answer (planCoarse c p w)) gives coarse-on coarse-success coarse-asc 2
-      (λ e s h. coarse-twice (accepted-plannable c (coarse-on e)) (rises e) s h)
+      at-most c _ (answer (planCoarse c p w)) gives coarse-accepted coarse-success coarse-asc 2
+      (λ e s h. coarse-twice (accepted-plannable c (coarse-accepted e)) (rises e) s h)

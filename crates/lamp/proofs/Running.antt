@@ -8,7 +8,8 @@ use Rattle.model.specs.declared.Refusal.the-variants.{EntryRange, LoadNotServed
 use Rattle.model.specs.declared.Answer.the-variants.{Cost, Refused}
 use Rattle.model.specs.Instance.{instanceOf}
 use Rattle.model.specs.Counts.{canServe, operatingCost}
-use Rattle.model.specs.Calls.{checkCard, runningCost, pair, answer, requestOf, refusals, applies, entriesInRange, loadsServed, lowest, successCost}
+use Rattle.model.specs.Calls.{checkCard, runningCost, pair, answer, requestOf, refusals, applies, entriesInRange}
+use Rattle.model.specs.Calls.{loadsServed, lowest, successCost}
 use Rattle.laws.specs.OnCard.{on-card-refused, on-card-passed}
 use Rattle.card.specs.declared.Header.{Header}
 use Rattle.card.specs.Checking.{Ready}

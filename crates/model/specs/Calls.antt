@@ -8,11 +8,13 @@ use lib.Dec.{leb, ltb, eqb}
 use Rattle.lists.specs.Tests.{every}
 use Rattle.lists.specs.Lists.{sameList}
 use Rattle.model.specs.declared.Refusal.{Refusal}
-use Rattle.model.specs.declared.Refusal.the-variants.{NotACard, Version, RackSize, SlotCount, CardLength, PriceRange, NotConvex, LoadRange, NotMonotone, BufferTooShort, WrongLength, EntryRange, LoadNotServed}
+use Rattle.model.specs.declared.Refusal.the-variants.{NotACard, Version, RackSize, SlotCount, CardLength, PriceRange, NotConvex, LoadRange}
+use Rattle.model.specs.declared.Refusal.the-variants.{NotMonotone, BufferTooShort, WrongLength, EntryRange, LoadNotServed}
 use Rattle.model.specs.declared.Answer.{Answer}
 use Rattle.model.specs.declared.Answer.the-variants.{Cost, Refused}
 use Rattle.model.specs.Answers.{numberOf, costOf}
-use Rattle.model.specs.Instance.{Instance, instanceOf, markOf, cardMark, versionOf, cardLength, convex, neverFalls, pricesInRange, loadsInRange}
+use Rattle.model.specs.Instance.{Instance, instanceOf, markOf, cardMark, versionOf, cardLength, convex, neverFalls, pricesInRange}
+use Rattle.model.specs.Instance.{loadsInRange}
 use Rattle.model.specs.Counts.{canServe, operatingCost, allCounts, coarseCounts, roundedCount}
 use Rattle.model.specs.Sheets.{sheetLength, sheetEntries, sheetLight, sheetCost}
 use Rattle.model.specs.Plans.{planServes, planCost, sheetOf, leastPlan}

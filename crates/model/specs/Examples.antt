@@ -1,4 +1,4 @@
--- Document 01's starred examples, A to J: one table, one proof. Beside it, the answers of wrong programs, which differ.
+-- Document 01's starred examples, A to J, and some more: one table, one proof. Beside it, the answers of wrong programs, which differ.
 use Prim.Native.Nat.{ℕ, zero, suc, _-_, _/_, _%_}
 use Prim.Native.String.{String}
 use mathlib.Core.Path.{_≡_, refl, ap, sym, _∙_}
@@ -11,14 +11,16 @@ use Rattle.lists.specs.Sums.{sum}
 use Rattle.lists.specs.Lists.{tabulate, rows, keep, sameList, sameLists, same-selves, same-lists-equal}
 use Rattle.lists.specs.Bytes.{littleEndian}
 use Rattle.model.specs.Answers.{numberOf, costOf}
-use Rattle.model.specs.Instance.{instanceOf, cardMark, cardLength, bendsUp, convex, neverFalls, tableInRange, pricesInRange, loadsInRange}
+use Rattle.model.specs.Instance.{instanceOf, cardMark, cardLength, bendsUp, convex, neverFalls, tableInRange, pricesInRange}
+use Rattle.model.specs.Instance.{loadsInRange}
 use Rattle.model.specs.Counts.{canServe, operatingCost, allCounts, powerOfTwo, coarseCounts, roundedCount}
 use Rattle.model.specs.Sheets.{stateAt, sheetLength, sheetEntries, lightAt, sheetLight, stepCost, changeCost, sheetCost}
 use Rattle.model.specs.Plans.{moduleByte, slotRow, sheetOf, planCost, planServes, plansInOrder, cheapest, cheapestOf, leastPlan}
 use Rattle.model.specs.Listing.{digits, decimal, costLine, planLine, stepText, slotLine, listing, refusedLine, printedFor, printed}
-use Rattle.model.specs.Calls.{Call, checkCard, runningCost, planExact, planCoarse, makeSheet, markSheet}
+use Rattle.model.specs.Calls.{Call, checkCard, runningCost, planExact, planCoarse, makeSheet, markSheet, roundCount}
 use Rattle.model.specs.Calls.{rightLength, entriesInRange, loadsServed, anyShort, requestOf, applies, refusals, lowest, successCost}
-use Rattle.model.specs.Calls.{answer, atExit, exactPlanAtExit, exactWorkAtExit, coarsePlanAtExit, coarseWorkAtExit, sheetAtExit, buffersAtExit, outcome}
+use Rattle.model.specs.Calls.{answer, atExit, exactPlanAtExit, exactWorkAtExit, coarsePlanAtExit, coarseWorkAtExit, sheetAtExit}
+use Rattle.model.specs.Calls.{buffersAtExit, outcome}
 
 -- a number in w bytes, least byte first
 abbrev bytesOf : ℕ → ℕ → List ℕ
@@ -55,7 +57,11 @@ cardI = cardOf 3 2 3 2 (1 ∷ 2 ∷ 4 ∷ []) []
 abbrev cardUp : List ℕ
 cardUp = cardOf 4 2 1 0 (1 ∷ 1 ∷ 4 ∷ []) (3 ∷ [])
 
--- its listing, as document 01 prints it
+-- example D's sheet for card A
+abbrev sheetD : List ℕ
+sheetD = 2 ∷ 2 ∷ 2 ∷ 255 ∷ 0 ∷ 255 ∷ 2 ∷ 255 ∷ 255 ∷ []
+
+-- card A's listing, as document 01 prints it
 abbrev listingA : List ℕ
 listingA =
     99 ∷ 111 ∷ 115 ∷ 116 ∷ 32 ∷ 51 ∷ 50 ∷ 10 ∷
@@ -81,19 +87,20 @@ pub record Example : Type 0 where
 abbrev row : String → Call → ℕ → ℕ → List (List ℕ) → Example
 row n c number cost buffers = record { name = n; found = outcome c; expected = (number ∷ cost ∷ []) ∷ buffers }
 
-abbrev counts : String → ℕ → List ℕ → Example
-counts n m list = record { name = n; found = coarseCounts m ∷ []; expected = list ∷ [] }
+-- one list of numbers: as it is found, and as it is expected
+abbrev one : String → List ℕ → List ℕ → Example
+one n found expected = record { name = n; found = found ∷ []; expected = expected ∷ [] }
 
 starred : List Example
 starred =
     row "A exact" (planExact cardA (lent 5) (lent 14)) 0 32 (over 5 (3 ∷ 1 ∷ 1 ∷ []) ∷ over 14 (replicate 12 0) ∷ []) ∷
-    record { name = "A listing"; found = printed cardA ∷ []; expected = listingA ∷ [] } ∷
+    one "A listing" (printed cardA) listingA ∷
     row "A sheet" (makeSheet cardA (3 ∷ 1 ∷ 1 ∷ []) (lent 11)) 0 32 (over 11 (2 ∷ 2 ∷ 2 ∷ 0 ∷ 255 ∷ 255 ∷ 2 ∷ 255 ∷ 255 ∷ []) ∷ []) ∷
     row "B" (runningCost cardA 3 4) 0 8 [] ∷
     row "C cannot serve" (runningCost cardA 2 5) 13 0 [] ∷
     row "C none" (runningCost cardA 0 0) 0 0 [] ∷
-    row "D" (markSheet cardA (2 ∷ 2 ∷ 2 ∷ 255 ∷ 0 ∷ 255 ∷ 2 ∷ 255 ∷ 255 ∷ [])) 0 37 [] ∷
-    row "D last byte 0" (markSheet cardA (2 ∷ 2 ∷ 2 ∷ 255 ∷ 0 ∷ 255 ∷ 2 ∷ 255 ∷ 0 ∷ [])) 0 43 [] ∷
+    row "D" (markSheet cardA sheetD) 0 37 [] ∷
+    row "D last byte 0" (markSheet cardA (set sheetD 8 0)) 0 43 [] ∷
     row "E exact" (planExact cardE (lent 4) (lent 28)) 0 5 (over 4 (5 ∷ 5 ∷ 5 ∷ []) ∷ over 28 (replicate 27 0) ∷ []) ∷
     row "E coarse" (planCoarse cardE (lent 4) (lent 31)) 0 8 (over 4 (8 ∷ 8 ∷ 8 ∷ []) ∷ over 31 (replicate 30 0) ∷ []) ∷
     row "F" (planExact cardF (lent 3) (lent 7)) 0 1 (over 3 (1 ∷ 0 ∷ []) ∷ over 7 (replicate 6 0) ∷ []) ∷
@@ -103,13 +110,18 @@ starred =
     row "H accepted" (checkCard (cardOf 3 2 3 2 (0 ∷ 2 ∷ 4 ∷ []) (1 ∷ []))) 0 0 [] ∷
     row "I exact" (planExact cardI (lent 2) (lent 2)) 0 0 (lent 2 ∷ lent 2 ∷ []) ∷
     row "I coarse" (planCoarse cardI (lent 2) (lent 2)) 0 0 (lent 2 ∷ lent 2 ∷ []) ∷
-    counts "J rack of 1" 1 (0 ∷ 1 ∷ []) ∷
-    counts "J rack of 128" 128 (0 ∷ 1 ∷ 2 ∷ 4 ∷ 8 ∷ 16 ∷ 32 ∷ 64 ∷ 128 ∷ []) ∷
-    counts "J rack of 200" 200 (0 ∷ 1 ∷ 2 ∷ 4 ∷ 8 ∷ 16 ∷ 32 ∷ 64 ∷ 128 ∷ 200 ∷ []) ∷
+    one "J rack of 1" (coarseCounts 1) (0 ∷ 1 ∷ []) ∷
+    one "J rack of 128" (coarseCounts 128) (0 ∷ 1 ∷ 2 ∷ 4 ∷ 8 ∷ 16 ∷ 32 ∷ 64 ∷ 128 ∷ []) ∷
+    one "J rack of 200" (coarseCounts 200) (0 ∷ 1 ∷ 2 ∷ 4 ∷ 8 ∷ 16 ∷ 32 ∷ 64 ∷ 128 ∷ 200 ∷ []) ∷
     row "L cut to 34" (checkCard (take 34 cardA)) 5 0 [] ∷
     row "L cut to 16" (checkCard (take 16 cardA)) 1 0 [] ∷
     row "L version before rack" (checkCard (set (set cardA 3 2) 5 0)) 2 0 [] ∷
     row "rack before slots" (checkCard (set (set cardA 8 9) 5 0)) 3 0 [] ∷
+    row "short area before a short plan" (makeSheet cardA [] (lent 8)) 10 0 (lent 8 ∷ []) ∷
+    row "sheet of 8 bytes" (markSheet cardA (take 8 sheetD)) 11 0 [] ∷
+    row "count 4 in slot 3 before count 0 in slot 1" (makeSheet cardA (0 ∷ 1 ∷ 4 ∷ []) (lent 9)) 12 0 (lent 9 ∷ []) ∷
+    row "rounded 5 of 6" (roundCount 5 6) 0 6 [] ∷
+    row "rounded 5 of 200" (roundCount 5 200) 0 8 [] ∷
     row "plausible error: rounding up" (planCoarse cardUp (lent 1) (lent 10)) 0 7 ((2 ∷ []) ∷ replicate 10 0 ∷ []) ∷
     []
 
@@ -144,22 +156,22 @@ holds-equal e v = same-lists-equal (e .found) (e .expected) (go (sameLists (e .f
     go true w = refl
     go false w = elim w [ ]
 
-abbrev numbers : Call → List (List ℕ)
-numbers c = (numberOf (answer c) ∷ []) ∷ []
+abbrev numbers : Call → List ℕ
+numbers c = numberOf (answer c) ∷ []
 
-abbrev costs : Call → List (List ℕ)
-costs c = (costOf (answer c) ∷ []) ∷ []
+abbrev costs : Call → List ℕ
+costs c = costOf (answer c) ∷ []
 
 -- Wrong programs of document 01's last section, and two plausible errors: `expected` is what the program would answer.
 wrong : List Example
 wrong =
-    record { name = "full rack always (A)"; found = exactPlanAtExit cardA (lent 5) (lent 14) ∷ []; expected = over 5 (3 ∷ 3 ∷ 3 ∷ []) ∷ [] } ∷
-    record { name = "slot 1's count repeated (F)"; found = exactPlanAtExit cardF (lent 3) (lent 7) ∷ []; expected = over 3 (1 ∷ 1 ∷ []) ∷ [] } ∷
-    record { name = "no plan written (A)"; found = exactPlanAtExit cardA (replicate 5 255) (lent 14) ∷ []; expected = replicate 5 255 ∷ [] } ∷
-    record { name = "8 in every card (A)"; found = numbers (checkCard cardA); expected = (8 ∷ []) ∷ [] } ∷
-    record { name = "10 in every card (A)"; found = numbers (planExact cardA (lent 5) (lent 14)); expected = (10 ∷ []) ∷ [] } ∷
-    record { name = "invented cost: the least (D)"; found = costs (markSheet cardA (2 ∷ 2 ∷ 2 ∷ 255 ∷ 0 ∷ 255 ∷ 2 ∷ 255 ∷ 255 ∷ [])); expected = (32 ∷ []) ∷ [] } ∷
-    record { name = "rounding exact counts up"; found = coarsePlanAtExit cardUp (lent 1) (lent 10) ∷ []; expected = (4 ∷ []) ∷ [] } ∷
+    one "full rack always (A)" (exactPlanAtExit cardA (lent 5) (lent 14)) (over 5 (3 ∷ 3 ∷ 3 ∷ [])) ∷
+    one "slot 1's count repeated (F)" (exactPlanAtExit cardF (lent 3) (lent 7)) (over 3 (1 ∷ 1 ∷ [])) ∷
+    one "no plan written (A)" (exactPlanAtExit cardA (replicate 5 255) (lent 14)) (replicate 5 255) ∷
+    one "8 in every card (A)" (numbers (checkCard cardA)) (8 ∷ []) ∷
+    one "10 in every card (A)" (numbers (planExact cardA (lent 5) (lent 14))) (10 ∷ []) ∷
+    one "invented cost: the least (D)" (costs (markSheet cardA sheetD)) (32 ∷ []) ∷
+    one "rounding exact counts up" (coarsePlanAtExit cardUp (lent 1) (lent 10)) (4 ∷ []) ∷
     []
 
 -- no row holds

@@ -13,7 +13,10 @@ enum-known-h : tie.Need-enum-known-h
 enum-known-h c = search needs
 
 plan-coarse-requires : tie.Need-plan-coarse-requires
-plan-coarse-requires c κs = ready _ (sym (c .before .before .before .before .before .check .ensures) ∙ c .before .before .before .h .given .1)
+plan-coarse-requires c κs =
+    let h = c .before .before .before .h in
+    let check = c .before .before .before .before .before .check in
+    ready _ (sym (check .ensures) ∙ h .given .1)
 
 enum-known-x : tie.Need-enum-known-x
 enum-known-x c = search needs

@@ -5,47 +5,35 @@ use Rattle.lamp.proofs.Making.{make-refused, sheet-kept, marked-alike}
 use borrow.Author.Needs.{needs}
 use Rattle.lamp.proofs.lamp_sheet.Statement.{statement}
 use Rattle.lamp.proofs.lamp_sheet.Tie as tie
-use Rattle.lamp.proofs.lamp_sheet.Reads as reads
-use Rattle.lamp.proofs.lamp_sheet.Lts as lts
-use Rattle.card.proofs.check.Reads as check-reads
-use Rattle.lamp.proofs.make_sheet.Reads as make-sheet-reads
-use Rattle.lamp.proofs.refused.Reads as refused-reads
 
--- src/lib.rt:153:11
 check-requires : tie.Need-check-requires
 check-requires c κs = search needs
 
--- src/lib.rt:154:27
 enum-known-h : tie.Need-enum-known-h
 enum-known-h c = search needs
 
--- src/lib.rt:154:33
 make-sheet-requires : tie.Need-make-sheet-requires
 make-sheet-requires c κs = ready _ (sym (c .before .before .before .before .check .ensures) ∙ c .before .before .h .given .1)
 
--- src/lib.rt:155:30
 enum-known-x : tie.Need-enum-known-x
 enum-known-x c = search needs
 
--- src/lib.rt:155:36
 refused-requires : tie.Need-refused-requires
 refused-requires c κs = search needs
 
--- src/lib.rt:147:1
 same-length : tie.Need-same-length
 same-length c = search needs
 
--- src/lib.rt:147:1
 returns : tie.Need-returns
 returns c =
     let g = c .before .before .make-sheet .ensures .0 in
     let e = c .before .before .make-sheet .ensures .1 in
     (g, (e, marked-alike _ _ _ g e))
 
--- src/lib.rt:147:1
 returns-2 : tie.Need-returns-2
 returns-2 c =
-    let a = make-refused _ _ _ (refused-answer _ (sym (c .before .before .before .before .check .ensures) ∙ c .before .before .x .given .1)) in
+    let check = c .before .before .before .before .check in
+    let a = make-refused _ _ _ (refused-answer _ (sym (check .ensures) ∙ c .before .before .x .given .1)) in
     let g = gives-as a (c .refused .ensures) in
     let e = sheet-kept _ _ _ a in
     (g, (e, marked-alike _ _ _ g e))

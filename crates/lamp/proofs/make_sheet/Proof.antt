@@ -4,49 +4,39 @@ use Rattle.lamp.proofs.Making.{made-plan, made-area, sheet-written, she
 use borrow.Author.Needs.{needs}
 use Rattle.lamp.proofs.make_sheet.Statement.{statement}
 use Rattle.lamp.proofs.make_sheet.Tie as tie
-use Rattle.lamp.proofs.make_sheet.Reads as reads
-use Rattle.lamp.proofs.make_sheet.Lts as lts
-use Rattle.lamp.proofs.check_plan.Reads as check-plan-reads
-use Rattle.lamp.proofs.refused.Reads as refused-reads
-use Rattle.sheets.proofs.write_sheet.Reads as write-sheet-reads
 
--- src/lib.rt:136:9
 check-plan-requires : tie.Need-check-plan-requires
 check-plan-requires c κs = search needs
 
--- src/lib.rt:138:22
 enum-known-found : tie.Need-enum-known-found
 enum-known-found c = search needs
 
--- src/lib.rt:139:13
 write-sheet-requires : tie.Need-write-sheet-requires
 write-sheet-requires c κs =
-    let e = sym (c .before .before .before .before .check-plan .ensures) ∙ c .before .before .found .given .1 in
-    (made-plan _ _ _ _ (c .before .before .before .before .before .before .before .before .before .pre) e, made-area _ _ _ _ (c .before .before .before .before .before .before .before .before .before .pre) e)
+    let check-plan = c .before .before .before .before .check-plan in
+    let start = c .before .before .before .before .before .before .before .before .before in
+    let e = sym (check-plan .ensures) ∙ c .before .before .found .given .1 in
+    (made-plan _ _ _ _ (start .pre) e, made-area _ _ _ _ (start .pre) e)
 
--- src/lib.rt:142:25
 enum-known-found-2 : tie.Need-enum-known-found-2
 enum-known-found-2 c = search needs
 
--- src/lib.rt:142:31
 refused-requires : tie.Need-refused-requires
 refused-requires c κs = search needs
 
--- src/lib.rt:131:1
 same-length : tie.Need-same-length
 same-length c = search needs
 
--- src/lib.rt:131:1
 returns : tie.Need-returns
 returns c =
-    let e = sym (c .before .before .before .before .before .before .before .check-plan .ensures) ∙ c .before .before .before .before .before .found .given .1 in
+    let found = c .before .before .before .before .before .found in
+    let check-plan = c .before .before .before .before .before .before .before .check-plan in
+    let e = sym (check-plan .ensures) ∙ found .given .1 in
     (gives-cost e refl, c .before .before .write-sheet .ensures ∙ sheet-written _ _ _ e)
 
--- src/lib.rt:131:1
 same-length-2 : tie.Need-same-length-2
 same-length-2 c = search needs
 
--- src/lib.rt:131:1
 returns-2 : tie.Need-returns-2
 returns-2 c =
     let e = sym (c .before .before .before .before .check-plan .ensures) ∙ c .before .before .found2 .given .1 in

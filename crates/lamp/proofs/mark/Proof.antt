@@ -5,64 +5,61 @@ use Rattle.lamp.proofs.Marking.{mark-length, mark-entries, mark-light, 
 use borrow.Author.Needs.{needs}
 use Rattle.lamp.proofs.mark.Statement.{statement}
 use Rattle.lamp.proofs.mark.Tie as tie
-use Rattle.lamp.proofs.mark.Reads as reads
-use Rattle.lamp.proofs.mark.Lts as lts
-use Rattle.lamp.proofs.refused.Reads as refused-reads
-use Rattle.sheets.proofs.sheet_cost.Reads as sheet-cost-reads
-use Rattle.sheets.proofs.sheet_entries.Reads as sheet-entries-reads
-use Rattle.sheets.proofs.sheet_light.Reads as sheet-light-reads
 
--- src/lib.rt:164:17
 mul-size : tie.Need-mul-size
 mul-size c = sheet-size-fits (c .before .before .before .pre)
 
--- src/lib.rt:166:9
 refused-requires : tie.Need-refused-requires
 refused-requires c κs = search needs
 
--- src/lib.rt:166:9
 returns : tie.Need-returns
 returns c = gives-as (mark-length _ _ _ (c .before .before .before .before .before .pre) (c .before .if1 .taken)) (c .refused .ensures)
 
--- src/lib.rt:168:9
 sheet-entries-requires : tie.Need-sheet-entries-requires
 sheet-entries-requires c κs = search needs
 
--- src/lib.rt:169:9
 refused-requires-2 : tie.Need-refused-requires-2
 refused-requires-2 c κs = search needs
 
--- src/lib.rt:169:9
 returns-2 : tie.Need-returns-2
 returns-2 c =
-    gives-as (mark-entries _ _ _ (c .before .before .before .before .before .before .before .pre) (c .before .before .before .if1 .left) (test-failed (c .before .before .sheet-entries .ensures) (c .before .if2 .taken)))
+    let if1 = c .before .before .before .if1 in
+    let start = c .before .before .before .before .before .before .before in
+    gives-as (mark-entries _ _ _ (start .pre) (if1 .left) (test-failed (c .before .before .sheet-entries .ensures) (c .before .if2 .taken)))
     (c .refused2 .ensures)
 
--- src/lib.rt:171:9
 sheet-light-requires : tie.Need-sheet-light-requires
 sheet-light-requires c κs = sized _ _ _ (c .before .before .before .before .before .before .pre) (c .before .before .if1 .left)
 
--- src/lib.rt:172:9
 refused-requires-3 : tie.Need-refused-requires-3
 refused-requires-3 c κs = search needs
 
--- src/lib.rt:172:9
 returns-3 : tie.Need-returns-3
 returns-3 c =
+    let if2 = c .before .before .before .if2 in
+    let sheet-entries = c .before .before .before .before .sheet-entries in
+    let if1 = c .before .before .before .before .before .if1 in
+    let start = c .before .before .before .before .before .before .before .before .before in
     gives-as
-    (mark-light _ _ _ (c .before .before .before .before .before .before .before .before .before .pre) (c .before .before .before .before .before .if1 .left) (test-passed (c .before .before .before .before .sheet-entries .ensures) (c .before .before .before .if2 .left))
+    (mark-light _ _ _ (start .pre) (if1 .left) (test-passed (sheet-entries .ensures) (if2 .left))
     (test-failed (c .before .before .sheet-light .ensures) (c .before .if3 .taken)))
     (c .refused3 .ensures)
 
--- src/lib.rt:176:15
 sheet-cost-requires : tie.Need-sheet-cost-requires
-sheet-cost-requires c κs = sheet-ready _ _ _ (c .before .before .before .before .before .before .before .before .pre) (c .before .before .before .before .if1 .left) (test-passed (c .before .before .before .sheet-entries .ensures) (c .before .before .if2 .left))
+sheet-cost-requires c κs =
+    let sheet-entries = c .before .before .before .sheet-entries in
+    let if1 = c .before .before .before .before .if1 in
+    let start = c .before .before .before .before .before .before .before .before in
+    sheet-ready _ _ _ (start .pre) (if1 .left) (test-passed (sheet-entries .ensures) (c .before .before .if2 .left))
 
--- src/lib.rt:160:1
 returns-4 : tie.Need-returns-4
 returns-4 c =
+    let if2 = c .before .before .before .if2 in
+    let sheet-entries = c .before .before .before .before .sheet-entries in
+    let if1 = c .before .before .before .before .before .if1 in
+    let start = c .before .before .before .before .before .before .before .before .before in
     gives-cost
-    (mark-cost _ _ _ (c .before .before .before .before .before .before .before .before .before .pre) (c .before .before .before .before .before .if1 .left) (test-passed (c .before .before .before .before .sheet-entries .ensures) (c .before .before .before .if2 .left))
+    (mark-cost _ _ _ (start .pre) (if1 .left) (test-passed (sheet-entries .ensures) (if2 .left))
     (test-passed (c .before .before .sheet-light .ensures) (c .before .if3 .left)))
     (c .sheet-cost .ensures)
 

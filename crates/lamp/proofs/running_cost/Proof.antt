@@ -5,47 +5,43 @@ use Rattle.lamp.proofs.Running.{running-entry, running-load, served, ru
 use borrow.Author.Needs.{needs}
 use Rattle.lamp.proofs.running_cost.Statement.{statement}
 use Rattle.lamp.proofs.running_cost.Tie as tie
-use Rattle.lamp.proofs.running_cost.Reads as reads
-use Rattle.lamp.proofs.running_cost.Lts as lts
-use Rattle.counts.proofs.operating_cost.Reads as operating-cost-reads
-use Rattle.lamp.proofs.refused.Reads as refused-reads
 
--- src/lib.rt:64:9
 refused-requires : tie.Need-refused-requires
 refused-requires c κs = search needs
 
--- src/lib.rt:64:9
 returns : tie.Need-returns
 returns c = gives-as (running-entry _ _ _ _ (c .before .before .before .before .pre) (c .before .if1 .taken)) (c .refused .ensures)
 
--- src/lib.rt:66:8
 mul-if2 : tie.Need-mul-if2
 mul-if2 c =
+    let start = c .before .before .before .before in
     record {
       fits =
           omega (
             arith,
-            mul-le-mul {n₁ = c .before .before .before .before .args .count} {m₁ = c .before .before .before .before .args .h .top} {n₂ = 256} {m₂ = 256}
-                (omega (arith, c .before .if1 .left, c .before .before .before .before .pre .header .modules-bound))
-                (omega (arith, c .before .before .before .before .pre .header .top-bound)),
+            mul-le-mul {n₁ = start .args .count} {m₁ = start .args .h .top} {n₂ = 256} {m₂ = 256}
+                (omega (arith, c .before .if1 .left, start .pre .header .modules-bound))
+                (omega (arith, start .pre .header .top-bound)),
           );
     }
 
--- src/lib.rt:67:9
 refused-requires-2 : tie.Need-refused-requires-2
 refused-requires-2 c κs = search needs
 
--- src/lib.rt:67:9
 returns-2 : tie.Need-returns-2
-returns-2 c = gives-as (running-load _ _ _ _ (c .before .before .before .before .before .before .pre) (c .before .before .before .if1 .left) (c .before .if2 .taken)) (c .refused2 .ensures)
+returns-2 c =
+    let if1 = c .before .before .before .if1 in
+    let start = c .before .before .before .before .before .before in
+    gives-as (running-load _ _ _ _ (start .pre) (if1 .left) (c .before .if2 .taken)) (c .refused2 .ensures)
 
--- src/lib.rt:71:15
 operating-cost-requires : tie.Need-operating-cost-requires
 operating-cost-requires c κs = served _ _ _ _ (c .before .before .before .before .before .pre) (c .before .before .if1 .left) (c .if2 .left)
 
--- src/lib.rt:59:1
 returns-3 : tie.Need-returns-3
-returns-3 c = gives-cost (running-cost _ _ _ _ (c .before .before .before .before .before .before .pre) (c .before .before .before .if1 .left) (c .before .if2 .left)) (c .operating-cost .ensures)
+returns-3 c =
+    let if1 = c .before .before .before .if1 in
+    let start = c .before .before .before .before .before .before in
+    gives-cost (running-cost _ _ _ _ (start .pre) (if1 .left) (c .before .if2 .left)) (c .operating-cost .ensures)
 
 pub running-cost-spec : {M : Type 1} → statement M
 running-cost-spec =
