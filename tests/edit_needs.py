@@ -20,7 +20,7 @@ for log in sorted((ROOT / "target" / "must-fail").glob("*/*/.log")):
         place = re.search(r"(?:proofs|specs)/(\S+?)\.antt", errors[0])
         name = re.search(r"error: `([^`]+)`", errors[0])
         first = f"{place.group(1) if place else '?'}: {name.group(1) if name else '?'}"
-        row = re.search(r'Failed \(\((?:row|counts) "([^"]+)"|verdict \(\((?:row|counts) "([^"]+)"', text)
+        row = re.search(r'Failed \(\((?:row|one) "([^"]+)"|verdict \(\((?:row|one) "([^"]+)"', text)
         if row and crate == "model":
             first += f', row "{row.group(1) or row.group(2)}"'
     elif unproved:

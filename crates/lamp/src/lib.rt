@@ -205,8 +205,11 @@ fn plan_exact(card: &[u8], h: Header, plan: &mut [u8], work: &mut [u8]) -> LampA
     if work.len() < asked {
         return refused(Refusal::BufferTooShort);
     }
-    let cost = planners::exact(card, h, &mut plan[..slots], &mut work[..asked]);
-    LampAnswer { number: 0, cost }
+    let least = planners::exact(card, h, &mut plan[..slots], &mut work[..asked]);
+    LampAnswer {
+        number: 0,
+        cost: least,
+    }
 }
 
 // The plan of least cost over all sheets: refusals 1 to 8, 10.
