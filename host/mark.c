@@ -1,6 +1,6 @@
 /* A small host: marks the two sheets of document 01's example D, then plans the card and marks the planner's own sheet.
  *
- *   gcc -std=c11 -Wall -Wextra -Werror -Iinclude host/mark.c target/staticlib/liblamp.a -o target/host-mark
+ *   gcc -std=c11 -Wall -Wextra -Werror -Iinclude host/mark.c target/staticlib/liblamp.a -o target/host/mark
  */
 #include <inttypes.h>
 #include <stdio.h>
