@@ -109,7 +109,7 @@ module _ (i : Instance) where
         (le-or-lt (σ .step) (τ .step)))
 
   -- one module costs the table's entry
-  pub one-module : (k : ℕ) → k ≤ i .topStep → operatingCost i 1 k ≡ i .table k
+  one-module : (k : ℕ) → k ≤ i .topStep → operatingCost i 1 k ≡ i .table k
   one-module k h = cost-shared i 1 k k 0 1 (omega arith) refl (omega arith) ∙ omega arith
 
 -- more light never costs less exactly if the table never falls

@@ -19,7 +19,7 @@ use Rattle.laws.specs.Acceptance.{modules-range, top-range, load-range, table-c
 use Rattle.columns.specs.Column.{countAtPlace, searchedPlan, searchedCost}
 use Rattle.theory.specs.Setting.{NeverFalls, PlanFits, Plannable, Ascending, LeastByCounts}
 use Rattle.theory.specs.Tables.{convex-test, never-falls-test}
-use Rattle.theory.specs.Sheets.{countsOf, counts-fit, sheet-at-least, plan-sheet-serves, plan-cost-counts}
+use Rattle.theory.specs.Sheets.{countsOf, sheet-counts-fit, sheet-at-least, plan-sheet-serves, plan-cost-counts}
 use Rattle.theory.specs.Places.{count-fits}
 use Rattle.theory.specs.Least.{searched-least, searched-cost}
 use Rattle.theory.specs.Enumeration.{least-plan, least-plan-unique}
@@ -72,7 +72,7 @@ module _ {i : Instance} (ready : Plannable i) where
   -- Over all counts no sheet that serves costs less.
   pub exact-least : (s : List ℕ) → serves i s ≡ true → planCost i (leastPlan i (allCounts (i .modules))) ≤ sheetCost i s
   exact-least s e =
-      let fit = counts-fit i s (ready .steps) e in
+      let fit = sheet-counts-fit i s (ready .steps) e in
       let counted : Allowed i (allCounts (i .modules)) (countsOf i s) =
       record { slotwise = fit .slotwise; member = λ t h. all-member (i .modules) _ .0 (fit .in-rack t h); served = fit .served } in
       let least = least-plan i (allCounts (i .modules)) (all-ascending (i .modules) (ready .some)) (ready .loads) .least _ counted in
@@ -85,7 +85,7 @@ module _ {i : Instance} (ready : Plannable i) where
       ((j : ℕ) → j + 1 < length counts → countAtPlace counts (j + 1) ≤ r * (countAtPlace counts j + 1)) →
       (s : List ℕ) → serves i s ≡ true → planCost i (leastPlan i counts) ≤ r * sheetCost i s
   list-ratio rises counts asc r one gaps s e =
-      let fit = counts-fit i s (ready .steps) e in
+      let fit = sheet-counts-fit i s (ready .steps) e in
       let bound = ratio i counts 0 asc (ready .loads) rises r one gaps (countsOf i s) (fit .in-rack) (fit .served) in
       omega (arith, searched-plan counts asc .1, mul-le-mul-left r (sheet-at-least i (ready .convex) s e))
 

@@ -137,7 +137,7 @@ module _ (i : Instance) (counts : List ℕ) (start : ℕ) (asc : Ascending count
       sym (way-back-cost (i .slots) 0 (omega arith) first-inside) ∙ cost-to-first (wayBack i counts start (i .slots) 0)
 
   -- no allowed plan costs less by counts
-  pub searched-below : (r : List ℕ) → Allowed i counts r → searchedCost i counts start ≤ countsCost i start r
+  searched-below : (r : List ℕ) → Allowed i counts r → searchedCost i counts start ≤ countsCost i start r
   unfolding searchedCost
   searched-below r a =
       omega (

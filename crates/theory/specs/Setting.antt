@@ -41,8 +41,8 @@ activeIn m b = sum m (λ k. cond (isOff (b k)) 0 1)
 unfoldable pub lightIn : ℕ → (ℕ → ℕ) → ℕ
 lightIn m b = sum m (λ k. stepOf (b k))
 
-unfoldable pub costIn : Instance → ℕ → (ℕ → ℕ) → ℕ
-costIn i m b = sum m (λ k. stepCost i (b k))
+unfoldable pub rowCost : Instance → ℕ → (ℕ → ℕ) → ℕ
+rowCost i m b = sum m (λ k. stepCost i (b k))
 
 -- Plans whose sheet can be written: each count is in the rack and serves its load, and no step is the byte for off.
 pub record PlanFits (i : Instance) (p : List ℕ) : Type 0 where

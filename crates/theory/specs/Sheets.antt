@@ -20,7 +20,7 @@ use Rattle.model.specs.Sheets.{off, isOff, stepOf, stateAt, sheetLength, sheetE
 use Rattle.model.specs.Sheets.{stepCost, changeCost, sheetCost}
 use Rattle.model.specs.Thesis.{switchingPrice, scheduleCost, scheduleOf, Feasible, countAt, stepUp, countsCost}
 use Rattle.model.specs.Plans.{moduleByte, slotRow, sheetOf, planCost, planServes}
-use Rattle.theory.specs.Setting.{Convex, Entry, activeIn, lightIn, costIn, PlanFits}
+use Rattle.theory.specs.Setting.{Convex, Entry, activeIn, lightIn, rowCost, PlanFits}
 use Rattle.theory.specs.Running.{active-le, row-fits, row-at-least, byte-off, plan-row-entry, plan-row-light, plan-row-cost}
 use Rattle.theory.specs.Switching.{started, startedIn, stoppedIn, change-cost, switches-balance}
 use Rattle.theory.specs.Switching.{started-at-least, started-at-most, plan-started}
@@ -68,15 +68,15 @@ module _ (i : Instance) (s : List ℕ) where
 
   -- A sheet costs what its rows cost and the switching price for each module that goes on,
   pub sheet-cost-starts : sheetCost i s ≡
-      sum (i .slots) (λ t. costIn i (i .modules) (stateAt i s (suc t))) +
+      sum (i .slots) (λ t. rowCost i (i .modules) (stateAt i s (suc t))) +
       switchingPrice i * sum (i .slots) (λ t. startedIn (i .modules) (stateAt i s t) (stateAt i s (suc t)))
-  unfolding sheetCost costIn
+  unfolding sheetCost rowCost
   sheet-cost-starts = omega (arith, changes-cost)
 
   -- slot by slot.
-  sheet-cost-slots : sheetCost i s ≡ sum (i .slots) (λ t. costIn i (i .modules) (stateAt i s (suc t)) + switchingPrice i * startedAt t)
+  sheet-cost-slots : sheetCost i s ≡ sum (i .slots) (λ t. rowCost i (i .modules) (stateAt i s (suc t)) + switchingPrice i * startedAt t)
   sheet-cost-slots =
-      let apart = sum-add (i .slots) (λ t. costIn i (i .modules) (stateAt i s (suc t))) (λ t. switchingPrice i * startedAt t) in
+      let apart = sum-add (i .slots) (λ t. rowCost i (i .modules) (stateAt i s (suc t))) (λ t. switchingPrice i * startedAt t) in
       omega (arith, sheet-cost-starts, sum-scale (i .slots) (switchingPrice i) startedAt)
 
 -- In a schedule a byte's step times its state is its step, F of its step times its state is its cost,
@@ -118,7 +118,7 @@ module _ (i : Instance) (s : List ℕ) where
 
   -- The cost of any list of bytes is 2.2 of its states and steps.
   pub thesis-cost : sheetCost i s ≡ scheduleCost i (scheduleOf i s)
-  unfolding scheduleCost scheduleOf costIn startedIn
+  unfolding scheduleCost scheduleOf rowCost startedIn
   thesis-cost = rw sheet-cost-starts (simp (cost-active, state-difference))
 
   schedule-light : (t : ℕ) → sum (i .modules) (λ k. scheduleOf i s .assigned t k * scheduleOf i s .active t k) ≡ lightAt i s t
@@ -169,7 +169,7 @@ sheet-at-least i c s e = rw sheet-cost-slots (sum-mono (i .slots) slot)
   where
     slot : (t : ℕ) → t < i .slots →
         stepUp i (countAt 0 (countsOf i s) t) (countAt 0 (countsOf i s) (suc t)) (i .load t) ≤
-        costIn i (i .modules) (stateAt i s (suc t)) + switchingPrice i * startedAt i s t
+        rowCost i (i .modules) (stateAt i s (suc t)) + switchingPrice i * startedAt i s t
     slot t h =
         let running = row-at-least i c (i .modules) (stateAt i s (suc t)) (row-entries i s e t h) in
         let switching = started-at-least (i .modules) (stateAt i s t) (stateAt i s (suc t)) in
@@ -177,9 +177,9 @@ sheet-at-least i c s e = rw sheet-cost-slots (sum-mono (i .slots) slot)
         (add-le-add running (mul-le-mul-left (switchingPrice i) switching))
 
 -- Its counts are a plan whose sheet can be written.
-pub counts-fit : (i : Instance) (s : List ℕ) → i .topStep < off → serves i s ≡ true → PlanFits i (countsOf i s)
+pub sheet-counts-fit : (i : Instance) (s : List ℕ) → i .topStep < off → serves i s ≡ true → PlanFits i (countsOf i s)
 unfolding countsOf countAt planServes canServe
-counts-fit i s steps e =
+sheet-counts-fit i s steps e =
     record {
       steps = steps;
       slotwise = length-tabulate (i .slots) _;
@@ -268,8 +268,8 @@ module _ (i : Instance) (p : List ℕ) (fit : PlanFits i p) where
   plan-sheet-serves = and-both (eq-eqb _ _ (sheet-length i p)) (and-both plan-entries plan-light)
 
   plan-running : (t : ℕ) → t < i .slots →
-      costIn i (i .modules) (stateAt i (sheetOf i p) (suc t)) ≡ operatingCost i (countAt 0 p (suc t)) (i .load t)
-  unfolding costIn
+      rowCost i (i .modules) (stateAt i (sheetOf i p) (suc t)) ≡ operatingCost i (countAt 0 p (suc t)) (i .load t)
+  unfolding rowCost
   plan-running t h =
       sum-ext (i .modules) (λ k g. ap (stepCost i) (state-row i p (suc t) h k g)) ∙
       plan-row-cost i (i .modules) (countAt 0 p (suc t)) (i .load t) (fit .steps) (rack-at (suc t) h) (fits-at (suc t) h)
