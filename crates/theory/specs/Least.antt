@@ -130,7 +130,7 @@ module _ (i : Instance) (counts : List ℕ) (start : ℕ) (asc : Ascending count
   first-inside : 0 < length counts
   first-inside = omega (arith, asc .two)
 
-  -- the search's cost is that of its plan
+  -- The search's cost is that of its plan,
   pub searched-cost : searchedCost i counts start ≡ countsCost i start (searchedPlan i counts start)
   unfolding searchedCost searchedPlan
   searched-cost =
@@ -146,7 +146,7 @@ module _ (i : Instance) (counts : List ℕ) (start : ℕ) (asc : Ascending count
         cost-to-first r,
       )
 
-  -- the search's plan is the least by counts, first in tie order
+  -- and its plan is the least by counts, first in tie order (thesis 4.12).
   pub searched-least : LeastByCounts i counts start (searchedPlan i counts start)
   unfolding searchedPlan searchedCost
   searched-least =

@@ -57,7 +57,7 @@ change-cost i (suc m) a b = omega (arith, change-cost i m a b, byte (isOff (a m)
     byte false true = omega arith
     byte false false = omega arith
 
--- At least the difference of the active modules goes on, and at most those active now.
+-- At least the difference of the active modules goes on (thesis 3.1), and at most those active now.
 pub started-at-least : (m : ℕ) (a b : ℕ → ℕ) → activeIn m b - activeIn m a ≤ startedIn m a b
 started-at-least m a b = omega (arith, switch-balance m a b)
 
