@@ -5,9 +5,6 @@ use Rattle.lists.specs.Writing.{RowsWritten, rows-none, rows-room, rows-more, r
 use Rattle.listing.specs.Texts.{countText}
 use Rattle.listing.proofs.put_counts.Statement.{statement}
 use Rattle.listing.proofs.put_counts.Tie as tie
-use Rattle.listing.proofs.put_counts.Reads as reads
-use Rattle.listing.proofs.put_counts.Lts as lts
-use Rattle.listing.proofs.put_count.Reads as put-count-reads
 
 abbrev Inv-loop : tie.InvT-loop
 Inv-loop out₀ at plan place₀ t₀ out place t = RowsWritten (countText plan) (length plan) at out₀ t out place

@@ -3,11 +3,6 @@ use Rattle.model.specs.Listing.{planLine}
 use borrow.Author.Needs.{needs}
 use Rattle.listing.proofs.put_plan.Statement.{statement}
 use Rattle.listing.proofs.put_plan.Tie as tie
-use Rattle.listing.proofs.put_plan.Reads as reads
-use Rattle.listing.proofs.put_plan.Lts as lts
-use Rattle.listing.proofs.put.Reads as put-reads
-use Rattle.listing.proofs.put_counts.Reads as put-counts-reads
-use Rattle.listing.proofs.put_word.Reads as put-word-reads
 
 slice-aggregate-put-word : tie.Need-slice-aggregate-put-word
 slice-aggregate-put-word c = search needs

@@ -5,9 +5,6 @@ use Rattle.listing.specs.Texts.{sheetLine}
 use Rattle.listing.proofs.Parts.{row-within, row-line}
 use Rattle.listing.proofs.put_sheet.Statement.{statement}
 use Rattle.listing.proofs.put_sheet.Tie as tie
-use Rattle.listing.proofs.put_sheet.Reads as reads
-use Rattle.listing.proofs.put_sheet.Lts as lts
-use Rattle.listing.proofs.put_slot.Reads as put-slot-reads
 
 abbrev Inv-loop : tie.InvT-loop
 Inv-loop out₀ at m slots sheet place₀ t₀ out place t = RowsWritten (sheetLine m sheet) slots at out₀ t out place

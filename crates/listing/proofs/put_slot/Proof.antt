@@ -4,11 +4,6 @@ use Rattle.model.specs.Listing.{newline, slotLine}
 use borrow.Author.Needs.{needs}
 use Rattle.listing.proofs.put_slot.Statement.{statement}
 use Rattle.listing.proofs.put_slot.Tie as tie
-use Rattle.listing.proofs.put_slot.Reads as reads
-use Rattle.listing.proofs.put_slot.Lts as lts
-use Rattle.listing.proofs.put.Reads as put-reads
-use Rattle.listing.proofs.put_slot_number.Reads as put-slot-number-reads
-use Rattle.listing.proofs.put_steps.Reads as put-steps-reads
 
 put-slot-number-requires : tie.Need-put-slot-number-requires
 unfolding slotLine

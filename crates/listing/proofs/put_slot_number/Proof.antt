@@ -4,10 +4,6 @@ use Rattle.listing.proofs.Digits.{decimal-rise}
 use borrow.Author.Needs.{needs}
 use Rattle.listing.proofs.put_slot_number.Statement.{statement}
 use Rattle.listing.proofs.put_slot_number.Tie as tie
-use Rattle.listing.proofs.put_slot_number.Reads as reads
-use Rattle.listing.proofs.put_slot_number.Lts as lts
-use Rattle.listing.proofs.put_number.Reads as put-number-reads
-use Rattle.listing.proofs.put_word.Reads as put-word-reads
 
 slice-aggregate-put-word : tie.Need-slice-aggregate-put-word
 slice-aggregate-put-word c = search needs

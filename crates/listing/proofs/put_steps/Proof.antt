@@ -6,9 +6,6 @@ use Rattle.listing.specs.Texts.{moduleText}
 use Rattle.listing.proofs.Steps.{module-text}
 use Rattle.listing.proofs.put_steps.Statement.{statement}
 use Rattle.listing.proofs.put_steps.Tie as tie
-use Rattle.listing.proofs.put_steps.Reads as reads
-use Rattle.listing.proofs.put_steps.Lts as lts
-use Rattle.listing.proofs.put_step.Reads as put-step-reads
 
 abbrev Inv-loop : tie.InvT-loop
 Inv-loop out₀ at row place₀ k₀ out place k = RowsWritten (moduleText row) (length row) at out₀ k out place

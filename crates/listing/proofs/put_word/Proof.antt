@@ -4,9 +4,6 @@ use lib.ListN.{length}
 use Rattle.lists.specs.Writing.{RowsWritten, elementText, whole-room, whole-written, rows-none, rows-room, rows-more, rows-all}
 use Rattle.listing.proofs.put_word.Statement.{statement}
 use Rattle.listing.proofs.put_word.Tie as tie
-use Rattle.listing.proofs.put_word.Reads as reads
-use Rattle.listing.proofs.put_word.Lts as lts
-use Rattle.listing.proofs.put.Reads as put-reads
 
 abbrev Inv-loop : tie.InvT-loop
 Inv-loop out₀ at word place₀ k₀ out place k = RowsWritten (elementText word) (length word) at out₀ k out place

@@ -4,12 +4,6 @@ use Rattle.lists.specs.Writing.{start-within}
 use borrow.Author.Needs.{needs}
 use Rattle.plan.proofs.main.Statement.{statement}
 use Rattle.plan.proofs.main.Tie as tie
-use Rattle.plan.proofs.main.Reads as reads
-use Rattle.plan.proofs.main.Lts as lts
-use Rattle.io.proofs.read_full.Reads as read-full-reads
-use Rattle.io.proofs.write_all.Reads as write-all-reads
-use Rattle.plan.proofs.print_card.Reads as print-card-reads
-use Rattle.plan.proofs.text_area.Reads as text-area-reads
 
 slice-aggregate-read-full : tie.Need-slice-aggregate-read-full
 slice-aggregate-read-full c = search needs

@@ -4,13 +4,6 @@ use Rattle.plan.proofs.Printing.{printed-refusal, printed-listing, plan
 use borrow.Author.Needs.{needs}
 use Rattle.plan.proofs.print_card.Statement.{statement}
 use Rattle.plan.proofs.print_card.Tie as tie
-use Rattle.plan.proofs.print_card.Reads as reads
-use Rattle.plan.proofs.print_card.Lts as lts
-use Rattle.io.proofs.large_buffer.Reads as large-buffer-reads
-use Rattle.listing.proofs.write_refusal.Reads as write-refusal-reads
-use Rattle.lamp.proofs.lamp_plan_exact.Reads as lamp-plan-exact-reads
-use Rattle.plan.proofs.plan_area.Reads as plan-area-reads
-use Rattle.plan.proofs.print_plan.Reads as print-plan-reads
 
 plan-area-requires : tie.Need-plan-area-requires
 plan-area-requires c κs = search needs

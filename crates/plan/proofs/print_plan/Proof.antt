@@ -9,13 +9,6 @@ use Rattle.plan.proofs.Printing.{slots-within, entries-within, print-re
 use borrow.Author.Needs.{needs}
 use Rattle.plan.proofs.print_plan.Statement.{statement}
 use Rattle.plan.proofs.print_plan.Tie as tie
-use Rattle.plan.proofs.print_plan.Reads as reads
-use Rattle.plan.proofs.print_plan.Lts as lts
-use Rattle.io.proofs.large_buffer.Reads as large-buffer-reads
-use Rattle.listing.proofs.write_listing.Reads as write-listing-reads
-use Rattle.lamp.proofs.lamp_sheet.Reads as lamp-sheet-reads
-use Rattle.plan.proofs.modules_of.Reads as modules-of-reads
-use Rattle.plan.proofs.slots_of.Reads as slots-of-reads
 
 modules-of-requires : tie.Need-modules-of-requires
 modules-of-requires c κs = omega (arith, card-size _ (c .before .before .before .pre .accepted))
