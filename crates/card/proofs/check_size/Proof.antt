@@ -8,10 +8,10 @@ rack-in-range-requires : tie.Need-rack-in-range-requires
 rack-in-range-requires c κs = search needs
 
 returns : tie.Need-returns
-returns c = size-rack _ _ (c .before .before .before .pre) (test-failed (c .before .rack-in-range .ensures) (c .if1 .taken))
+returns c = search (size-rack, test-failed)
 
 returns-2 : tie.Need-returns-2
-returns-2 c = size-slots _ _ (c .before .before .before .before .before .pre) (test-passed (c .before .before .before .rack-in-range .ensures) (c .before .before .if1 .left)) (c .if2 .taken)
+returns-2 c = search (size-slots, test-passed)
 
 add-size : tie.Need-add-size
 add-size c = search needs
@@ -29,14 +29,10 @@ add-size-3 : tie.Need-add-size-3
 add-size-3 c = search needs
 
 returns-3 : tie.Need-returns-3
-returns-3 c =
-    size-length _ _ (c .before .before .before .before .before .before .before .before .pre) (test-passed (c .before .before .before .before .before .before .rack-in-range .ensures) (c .before .before .before .before .before .if1 .left))
-    (c .before .before .before .if2 .left) (c .if3 .taken)
+returns-3 c = search (size-length, test-passed)
 
 returns-4 : tie.Need-returns-4
-returns-4 c =
-    size-passed _ _ (c .before .before .before .before .before .before .before .before .pre) (test-passed (c .before .before .before .before .before .before .rack-in-range .ensures) (c .before .before .before .before .before .if1 .left))
-    (c .before .before .before .if2 .left) (c .if3 .left)
+returns-4 c = search (size-passed, test-passed)
 
 pub check-size-spec : {M : Type 1} → statement M
 check-size-spec =
