@@ -88,19 +88,19 @@ module _ (s : List ℕ) where
   -- an accepted card is ready for the crates above
   pub ready : {h : Header} → checkedOf s ≡ Accepted h → Ready s h
   ready {h} e =
-      let a = accepted-answer e in
-      let given = a .0 in
-      record {
+      let (given, same) = accepted-answer e in
+      rw (← same)
+      (record {
         accepted = given;
         header =
             record {
-              modules-is = ap (λ (x : Header). x .modules) (sym (a .1));
-              top-is = ap (λ (x : Header). x .top) (sym (a .1));
-              slots-is = ap (λ (x : Header). x .slots) (sym (a .1));
-              up-is = ap (λ (x : Header). x .up) (sym (a .1));
-              down-is = ap (λ (x : Header). x .down) (sym (a .1));
-              modules-bound = omega (arith, ap (λ (x : Header). x .modules) (a .1), modules-range s given .1);
-              top-bound = omega (arith, ap (λ (x : Header). x .top) (a .1), top-range s given .1);
-              slots-bound = omega (arith, ap (λ (x : Header). x .slots) (a .1), slots-range s given);
+              modules-is = refl;
+              top-is = refl;
+              slots-is = refl;
+              up-is = refl;
+              down-is = refl;
+              modules-bound = omega (arith, modules-range s given .1);
+              top-bound = omega (arith, top-range s given .1);
+              slots-bound = omega (arith, slots-range s given);
             };
-      }
+      })

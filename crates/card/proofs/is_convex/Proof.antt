@@ -22,7 +22,9 @@ bends-up-requires c κs = omega arith
 
 returns : tie.Need-returns Inv-loop μ-loop
 unfolding convex
-returns c = passed-not (c .before .before .before .loop .inv) (omega (arith, c .before .before .loop-test .taken)) (test-failed (c .before .bends-up .ensures) (c .if1 .taken))
+returns c =
+    let test = c .before .before in
+    passed-not (test .before .loop .inv) (omega (arith, test .loop-test .taken)) (search test-failed)
 
 add-k : tie.Need-add-k Inv-loop μ-loop
 add-k c = omega arith
@@ -31,7 +33,9 @@ loop-less : tie.Need-loop-less Inv-loop μ-loop
 loop-less c = omega arith
 
 loop-again : tie.Need-loop-again Inv-loop μ-loop
-loop-again c = passed-more (c .before .before .before .loop .inv) (omega (arith, c .before .before .loop-test .taken)) (test-passed (c .before .bends-up .ensures) (c .if1 .left))
+loop-again c =
+    let test = c .before .before in
+    passed-more (test .before .loop .inv) (omega (arith, test .loop-test .taken)) (search test-passed)
 
 returns-2 : tie.Need-returns-2 Inv-loop μ-loop
 unfolding convex

@@ -16,9 +16,8 @@ abbrev μ-loop : tie.MeasureT-loop
 
 mul-most : tie.Need-mul-most Inv-loop μ-loop
 mul-most c =
-    record {
-      fits = omega (arith, mul-le-mul (c .before .before .pre .header .modules-bound) (c .before .before .pre .header .top-bound));
-    }
+    let header = c .before .before .pre .header in
+    record { fits = omega (arith, mul-le-mul (header .modules-bound) (header .top-bound)) }
 
 loop-holds : tie.Need-loop-holds Inv-loop μ-loop
 loop-holds c = passed-none _ _
@@ -28,7 +27,11 @@ load-requires c κs = (omega arith, c .before .before .before .before .pre .head
 
 returns : tie.Need-returns Inv-loop μ-loop
 unfolding loadsInRange
-returns c = rw (← (c .before .before .before .before .before .before .pre .header .slots-is), ← (c .before .before .before .before .before .before .pre .header .modules-is), ← (c .before .before .before .before .before .before .pre .header .top-is)) (passed-not (c .before .before .before .loop .inv) (c .before .before .loop-test .taken) (rw (← (c .before .load .ensures .is)) (lt-leb _ _ (c .if1 .taken))))
+returns c =
+    let test = c .before .before in
+    let header = test .before .before .before .before .pre .header in
+    rw (← header .slots-is, ← header .modules-is, ← header .top-is)
+    (passed-not (test .before .loop .inv) (test .loop-test .taken) (rw (← (c .before .load .ensures .is)) (lt-leb _ _ (c .if1 .taken))))
 
 add-t : tie.Need-add-t Inv-loop μ-loop
 add-t c = omega arith
@@ -37,11 +40,15 @@ loop-less : tie.Need-loop-less Inv-loop μ-loop
 loop-less c = omega arith
 
 loop-again : tie.Need-loop-again Inv-loop μ-loop
-loop-again c = passed-more (c .before .before .before .loop .inv) (c .before .before .loop-test .taken) (rw (← (c .before .load .ensures .is)) (le-leb _ _ (c .if1 .left)))
+loop-again c =
+    let test = c .before .before in
+    passed-more (test .before .loop .inv) (test .loop-test .taken) (rw (← (c .before .load .ensures .is)) (le-leb _ _ (c .if1 .left)))
 
 returns-2 : tie.Need-returns-2 Inv-loop μ-loop
 unfolding loadsInRange
-returns-2 c = rw (← (c .before .before .before .before .pre .header .slots-is), ← (c .before .before .before .before .pre .header .modules-is), ← (c .before .before .before .before .pre .header .top-is)) (passed-all (c .before .loop .inv) (c .loop-test .left))
+returns-2 c =
+    let header = c .before .before .before .before .pre .header in
+    rw (← header .slots-is, ← header .modules-is, ← header .top-is) (passed-all (c .before .loop .inv) (c .loop-test .left))
 
 pub loads-in-range-spec : {M : Type 1} → statement M
 loads-in-range-spec =

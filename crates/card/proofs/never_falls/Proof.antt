@@ -28,7 +28,8 @@ entry-requires-2 c κs = omega arith
 returns : tie.Need-returns Inv-loop μ-loop
 unfolding neverFalls
 returns c =
-    passed-not (c .before .before .before .before .loop .inv) (c .before .before .before .loop-test .taken)
+    let test = c .before .before .before in
+    passed-not (test .before .loop .inv) (test .loop-test .taken)
     (rw (← (c .before .before .entry .ensures .is), ← (c .before .entry2 .ensures .is)) (lt-leb _ _ (c .if1 .taken)))
 
 add-k : tie.Need-add-k Inv-loop μ-loop
@@ -39,7 +40,8 @@ loop-less c = omega arith
 
 loop-again : tie.Need-loop-again Inv-loop μ-loop
 loop-again c =
-    passed-more (c .before .before .before .before .loop .inv) (c .before .before .before .loop-test .taken)
+    let test = c .before .before .before in
+    passed-more (test .before .loop .inv) (test .loop-test .taken)
     (rw (← (c .before .before .entry .ensures .is), ← (c .before .entry2 .ensures .is)) (le-leb _ _ (c .if1 .left)))
 
 returns-2 : tie.Need-returns-2 Inv-loop μ-loop

@@ -21,7 +21,10 @@ entry-requires c κs = omega arith
 
 returns : tie.Need-returns Inv-loop μ-loop
 unfolding tableInRange
-returns c = passed-not (c .before .before .before .loop .inv) (omega (arith, c .before .before .loop-test .taken)) (rw (← (c .before .entry .ensures .is)) (lt-leb _ _ (c .if1 .taken)))
+returns c =
+    let test = c .before .before in
+    passed-not (test .before .loop .inv) (omega (arith, test .loop-test .taken))
+    (rw (← (c .before .entry .ensures .is)) (lt-leb _ _ (c .if1 .taken)))
 
 add-k : tie.Need-add-k Inv-loop μ-loop
 add-k c = omega (arith, c .before .before .before .before .before .good .0, c .before .before .before .before .before .pre .room)
@@ -30,7 +33,10 @@ loop-less : tie.Need-loop-less Inv-loop μ-loop
 loop-less c = omega arith
 
 loop-again : tie.Need-loop-again Inv-loop μ-loop
-loop-again c = passed-more (c .before .before .before .loop .inv) (omega (arith, c .before .before .loop-test .taken)) (rw (← (c .before .entry .ensures .is)) (le-leb _ _ (c .if1 .left)))
+loop-again c =
+    let test = c .before .before in
+    passed-more (test .before .loop .inv) (omega (arith, test .loop-test .taken))
+    (rw (← (c .before .entry .ensures .is)) (le-leb _ _ (c .if1 .left)))
 
 returns-2 : tie.Need-returns-2 Inv-loop μ-loop
 unfolding tableInRange

@@ -14,7 +14,9 @@ add-t7 : tie.Need-add-t7
 add-t7 c = search needs
 
 returns : tie.Need-returns
-returns c = read-one _ _ _ (c .wide .ensures) (omega (arith, c .wide .ensures, c .before .before .shared-slice-known .given (c .before .before .before .args .self .at)))
+returns c =
+    let at = c .before .before .before .args .self .at in
+    read-one _ _ _ (c .wide .ensures) (omega (arith, c .before .before .shared-slice-known .given at))
 
 pub one-spec : {M : Type 1} → statement M
 one-spec = tie.close (tie.spec shared-slice-read-wide wide-requires add-t7 returns)
