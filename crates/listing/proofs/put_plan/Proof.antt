@@ -9,13 +9,11 @@ slice-aggregate-put-word c = search needs
 
 put-word-requires : tie.Need-put-word-requires
 unfolding planLine
-put-word-requires c κs = room-first _ (c .before .before .before .before .pre)
+put-word-requires c κs = search room-first
 
 put-counts-requires : tie.Need-put-counts-requires
 unfolding planLine
-put-counts-requires c κs =
-    let word = c .before .before .before in
-    room-first _ (room-rest (word .before .before .before .before .before .pre) (word .put-word .ensures))
+put-counts-requires c κs = search (room-first, room-rest)
 
 put-requires : tie.Need-put-requires
 unfolding planLine
@@ -29,11 +27,7 @@ same-length c = search needs
 
 returns : tie.Need-returns
 unfolding planLine
-returns c =
-    let end = c .before .before in
-    let middle = end .before .before .before .before in
-    let word = middle .before .before .before .before in
-    written-more (word .put-word .ensures) (written-more (middle .put-counts .ensures) (end .put .ensures))
+returns c = search written-more
 
 pub put-plan-spec : {M : Type 1} → statement M
 put-plan-spec =

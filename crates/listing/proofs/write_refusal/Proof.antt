@@ -17,7 +17,7 @@ same-length c = search needs
 
 returns : tie.Need-returns
 unfolding refusedLine
-returns c = written-start (c .before .before .put-line .ensures)
+returns c = search written-start
 
 pub write-refusal-spec : {M : Type 1} → statement M
 write-refusal-spec =
