@@ -27,10 +27,10 @@ print-card-requires : tie.Need-print-card-requires
 print-card-requires c κs = search needs
 
 array-share-prefix-text : tie.Need-array-share-prefix-text
-array-share-prefix-text c = start-within _ _ (c .before .print-card .ensures .0) (c .before .print-card .ensures .1)
+array-share-prefix-text c = search start-within
 
 slice-aggregate-write-all : tie.Need-slice-aggregate-write-all
-slice-aggregate-write-all c = sym (length-take-le _ _ (start-within _ _ (c .before .before .print-card .ensures .0) (c .before .before .print-card .ensures .1)))
+slice-aggregate-write-all c = sym (length-take-le _ _ (search start-within))
 
 write-all-requires : tie.Need-write-all-requires
 write-all-requires c κs = search needs
