@@ -8,8 +8,8 @@ use Rattle.lists.specs.Parts.{row-within}
 use Rattle.model.specs.Listing.{slotLine}
 use Rattle.listing.specs.Texts.{InRows, sheetLine}
 
-pub row-there : {m n t : ℕ} {sheet : List ℕ} → InRows m n sheet → t < n → t * m + m ≤ length sheet
-row-there {m} s h = row-within m h (omega (arith, s .entries))
+pub row-in-sheet : {m n t : ℕ} {sheet : List ℕ} → InRows m n sheet → t < n → t * m + m ≤ length sheet
+row-in-sheet {m} s h = row-within m h (omega (arith, s .entries))
 
 -- the code's part from t × m to t × m + m is the row of the model's line
 pub row-line : (m t : ℕ) (sheet : List ℕ) → slotLine t (take (t * m + m - t * m) (drop (t * m) sheet)) ≡ sheetLine m sheet t

@@ -126,15 +126,15 @@ module _ (cost : List ℕ → ℕ) (R : List ℕ → List ℕ → Type 0) where
 
 module _ (counts : List ℕ) where
   -- a plan of t slots with counts from the list
-  abbrev PlanOver : ℕ → List ℕ → Type 0
-  PlanOver t p = (length p ≡ t) × ((u : ℕ) → u < t → Member (getD p u 0) counts)
+  abbrev PlanFrom : ℕ → List ℕ → Type 0
+  PlanFrom t p = (length p ≡ t) × ((u : ℕ) → u < t → Member (getD p u 0) counts)
 
   -- the enumerated plans of t slots, each with the count n after them
   abbrev thenCount : ℕ → ℕ → List (List ℕ)
   thenCount t n = map (λ p. p ++ (n ∷ [])) (plansInOrder counts t)
 
   -- the enumeration holds such plans only,
-  enumerated : (t : ℕ) (p : List ℕ) → List·Memᴰ p (plansInOrder counts t) → PlanOver t p
+  enumerated : (t : ℕ) (p : List ℕ) → List·Memᴰ p (plansInOrder counts t) → PlanFrom t p
   unfolding plansInOrder
   enumerated zero p m = (ap length (List·Memᴰ·eq-of-singleton m), λ u h. absurd (not-suc-le-zero h))
   enumerated (suc t) p m =
@@ -150,7 +150,7 @@ module _ (counts : List ℕ) where
       rw e (snoc-length q n t size, member)
 
   -- all of them,
-  enumerates : (t : ℕ) (p : List ℕ) → PlanOver t p → List·Memᴰ p (plansInOrder counts t)
+  enumerates : (t : ℕ) (p : List ℕ) → PlanFrom t p → List·Memᴰ p (plansInOrder counts t)
   unfolding plansInOrder
   enumerates zero [] over = List·Memᴰ·head refl
   enumerates zero (x ∷ xs) (size, members) = absurd (omega arith)
@@ -158,7 +158,7 @@ module _ (counts : List ℕ) where
       let (k, inside, here) = members t (omega arith) in
       let n = getD p t 0 in
       let whole : p ≡ take t p ++ (n ∷ []) = sym (take-all (suc t) p (omega arith)) ∙ take-suc p t 0 (omega arith) in
-      let front : PlanOver t (take t p) =
+      let front : PlanFrom t (take t p) =
       (length-take-le t p (omega arith), λ u h. rw (getD-take t p u 0 h) (members u (omega arith))) in
       let longer = Memᴰ·map (λ p. p ++ (n ∷ [])) (enumerates t (take t p) front) in
       Memᴰ·cast whole (to-flatMap (thenCount t) (rw here at (member-at counts k 0 inside)) longer)

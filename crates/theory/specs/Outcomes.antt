@@ -8,14 +8,14 @@ use lib.ListN.{length, getD, take}
 use lib.Dec.{leb}
 use lib.Seq.{take-at}
 use borrow.Author.Tests.{leb-true, le-leb, le-ltb, ltb-false, eqb-true, eq-eqb, not-false}
-use Rattle.lists.specs.Tests.{every-at, every-all, and-both, or-left}
+use Rattle.lists.specs.Tests.{every-at, every-all, or-left}
 use Rattle.model.specs.declared.Refusal.the-variants.{NotMonotone, BufferTooShort, WrongLength, EntryRange, LoadNotServed}
 use Rattle.model.specs.declared.Answer.{Answer}
 use Rattle.model.specs.declared.Answer.the-variants.{Cost}
 use Rattle.model.specs.Answers.{numberOf}
 use Rattle.model.specs.Instance.{instanceOf, neverFalls}
 use Rattle.model.specs.Counts.{allCounts, coarseCounts}
-use Rattle.model.specs.Sheets.{sheetLength, sheetEntries, sheetLight, serves, sheetCost}
+use Rattle.model.specs.Sheets.{serves, sheetCost}
 use Rattle.model.specs.Plans.{sheetOf, planCost, leastPlan}
 use Rattle.model.specs.Calls.{checkCard, planExact, planCoarse, makeSheet, markSheet, nothing, plan, sheet, area, onCard, requestOf}
 use Rattle.model.specs.Calls.{exactWork, coarseWork, sheetBytes, rightLength, entriesInRange, loadsServed, anyShort}
@@ -26,7 +26,7 @@ use Rattle.laws.specs.Lowest.{lowest-passed}
 use Rattle.laws.specs.OnCard.{on-card-passed, on-card-accepted}
 use Rattle.laws.specs.Acceptance.{modules-range}
 use Rattle.theory.specs.Setting.{PlanFits, Ascending}
-use Rattle.theory.specs.Sheets.{serves-length, serves-entries, serves-light, sheet-length, plan-sheet-serves}
+use Rattle.theory.specs.Sheets.{serves-parts, sheet-length, plan-sheet-serves}
 use Rattle.theory.specs.Lists.{all-ascending, coarse-ascending}
 use Rattle.theory.specs.Condition3.{least-plan-fits, accepted-plannable}
 use Rattle.theory.specs.Refusals.{succeeded}
@@ -53,19 +53,16 @@ module _ (c s : List ℕ) where
     mark-tests = on-card-passed c _ _ _ _ given
 
     marked-serves : {n : ℕ} → answer (markSheet c s) ≡ Cost n → serves (instanceOf c) s ≡ true
-    unfolding serves applies rightLength entriesInRange loadsServed
+    unfolding applies rightLength entriesInRange loadsServed
     marked-serves e =
         let size = lowest-passed _ _ _ (sym mark-tests ∙ e) in
         let entries = lowest-passed _ _ _ (size .1) in
         let light = lowest-passed _ _ _ (entries .1) in
-        let i = instanceOf c in
-        and-both
-        (not-false (sheetLength i s) (size .0))
-        (and-both (not-false (sheetEntries i s) (entries .0)) (not-false (sheetLight i s) (light .0)))
+        serves-parts (instanceOf c) s .1 (not-false _ (size .0), not-false _ (entries .0), not-false _ (light .0))
 
     serves-marked : serves (instanceOf c) s ≡ true → answer (markSheet c s) ≡ Cost (sheetCost (instanceOf c) s)
     unfolding lowest applies rightLength entriesInRange loadsServed
-    serves-marked e = mark-tests ∙ rw (serves-length _ s e, serves-entries _ s e, serves-light _ s e)
+    serves-marked e = let (size, entries, light) = serves-parts (instanceOf c) s .0 e in mark-tests ∙ rw (size, entries, light)
 
     -- Marking on an accepted card gives the sheet's cost exactly if the sheet serves.
     pub mark-accepts : answer (markSheet c s) ≡ Cost (sheetCost (instanceOf c) s) ↔ serves (instanceOf c) s ≡ true

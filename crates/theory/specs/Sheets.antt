@@ -104,18 +104,15 @@ state-difference false true = refl
 state-difference false false = refl
 
 module _ (i : Instance) (s : List ℕ) where
-  -- the three parts of `serves`
-  pub serves-length : serves i s ≡ true → sheetLength i s ≡ true
+  -- A sheet serves exactly if it has the right length, entries and light.
+  pub serves-parts : serves i s ≡ true ↔ ((sheetLength i s ≡ true) × (sheetEntries i s ≡ true) × (sheetLight i s ≡ true))
   unfolding serves
-  serves-length e = and-left (sheetLength i s) _ e
-
-  pub serves-entries : serves i s ≡ true → sheetEntries i s ≡ true
-  unfolding serves
-  serves-entries e = and-left (sheetEntries i s) _ (and-right (sheetLength i s) _ e)
-
-  pub serves-light : serves i s ≡ true → sheetLight i s ≡ true
-  unfolding serves
-  serves-light e = and-right (sheetEntries i s) _ (and-right (sheetLength i s) _ e)
+  serves-parts = (
+    λ e.
+        let rest = and-right (sheetLength i s) _ e in
+        (and-left (sheetLength i s) _ e, and-left (sheetEntries i s) _ rest, and-right (sheetEntries i s) _ rest),
+    λ (size, entries, light). and-both size (and-both entries light),
+  )
 
   -- The cost of any list of bytes is the thesis's cost 2.2 of its states and steps.
   pub thesis-cost : sheetCost i s ≡ scheduleCost i (scheduleOf i s)
@@ -136,9 +133,8 @@ module _ (i : Instance) (s : List ℕ) where
 
   -- A list of m × T bytes, each a step or off, serves exactly if its states and steps satisfy 2.3.
   pub serves-feasible : sheetLength i s ≡ true → sheetEntries i s ≡ true → serves i s ≡ true ↔ Feasible i (scheduleOf i s)
-  unfolding serves
   serves-feasible size entries =
-      (λ e. thesis-feasible .0 (serves-light e), λ f. and-both size (and-both entries (thesis-feasible .1 f)))
+      (λ e. thesis-feasible .0 (serves-parts .0 e .2), λ f. serves-parts .1 (size, entries, thesis-feasible .1 f))
 
 -- The counts of a sheet: its active modules, slot by slot.
 unfoldable pub countsOf : Instance → List ℕ → List ℕ
@@ -154,12 +150,13 @@ module _ (i : Instance) (s : List ℕ) where
   row-entries : serves i s ≡ true → (t : ℕ) → t < i .slots → (k : ℕ) → k < i .modules → Entry i (stateAt i s (suc t) k)
   unfolding stateAt sheetLength sheetEntries
   row-entries e t h k g =
-      let size : length s ≡ i .modules * i .slots = eqb-true _ _ (serves-length i s e) in
-      rw (lt-ltb t (i .slots) h) (every-at (length s) _ (serves-entries i s e) (t * i .modules + k) (omega (arith, digits-lt h g)))
+      let (sized, entries, light) = serves-parts i s .0 e in
+      let size : length s ≡ i .modules * i .slots = eqb-true _ _ sized in
+      rw (lt-ltb t (i .slots) h) (every-at (length s) _ entries (t * i .modules + k) (omega (arith, digits-lt h g)))
 
   row-light : serves i s ≡ true → (t : ℕ) → t < i .slots → lightIn (i .modules) (stateAt i s (suc t)) ≡ i .load t
   unfolding lightIn sheetLight lightAt
-  row-light e t h = eqb-true _ _ (every-at (i .slots) _ (serves-light i s e) t h)
+  row-light e t h = eqb-true _ _ (every-at (i .slots) _ (serves-parts i s .0 e .2) t h)
 
 -- On a convex table a sheet that serves costs at least what its counts cost by 3.9 to 3.13 (thesis 3.8).
 pub sheet-at-least : (i : Instance) → Convex (i .topStep) (i .table) → (s : List ℕ) → serves i s ≡ true →
@@ -262,8 +259,8 @@ module _ (i : Instance) (p : List ℕ) (fit : PlanFits i p) where
 
   -- The sheet of a plan whose counts serve the loads serves the show,
   pub plan-sheet-serves : serves i (sheetOf i p) ≡ true
-  unfolding serves sheetLength
-  plan-sheet-serves = and-both (eq-eqb _ _ (sheet-length i p)) (and-both plan-entries plan-light)
+  unfolding sheetLength
+  plan-sheet-serves = serves-parts i (sheetOf i p) .1 (eq-eqb _ _ (sheet-length i p), plan-entries, plan-light)
 
   plan-running : (t : ℕ) → t < i .slots →
       rowCost i (i .modules) (stateAt i (sheetOf i p) (suc t)) ≡ operatingCost i (countAt 0 p (suc t)) (i .load t)

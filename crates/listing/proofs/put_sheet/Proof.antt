@@ -2,7 +2,7 @@ use Prim.Native.Nat.{_-_}
 use native.Mathlib.Omega.{arith}
 use Rattle.lists.specs.Writing.{RowsWritten, rows-none, rows-room, rows-more, rows-all}
 use Rattle.listing.specs.Texts.{sheetLine}
-use Rattle.listing.proofs.Parts.{row-there, row-line}
+use Rattle.listing.proofs.Parts.{row-in-sheet, row-line}
 use Rattle.listing.proofs.put_sheet.Statement.{statement}
 use Rattle.listing.proofs.put_sheet.Tie as tie
 
@@ -16,10 +16,10 @@ loop-holds : tie.Need-loop-holds Inv-loop μ-loop
 loop-holds c = rows-none _ _ (c .before .before .pre .1)
 
 mul-start : tie.Need-mul-start Inv-loop μ-loop
-mul-start c = omega (arith, row-there (c .before .before .before .before .pre .0) (c .loop-test .taken))
+mul-start c = omega (arith, row-in-sheet (c .before .before .before .before .pre .0) (c .loop-test .taken))
 
 add-end : tie.Need-add-end Inv-loop μ-loop
-add-end c = omega (arith, row-there (c .before .before .before .before .pre .0) (c .loop-test .taken))
+add-end c = omega (arith, row-in-sheet (c .before .before .before .before .pre .0) (c .loop-test .taken))
 
 sub-put-slot : tie.Need-sub-put-slot Inv-loop μ-loop
 sub-put-slot c = omega arith
@@ -28,7 +28,7 @@ part-put-slot-start : tie.Need-part-put-slot-start Inv-loop μ-loop
 part-put-slot-start c = omega arith
 
 part-put-slot-end : tie.Need-part-put-slot-end Inv-loop μ-loop
-part-put-slot-end c = row-there (c .before .before .before .before .before .pre .0) (c .before .loop-test .taken)
+part-put-slot-end c = row-in-sheet (c .before .before .before .before .before .pre .0) (c .before .loop-test .taken)
 
 put-slot-requires : tie.Need-put-slot-requires Inv-loop μ-loop
 put-slot-requires c κs =
