@@ -46,7 +46,7 @@ loop-again c =
 
 returns-2 : tie.Need-returns-2 Inv-loop μ-loop
 unfolding neverFalls
-returns-2 c = passed-all (c .before .loop .inv) (c .loop-test .left)
+returns-2 c = search passed-all
 
 pub never-falls-spec : {M : Type 1} → statement M
 never-falls-spec =

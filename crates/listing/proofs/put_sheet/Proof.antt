@@ -13,7 +13,7 @@ abbrev μ-loop : tie.MeasureT-loop
 μ-loop out₀ at m slots sheet place₀ t₀ out place t = slots - t
 
 loop-holds : tie.Need-loop-holds Inv-loop μ-loop
-loop-holds c = rows-none _ _ (c .before .before .pre .1)
+loop-holds c = search rows-none
 
 mul-start : tie.Need-mul-start Inv-loop μ-loop
 mul-start c = omega (arith, row-in-sheet (c .before .before .before .before .pre .0) (c .loop-test .taken))
@@ -49,10 +49,10 @@ loop-again c =
     rows-more (test .before .loop .inv) (test .loop-test .taken) (rw row-line at (c .before .before .put-slot .ensures))
 
 same-length : tie.Need-same-length Inv-loop μ-loop
-same-length c = c .before .loop .inv .so-far .size
+same-length c = search
 
 returns : tie.Need-returns Inv-loop μ-loop
-returns c = rows-all (c .before .loop .inv) (c .loop-test .left)
+returns c = search rows-all
 
 pub put-sheet-spec : {M : Type 1} → statement M
 put-sheet-spec =
