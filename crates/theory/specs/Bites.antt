@@ -110,7 +110,7 @@ abbrev coarseCost : ℕ
 coarseCost = planCost exampleE (leastPlan exampleE (coarseCounts (exampleE .modules)))
 
 -- The numbers: the least plans cost 5, 6 and 8, the sheets 5 and 10, the second one's counts 7.
-pub costs-computed :
+costs-computed :
     (exactCost ≡ 5) × (wideCost ≡ 6) × (coarseCost ≡ 8) × (sheetCost exampleE steadySheet ≡ 5) × (sheetCost exampleE movedSheet ≡ 10) ×
     (countsCost exampleE 0 (countsOf exampleE movedSheet) ≡ 7)
 unfolding every sum tabulate rows keep flatMap canServe operatingCost allCounts powerOfTwo coarseCounts stateAt stepCost changeCost

@@ -9,9 +9,10 @@ use lib.Dec.{leb}
 use lib.Seq.{take-at}
 use borrow.Author.Tests.{leb-true, le-leb, le-ltb, ltb-false, eqb-true, eq-eqb, not-false}
 use Rattle.lists.specs.Tests.{every-at, every-all, or-left}
+use Rattle.model.specs.declared.Refusal.{Refusal}
 use Rattle.model.specs.declared.Refusal.the-variants.{NotMonotone, BufferTooShort, WrongLength, EntryRange, LoadNotServed}
 use Rattle.model.specs.declared.Answer.{Answer}
-use Rattle.model.specs.declared.Answer.the-variants.{Cost}
+use Rattle.model.specs.declared.Answer.the-variants.{Cost, Refused}
 use Rattle.model.specs.Answers.{numberOf}
 use Rattle.model.specs.Instance.{instanceOf, neverFalls}
 use Rattle.model.specs.Counts.{allCounts, coarseCounts}
@@ -23,7 +24,7 @@ use Rattle.model.specs.Calls.{applies, refusals, lowest, successCost}
 use Rattle.model.specs.Calls.{answer, atExit, exactPlanAtExit, coarsePlanAtExit, sheetAtExit}
 use Rattle.laws.specs.Answers.{number-zero}
 use Rattle.laws.specs.Lowest.{lowest-passed}
-use Rattle.laws.specs.OnCard.{on-card-passed, on-card-accepted}
+use Rattle.laws.specs.OnCard.{on-card-refused, on-card-passed, on-card-accepted}
 use Rattle.laws.specs.Acceptance.{modules-range}
 use Rattle.theory.specs.Setting.{PlanFits, Ascending}
 use Rattle.theory.specs.Sheets.{serves-parts, sheet-length, plan-sheet-serves}
@@ -132,7 +133,7 @@ module _ (c p s : List ℕ) where
       (serves-marked c (sheetOf i p) (made-on made) (plan-sheet-serves i p fit) ∙ sym made)
 
 -- The sheet call accepts the plan q with the buffer s, and marking accepts the sheet that it writes, both with the answer a.
-abbrev pub Marked : (c q s : List ℕ) → Answer → Type 0
+abbrev Marked : (c q s : List ℕ) → Answer → Type 0
 Marked c q s a =
     (answer (makeSheet c q s) ≡ a) × (answer (markSheet c (take (sheetBytes (instanceOf c)) (sheetAtExit c q s))) ≡ a)
 
@@ -166,6 +167,11 @@ module _ (c p w : List ℕ) where
   pub coarse-on : {n : ℕ} → answer (planCoarse c p w) ≡ Cost n → answer (checkCard c) ≡ Cost 0
   unfolding answer requestOf refusals
   coarse-on = on-card-accepted c _ _ _ _
+
+  -- On a card that is refused the planner is refused too, with the same number.
+  pub exact-refused : {x : Refusal} → answer (checkCard c) ≡ Refused x → answer (planExact c p w) ≡ Refused x
+  unfolding answer requestOf refusals
+  exact-refused = on-card-refused c _ _ _ _
 
   -- Where a planner gives number 0, sheet call and marking accept the plan that it writes, with the planner's answer.
   pub exact-marked :

@@ -16,10 +16,10 @@ use Rattle.model.specs.declared.Refusal.{Refusal}
 use Rattle.model.specs.declared.Refusal.the-variants.{NotACard, Version, RackSize, SlotCount, CardLength}
 use Rattle.model.specs.declared.Answer.the-variants.{Cost, Refused}
 use Rattle.model.specs.Instance.{instanceOf, cardLength}
-use Rattle.model.specs.Calls.{checkCard, planExact, answer, applies, requestOf, cardRefusals, refusals, successCost, lowest, rackNumber}
+use Rattle.model.specs.Calls.{checkCard, answer, applies, requestOf, cardRefusals, refusals, successCost, lowest, rackNumber}
 use Rattle.model.specs.Listing.{printed, printedFor}
 use Rattle.laws.specs.Lowest.{lowest-hit, lowest-skip}
-use Rattle.laws.specs.OnCard.{on-card-refused}
+use Rattle.theory.specs.Outcomes.{exact-refused}
 
 -- of some refusals the lowest is the same one by two tests
 record SameRefusal (f g : Refusal → Bool) (xs : List Refusal) : Type 0 where
@@ -55,11 +55,6 @@ long-card s long rack slots =
     let most = leb-true (i .topStep) 200 (and-right (leb 1 (i .topStep)) (leb (i .topStep) 200) top) in
     let few = ltb-false 1024 (i .slots) slots in
     ap not (ne-eqb (length s) (17 + 4 * (i .topStep + 1) + 2 * i .slots) (omega arith))
-
--- where the card is refused, so is the exact planner, with the same number
-refused-plan : (c p w : List ℕ) {r : Refusal} → answer (checkCard c) ≡ Refused r → answer (planExact c p w) ≡ Refused r
-unfolding answer requestOf refusals successCost
-refused-plan c p w e = on-card-refused _ _ _ _ _ e
 
 module _ (x : List ℕ) (long : 2870 ≤ length x) where
   -- what is read of a longer input
@@ -101,6 +96,6 @@ pub long-printed : (x : List ℕ) → 2870 ≤ length x → printed x ≡ printe
 unfolding printed printedFor answer refusals successCost
 long-printed x long =
     let r = long-refused x long in
-    let whole = refused-plan x (replicate 1024 0) (replicate 65536 0) (r .one) in
-    let front = refused-plan (take 2870 x) (replicate 1024 0) (replicate 65536 0) (r .other) in
+    let whole = exact-refused x (replicate 1024 0) (replicate 65536 0) (r .one) in
+    let front = exact-refused (take 2870 x) (replicate 1024 0) (replicate 65536 0) (r .other) in
     rw (whole, front)
