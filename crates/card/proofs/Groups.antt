@@ -14,6 +14,7 @@ use Rattle.laws.specs.Lowest.{lowest-refused, lowest-through}
 use Rattle.laws.specs.Acceptance.{modules-range, top-range, slots-range}
 
 module _ (s : List ℕ) where
+  -- refusals 1 and 2, then 3 to 5, then 6 to 8
   by-groups :
       answer (checkCard s) ≡
       lowest (applies (requestOf (checkCard s))) frontRefusals
@@ -25,42 +26,44 @@ module _ (s : List ℕ) where
   unfolding checkedOf
   refused e = rw e
 
-  pub front-refused : {x : Refusal} → found s frontRefusals ≡ Refused x → NotAccepted x ≡ checkedOf s
-  unfolding found
-  front-refused e = refused (by-groups ∙ lowest-refused _ _ _ refl e)
-
-  module _ {k : ℕ} (front : found s frontRefusals ≡ Cost k) where
-    after-front :
-        answer (checkCard s) ≡
-        lowest (applies (requestOf (checkCard s))) sizeRefusals (lowest (applies (requestOf (checkCard s))) bodyRefusals (Cost 0))
+  -- the answers of the code's three checks, one after the other
+  module _ {front : Answer} (front-is : front ≡ found s frontRefusals) where
+    pub front-refused : {x : Refusal} → front ≡ Refused x → NotAccepted x ≡ checkedOf s
     unfolding found
-    after-front = by-groups ∙ lowest-through _ _ _ _ front
+    front-refused e = refused (by-groups ∙ lowest-refused _ _ _ refl (sym front-is ∙ e))
 
-    pub size-refused : {x : Refusal} → found s sizeRefusals ≡ Refused x → NotAccepted x ≡ checkedOf s
-    unfolding found
-    size-refused e = refused (after-front ∙ lowest-refused _ _ _ refl e)
-
-    module _ {l : ℕ} (size : found s sizeRefusals ≡ Cost l) where
-      after-size : answer (checkCard s) ≡ found s bodyRefusals
+    module _ {k : ℕ} (front-passed : front ≡ Cost k) {size : Answer} (size-is : size ≡ found s sizeRefusals) where
+      after-front :
+          answer (checkCard s) ≡
+          lowest (applies (requestOf (checkCard s))) sizeRefusals (lowest (applies (requestOf (checkCard s))) bodyRefusals (Cost 0))
       unfolding found
-      after-size = after-front ∙ lowest-through _ _ _ _ size
+      after-front = by-groups ∙ lowest-through _ _ _ _ (sym front-is ∙ front-passed)
 
-      pub body-refused : {x : Refusal} → found s bodyRefusals ≡ Refused x → NotAccepted x ≡ checkedOf s
-      body-refused e = refused (after-size ∙ e)
+      pub size-refused : {x : Refusal} → size ≡ Refused x → NotAccepted x ≡ checkedOf s
+      unfolding found
+      size-refused e = refused (after-front ∙ lowest-refused _ _ _ refl (sym size-is ∙ e))
 
-      pub all-passed : {n : ℕ} (h : Header) → HeaderOf s h → found s bodyRefusals ≡ Cost n → Accepted h ≡ checkedOf s
-      unfolding checkedOf
-      all-passed h given e =
-          rw (after-size, e)
-          (ap Accepted
-          (λ i.
-          record {
-            modules = given .modules-is i;
-            top = given .top-is i;
-            slots = given .slots-is i;
-            up = given .up-is i;
-            down = given .down-is i;
-          }))
+      module _ {l : ℕ} (size-passed : size ≡ Cost l) {body : Answer} (body-is : body ≡ found s bodyRefusals) where
+        after-size : answer (checkCard s) ≡ body
+        unfolding found
+        after-size = after-front ∙ lowest-through _ _ _ _ (sym size-is ∙ size-passed) ∙ sym body-is
+
+        pub body-refused : {x : Refusal} → body ≡ Refused x → NotAccepted x ≡ checkedOf s
+        body-refused e = refused (after-size ∙ e)
+
+        pub all-passed : {n : ℕ} (h : Header) → HeaderOf s h → body ≡ Cost n → Accepted h ≡ checkedOf s
+        unfolding checkedOf
+        all-passed h given e =
+            rw (after-size, e)
+            (ap Accepted
+            (λ i.
+            record {
+              modules = given .modules-is i;
+              top = given .top-is i;
+              slots = given .slots-is i;
+              up = given .up-is i;
+              down = given .down-is i;
+            }))
 
 -- The answer behind a check's result.
 module _ (s : List ℕ) where
@@ -76,26 +79,28 @@ module _ (s : List ℕ) where
   unfolding checkedOf answer successCost
   accepted-answer {h} e = go (answer (checkCard s)) refl e
     where
-      go : (a : Answer) → answer (checkCard s) ≡ a → checkedAs a (headerOf s) ≡ Accepted h → (answer (checkCard s) ≡ Cost 0) × (headerOf s ≡ h)
+      go :
+          (a : Answer) → answer (checkCard s) ≡ a → checkedAs a (headerOf s) ≡ Accepted h →
+          (answer (checkCard s) ≡ Cost 0) × (headerOf s ≡ h)
       go (Cost n) g f = (lowest-through _ _ _ _ g, cc)
       go (Refused y) g f = (cc, cc)
 
   -- an accepted card is ready for the crates above
   pub ready : {h : Header} → checkedOf s ≡ Accepted h → Ready s h
   ready {h} e =
-      let a = accepted-answer e in
-      let given = a .0 in
-      record {
+      let (given, same) = accepted-answer e in
+      rw (← same)
+      (record {
         accepted = given;
         header =
             record {
-              modules-is = ap (λ (x : Header). x .modules) (sym (a .1));
-              top-is = ap (λ (x : Header). x .top) (sym (a .1));
-              slots-is = ap (λ (x : Header). x .slots) (sym (a .1));
-              up-is = ap (λ (x : Header). x .up) (sym (a .1));
-              down-is = ap (λ (x : Header). x .down) (sym (a .1));
-              modules-bound = omega (arith, ap (λ (x : Header). x .modules) (a .1), modules-range s given .1);
-              top-bound = omega (arith, ap (λ (x : Header). x .top) (a .1), top-range s given .1);
-              slots-bound = omega (arith, ap (λ (x : Header). x .slots) (a .1), slots-range s given);
+              modules-is = refl;
+              top-is = refl;
+              slots-is = refl;
+              up-is = refl;
+              down-is = refl;
+              modules-bound = omega (arith, modules-range s given .1);
+              top-bound = omega (arith, top-range s given .1);
+              slots-bound = omega (arith, slots-range s given);
             };
-      }
+      })

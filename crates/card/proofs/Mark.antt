@@ -14,7 +14,9 @@ use Rattle.model.specs.Instance.{markOf, cardMark}
 use Rattle.card.specs.Reading.{ReadAt}
 use Rattle.card.proofs.Reading.{read-at}
 
-mark-bytes : (s : List ℕ) → 17 ≤ length s → sameList (markOf s) cardMark ≡ (eqb (getD s 0 0) 0x44 && (eqb (getD s 1 0) 0x4C && eqb (getD s 2 0) 0x53))
+mark-bytes :
+    (s : List ℕ) → 17 ≤ length s →
+    sameList (markOf s) cardMark ≡ (eqb (getD s 0 0) 0x44 && (eqb (getD s 1 0) 0x4C && eqb (getD s 2 0) 0x53))
 unfolding sameList
 mark-bytes [] h = absurd (not-suc-le-zero h)
 mark-bytes (a ∷ []) h = absurd (omega arith)

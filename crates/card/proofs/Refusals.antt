@@ -9,6 +9,7 @@ use borrow.Author.Tests.{lt-ltb, le-ltb, ltb-false, le-leb, lt-leb, eq-eqb, ne-e
 use Rattle.lists.specs.Lists.{sameList}
 use Rattle.lists.specs.Tests.{or-left}
 use Rattle.model.specs.declared.Refusal.the-variants.{NotACard, Version, RackSize, SlotCount, CardLength, PriceRange, NotConvex, LoadRange}
+use Rattle.model.specs.declared.Answer.{Answer}
 use Rattle.model.specs.declared.Answer.the-variants.{Cost, Refused}
 use Rattle.model.specs.Instance.{instanceOf, markOf, cardMark, versionOf, cardLength, convex, tableInRange, pricesInRange, loadsInRange}
 use Rattle.model.specs.Calls.{Call, checkCard, applies, requestOf, lowest}
@@ -37,18 +38,19 @@ module _ (s : List ℕ) where
   unfolding found lowest
   front-unmarked h e = rw (mark-applies e h)
 
-  pub front-version : 17 ≤ length s → sameList (markOf s) cardMark ≡ true → (versionOf s ≡ 1 → ⊥) → Refused Version ≡ found s frontRefusals
-  unfolding found lowest
-  front-version h e n = rw (mark-applies e h, version-applies (ne-eqb _ _ n))
+  module _ (long : 17 ≤ length s) (marked : sameList (markOf s) cardMark ≡ true) {v : ℕ} (is : v ≡ versionOf s) where
+    pub front-version : (v ≡ 1 → ⊥) → Refused Version ≡ found s frontRefusals
+    unfolding found lowest
+    front-version n = rw (mark-applies marked long, version-applies (rw is at (ne-eqb v 1 n)))
 
-  pub front-passed : 17 ≤ length s → sameList (markOf s) cardMark ≡ true → versionOf s ≡ 1 → Cost 0 ≡ found s frontRefusals
-  unfolding found lowest
-  front-passed h e v = rw (mark-applies e h, version-applies (eq-eqb _ _ v))
+    pub front-passed : v ≡ 1 → Cost 0 ≡ found s frontRefusals
+    unfolding found lowest
+    front-passed e = rw (mark-applies marked long, version-applies (rw is at (eq-eqb v 1 e)))
 
   -- a card that passes has its first 17 bytes
-  pub front-length : {n : ℕ} → found s frontRefusals ≡ Cost n → 17 ≤ length s
+  pub front-length : {a : Answer} {n : ℕ} → a ≡ found s frontRefusals → a ≡ Cost n → 17 ≤ length s
   unfolding found applies requestOf
-  front-length e = ltb-false _ _ (or-left _ _ (lowest-passed _ _ _ e .0))
+  front-length is e = ltb-false _ _ (or-left _ _ (lowest-passed _ _ _ (sym is ∙ e) .0))
 
   module _ (h : Header) (given : HeaderOf s h) where
     rack-applies : {b : Bool} → rackInRange (h .modules) (h .top) ≡ b → applies (requestOf req) RackSize ≡ not b
@@ -82,10 +84,10 @@ module _ (s : List ℕ) where
         size-passed n = rw (rack-applies rack-ok, slots-applies (le-ltb _ _ slots-ok), size-applies (eq-eqb _ _ n))
 
     -- a card that passes has the length its header says
-    pub size-of : {n : ℕ} → found s sizeRefusals ≡ Cost n → Sized s h
+    pub size-of : {a : Answer} {n : ℕ} → a ≡ found s sizeRefusals → a ≡ Cost n → Sized s h
     unfolding found
-    size-of e =
-        let rack = lowest-passed _ _ _ e in
+    size-of is e =
+        let rack = lowest-passed _ _ _ (sym is ∙ e) in
         let slots = lowest-passed _ _ _ (rack .1) in
         let size = lowest-passed _ _ _ (slots .1) .0 in
         record { header = given; size = eqb-true _ _ (not-false _ (sym (size-applies refl) ∙ size)) }

@@ -28,7 +28,7 @@ pub record SlotLoad (s : List ℕ) (t value : ℕ) : Type 0 where
 pub record TableWithin (s : List ℕ) (q : ℕ) : Type 0 where
   pub room : 17 + 4 * (q + 1) ≤ length s
 
--- the header's numbers are the card's
+-- the header of a card
 abbrev pub headerOf : List ℕ → Header
 headerOf s =
     record {
@@ -39,6 +39,7 @@ headerOf s =
       down = instanceOf s .powerDown;
     }
 
+-- the header's numbers are the card's, and those of one or two bytes are so small
 pub record HeaderOf (s : List ℕ) (h : Header) : Type 0 where
   pub modules-is : h .modules ≡ instanceOf s .modules
   pub top-is : h .top ≡ instanceOf s .topStep
@@ -54,6 +55,7 @@ pub record Sized (s : List ℕ) (h : Header) : Type 0 where
   pub header : HeaderOf s h
   pub size : length s ≡ 17 + 4 * (h .top + 1) + 2 * h .slots
 
+-- both m and Q are from 1 to 200
 abbrev pub rackInRange : ℕ → ℕ → Bool
 rackInRange m q = rackNumber m && rackNumber q
 
@@ -61,6 +63,7 @@ rackInRange m q = rackNumber m && rackNumber q
 unfoldable pub found : List ℕ → List Refusal → Answer
 found s xs = lowest (applies (requestOf (checkCard s))) xs (Cost 0)
 
+-- refusals 1 and 2, 3 to 5, 6 to 8
 abbrev pub frontRefusals : List Refusal
 frontRefusals = NotACard ∷ Version ∷ []
 

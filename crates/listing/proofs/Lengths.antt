@@ -9,7 +9,8 @@ use lib.Seq.{getD-take, getD-drop}
 use Rattle.lists.specs.Writing.{Room, rows-at-most}
 use Rattle.model.specs.Sheets.{isOff}
 use Rattle.model.specs.Listing.{decimal, newline, costLine, planLine, stepText, slotLine, listing, refusedLine}
-use Rattle.listing.specs.Texts.{numberedLine, countText, countTexts, moduleText, moduleTexts, sheetLine, sheetLines, Printable, LineRoom}
+use Rattle.listing.specs.Texts.{numberedLine, countText, countTexts, moduleText, moduleTexts, sheetLine, sheetLines}
+use Rattle.listing.specs.Texts.{Printable, LineRoom}
 use Rattle.listing.proofs.Digits.{decimal-most}
 use Rattle.listing.proofs.Steps.{module-text}
 
@@ -50,9 +51,9 @@ slot-length t row h byte =
     one : (k : ℕ) → k < length row → length (moduleText row k) ≤ 4
     one k l = omega (arith, ap length (module-text row k l), step-length (getD row k 0) (byte k l))
 
-sheet-length :
+lines-length :
     (m n : ℕ) (s : List ℕ) → n ≤ 1024 → ((k : ℕ) → getD s k 0 < 256) → length (sheetLines m n s) ≤ n * (11 + m * 4)
-sheet-length m n s few byte = rows-at-most (11 + m * 4) n (sheetLine m s) line
+lines-length m n s few byte = rows-at-most (11 + m * 4) n (sheetLine m s) line
   where
     size : (t : ℕ) → length (take m (drop (t * m) s)) ≤ m
     size t = omega (arith, length-take m (drop (t * m) s))
@@ -81,7 +82,7 @@ listing-room {m} {cost} {p} {s} {out} a top counts steps =
             length-append (planLine p) slots,
             line-length (99 ∷ 111 ∷ 115 ∷ 116 ∷ 32 ∷ []) cost top,
             plan-length p counts,
-            sheet-length m (length p) s (r .slots) steps,
+            lines-length m (length p) s (r .slots) steps,
             r .entries,
             a .area,
           );

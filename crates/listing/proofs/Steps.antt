@@ -1,12 +1,12 @@
 -- The text of a step, by the code's test, and where the step is a byte of a row.
-use Prim.Native.Nat.{ℕ, zero, suc, _≤_, _<_}
-use mathlib.Core.Path.{_≡_, refl}
+use Prim.Native.Nat.{ℕ, _≤_, _<_}
+use mathlib.Core.Path.{_≡_}
 use mathlib.Core.Bool.{Bool, true, false, cond}
 use mathlib.Core.List.{List, [], _∷_}
-use native.Mathlib.Nat.{not-suc-le-zero, le-of-suc-le-suc}
 use native.Mathlib.Omega.{arith}
 use lib.ListN.{length, getD}
 use borrow.Author.Tests.{eq-eqb, ne-eqb}
+use Rattle.lists.specs.Parts.{getD-within}
 use Rattle.model.specs.Sheets.{off, isOff}
 use Rattle.model.specs.Listing.{digits, decimal, stepText}
 use Rattle.listing.specs.Texts.{moduleText}
@@ -29,11 +29,6 @@ step-some b = go (isOff b)
     go true = omega arith
     go false = decimal-rise 0 b (omega arith)
 
--- a byte that is there is the same whatever stands for a missing one
-present : (row : List ℕ) (k a b : ℕ) → k < length row → getD row k a ≡ getD row k b
-present [] k a b h = absurd (not-suc-le-zero h)
-present (x ∷ row) zero a b h = refl
-present (x ∷ row) (suc k) a b h = present row k a b (le-of-suc-le-suc h)
-
+-- the text of a byte that is there, read with 0 as the code reads it
 pub module-text : (row : List ℕ) (k : ℕ) → k < length row → moduleText row k ≡ 32 ∷ stepText (getD row k 0)
-module-text row k h = rw (present row k off 0 h)
+module-text row k h = rw (getD-within row k off 0 h)

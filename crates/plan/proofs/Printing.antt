@@ -1,92 +1,128 @@
--- What is printed, by the planner's answer.
+-- What is printed for a card, by the planner's answer: the line of a refusal, or the listing of the plan and sheet in the areas.
 use Prim.Native.Nat.{ℕ, _*_, _≤_}
 use mathlib.Core.Path.{_≡_, sym, _∙_, ap}
-use mathlib.Core.List.{List, _++_}
+use mathlib.Core.List.{List, [], _∷_}
 use native.Mathlib.Omega.{arith}
-use lib.ListN.{length, take, drop, replicate, length-append, length-replicate}
-use lib.Seq.{take-at}
-use Rattle.model.specs.declared.Answer.the-variants.{Cost}
-use Rattle.model.specs.Instance.{instanceOf}
+use lib.Dec.{ltb}
+use lib.ListN.{length, take, length-take, length-replicate}
+use borrow.Author.Tests.{ltb-false}
+use mir.Syntax.{w64}
+use mir.Val.{Fits}
+use Rattle.lists.specs.Tests.{or-left}
+use Rattle.model.specs.declared.Refusal.the-variants.{BufferTooShort}
+use Rattle.model.specs.declared.Answer.{Answer}
+use Rattle.model.specs.declared.Answer.the-variants.{Cost, Refused}
+use Rattle.model.specs.Instance.{Instance, instanceOf}
+use Rattle.model.specs.Counts.{allCounts}
 use Rattle.model.specs.Plans.{sheetOf}
 use Rattle.model.specs.Listing.{listing, refusedLine, printed, printedFor}
-use Rattle.model.specs.Calls.{Gives, planExact, answer, exactPlan, exactPlanAtExit, sheetAtExit}
-use Rattle.laws.specs.Acceptance.{slots-range}
+use Rattle.model.specs.Calls.{Gives, nothing, checkCard, planExact, answer, applies, anyShort, requestOf, refusals, successCost}
+use Rattle.model.specs.Calls.{exactPlan, exactWork, sheetBytes, exactPlanAtExit, sheetAtExit}
+use Rattle.laws.specs.Answers.{number-zero}
+use Rattle.laws.specs.Lowest.{lowest-passed}
+use Rattle.laws.specs.OnCard.{on-card-passed}
+use Rattle.laws.specs.Acceptance.{card-size, slots-range}
 use Rattle.theory.specs.Sheets.{sheet-length}
+use Rattle.theory.specs.Lists.{all-ascending}
+use Rattle.theory.specs.Outcomes.{written-taken, best-fits, sheet-accepted, exact-on}
 use Rattle.listing.specs.Texts.{Printable}
 use Rattle.plan.specs.Program.{TextArea, Planned, exactListing}
-use Rattle.plan.proofs.Planning.{cost-answer, refused-answer, same-lengths, exact-length, exact-made, exact-accepted, exact-room, exact-written}
 
--- the program's areas, and what the planner gave
+-- the planner's answer depends on the lengths of its areas alone
+same-lengths :
+    (s p w q v : List ℕ) → length p ≡ length q → length w ≡ length v → answer (planExact s p w) ≡ answer (planExact s q v)
+unfolding answer requestOf refusals successCost
+same-lengths s p w q v e d = rw (e, d)
+
+-- The program's areas, and the two numbers that the planner gave.
 module _ (s p w : List ℕ) (plan-size : 1024 ≡ length p) (work-size : 65536 ≡ length w)
     {number cost : ℕ} (gives : Gives (answer (planExact s p w)) number cost) where
-  same : answer (planExact s (replicate 1024 0) (replicate 65536 0)) ≡ answer (planExact s p w)
-  same = same-lengths s _ _ p w (length-replicate {A = ℕ} 1024 0 ∙ plan-size) (length-replicate {A = ℕ} 65536 0 ∙ work-size)
+  as-printed : printedFor s (answer (planExact s p w)) ≡ printed s
+  unfolding printed
+  as-printed =
+      let plan = length-replicate {A = ℕ} 1024 0 in
+      let work = length-replicate {A = ℕ} 65536 0 in
+      ap (printedFor s) (sym (same-lengths s _ _ p w (plan ∙ plan-size) (work ∙ work-size)))
 
-  pub printed-refusal : (number ≡ 0 → ⊥) → printed s ≡ refusedLine number
-  unfolding printed printedFor
-  printed-refusal n = let (r, is, e) = refused-answer _ gives n in rw (same, is) (ap refusedLine (sym e))
+  pub printed-refusal : (number ≡ 0 → ⊥) → refusedLine number ≡ printed s
+  unfolding printedFor
+  printed-refusal some = go (answer (planExact s p w)) gives ∙ as-printed
+    where
+      go : (a : Answer) → Gives a number cost → refusedLine number ≡ printedFor s a
+      go (Cost n) g = absurd (some (g .number-is))
+      go (Refused x) g = ap refusedLine (g .number-is)
 
-  module _ (done : number ≡ 0) where
+  module _ (none : number ≡ 0) where
     success : answer (planExact s p w) ≡ Cost cost
-    success = cost-answer _ gives done
+    success = number-zero _ (sym (gives .number-is) ∙ none) ∙ ap Cost (sym (gives .cost-is))
 
-    pub printed-listing : printed s ≡ exactListing s cost
-    unfolding printed printedFor
-    printed-listing = rw (same, success)
+    pub printed-listing : exactListing s cost ≡ printed s
+    unfolding printedFor
+    printed-listing = ap (printedFor s) (sym success) ∙ as-printed
+
+    given : answer (checkCard s) ≡ Cost 0
+    given = exact-on s p w success
+
+    -- the work area was long enough
+    work-room : exactWork (instanceOf s) ≤ length w
+    unfolding answer requestOf refusals applies anyShort
+    work-room =
+        let passed = lowest-passed _ _ _ (sym (on-card-passed s _ nothing (BufferTooShort ∷ []) _ given) ∙ success) .0 in
+        ltb-false _ _ (or-left _ _ (rw (or-left (ltb (length p) (instanceOf s .slots)) _ passed) at passed))
 
     pub planned : {new out : List ℕ} → new ≡ exactPlanAtExit s p w → TextArea out → Planned s new out
+    unfolding exactPlanAtExit
     planned {new} {out} e room =
-        let given = exact-accepted s p w success in
-        let size = exact-length s given in
-        let is = e ∙ exact-written s p w success in
+        let i = instanceOf s in
+        let size = best-fits allCounts all-ascending s given .slotwise in
+        let is : take (i .slots) new ≡ exactPlan i = rw e (written-taken (exactPlan i) p (i .slots) success size) in
         record {
           accepted = given;
-          work = omega (arith, exact-room s p w success .1, work-size);
-          slots = omega (arith, ap length is, length-append (exactPlan (instanceOf s)) (drop (length (exactPlan (instanceOf s))) p), size);
-          is = rw is (take-at (exactPlan (instanceOf s)) _ (instanceOf s .slots) size);
+          work = omega (arith, work-room);
+          slots = omega (arith, ap length is, length-take (i .slots) new);
+          is = is;
           text = room;
         }
 
--- the part of the sheet area that holds the sheet
-module _ {s plan out : List ℕ} (p : Planned s plan out) where
-  pub entries-fit : instanceOf s .modules * instanceOf s .slots ≤ 65536
-  entries-fit = omega (arith, p .work)
+-- a planned card has a header
+pub header-within : {s plan out : List ℕ} → Planned s plan out → 17 ≤ length s
+header-within {s} p = omega (arith, card-size s (p .accepted))
 
-  module _ (x made : List ℕ) (size : 65536 ≡ length x) (e : made ≡ sheetAtExit s (take (instanceOf s .slots) plan) x) where
-    sheet-at : made ≡ sheetOf (instanceOf s) (exactPlan (instanceOf s)) ++ drop (length (sheetOf (instanceOf s) (exactPlan (instanceOf s)))) x
-    sheet-at = e ∙ rw (p .is) (exact-made s (p .accepted) x (omega (arith, entries-fit)))
-
-    pub sheet-part : take (instanceOf s .modules * instanceOf s .slots) made ≡ sheetOf (instanceOf s) (exactPlan (instanceOf s))
-    sheet-part = rw sheet-at (take-at (sheetOf (instanceOf s) (exactPlan (instanceOf s))) _ _ (sheet-length (instanceOf s) (exactPlan (instanceOf s))))
-
-  pub printable :
-      Printable (instanceOf s .modules) (exactPlan (instanceOf s)) (sheetOf (instanceOf s) (exactPlan (instanceOf s))) out
-  printable =
-      let given = p .accepted in
-      let slots = exact-length s given in
-      let entries = sheet-length (instanceOf s) (exactPlan (instanceOf s)) in
-      record {
-        rack = record { entries = rw slots entries; slots = omega (arith, slots-range s given) };
-        area = omega (arith, slots-range s given, entries-fit, p .text .area);
-      }
-
--- what the code has read and made
+-- A planned card, with the rack and the slots that were read from it.
 module _ {s plan out : List ℕ} (p : Planned s plan out) {m t : ℕ} (ms : m ≡ instanceOf s .modules) (ts : t ≡ instanceOf s .slots) where
   pub slots-within : t ≤ length plan
   slots-within = omega (arith, p .slots)
 
-  pub entries-within : m * t ≤ 65536
-  entries-within = rw (ms, ts) (entries-fit p)
+  entries-few : m * t ≤ 65536
+  entries-few = rw (ms, ts) (omega (arith, p .work))
 
+  pub entries-fit : Fits w64 (m * t)
+  entries-fit = record { fits = omega (arith, entries-few) }
+
+  pub entries-within : (x made : List ℕ) → 65536 ≡ length x → length made ≡ length x → m * t ≤ length made
+  entries-within x made size same = omega (arith, entries-few)
+
+  -- the sheet area before and after the sheet call
   module _ (x made : List ℕ) (size : 65536 ≡ length x) (e : made ≡ sheetAtExit s (take t plan) x) where
-    plan-is : take t plan ≡ exactPlan (instanceOf s)
+    abbrev i : Instance
+    i = instanceOf s
+
+    plan-is : take t plan ≡ exactPlan i
     plan-is = rw ts (p .is)
 
-    sheet-is : take (m * t) made ≡ sheetOf (instanceOf s) (exactPlan (instanceOf s))
-    sheet-is = rw (ms, ts) (sheet-part p x made size (rw ts at e))
+    sheet-is : take (m * t) made ≡ sheetOf i (exactPlan i)
+    unfolding sheetAtExit
+    sheet-is =
+        let success = sheet-accepted allCounts all-ascending s (p .accepted) x (omega (arith, p .work)) .0 in
+        rw (e, plan-is, ms, ts) (written-taken (sheetOf i (exactPlan i)) x (sheetBytes i) success (sheet-length i (exactPlan i)))
 
     pub print-ready : Printable m (take t plan) (take (m * t) made) out
-    print-ready = rw (plan-is, sheet-is, ms) (printable p)
+    print-ready =
+        let slots = best-fits allCounts all-ascending s (p .accepted) .slotwise in
+        let entries = sheet-length i (exactPlan i) in
+        let few = slots-range s (p .accepted) in
+        rw (plan-is, sheet-is, ms)
+        (record { rack = record { entries = rw slots entries; slots = omega arith }; area = omega (arith, p .work, p .text .area) })
 
     pub print-done : (cost : ℕ) → listing m cost (take t plan) (take (m * t) made) ≡ exactListing s cost
     print-done cost = rw (plan-is, sheet-is, ms)

@@ -1,5 +1,4 @@
--- The operating cost under a table that never falls: the average over the active modules falls with their number, and more light
--- costs no less.
+-- The running cost under a table that never falls: more light costs no less, and the average over the modules falls with their number.
 use Prim.Native.Nat.{ℕ, zero, suc, _+_, _-_, _*_, _/_, _%_, _≤_, _<_}
 use mathlib.Core.Path.{_≡_, refl, ap, _∙_}
 use mathlib.Core.Logic.{_↔_, ⊎-elim}
@@ -59,7 +58,7 @@ module _ (i : Instance) where
   cost-of-shares {n} {l} σ = cost-shared i n l (σ .step) (σ .high) (σ .others + 1) (omega arith) (σ .all) (σ .light)
 
   module _ (rises : NeverFalls (i .topStep) (i .table)) where
-    -- more light costs no less
+    -- 'The running cost never falls with more light if the table it uses never falls' (01).
     pub more-light : (n l : ℕ) → 0 < n → l < n * i .topStep → operatingCost i n l ≤ operatingCost i n (l + 1)
     more-light n l some h =
         let σ : Shares n l = shares n l some in
@@ -97,7 +96,7 @@ module _ (i : Instance) where
           let cross = exchange f g (mul-le-mul fewer less) (omega (arith, mul-le-mul-left a high-rises)) in
           rw h (omega (arith, ap (λ (n : ℕ). x * n * f) (τ .all), ap (λ (n : ℕ). a * n * f) (σ .all)))
 
-    -- the average over the modules falls with their number
+    -- The cost a module never rises with more modules: the average over a modules is at most that over x.
     pub average-falls : (x a l : ℕ) → 0 < x → x ≤ a → l ≤ x * i .topStep → x * operatingCost i a l ≤ a * operatingCost i x l
     average-falls x a l some fewer fits =
         let σ : Shares x l = shares x l some in
@@ -109,10 +108,10 @@ module _ (i : Instance) where
         (le-or-lt (σ .step) (τ .step)))
 
   -- one module costs the table's entry
-  pub one-module : (k : ℕ) → k ≤ i .topStep → operatingCost i 1 k ≡ i .table k
+  one-module : (k : ℕ) → k ≤ i .topStep → operatingCost i 1 k ≡ i .table k
   one-module k h = cost-shared i 1 k k 0 1 (omega arith) refl (omega arith) ∙ omega arith
 
--- more light never costs less exactly if the table never falls
+-- More light never costs less exactly if the table never falls: refusal 9 is the hypothesis of condition 3.
 pub never-falls-iff :
     (i : Instance) →
     NeverFalls (i .topStep) (i .table) ↔

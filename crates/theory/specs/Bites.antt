@@ -16,7 +16,7 @@ use Rattle.model.specs.Sheets.{off, stateAt, sheetLength, sheetEntries, lightAt
 use Rattle.model.specs.Thesis.{countAt, stepUp, countsCost}
 use Rattle.model.specs.Plans.{moduleByte, slotRow, sheetOf, planCost, planServes, plansInOrder, cheapest, cheapestOf, leastPlan}
 use Rattle.columns.specs.Column.{countAtPlace}
-use Rattle.theory.specs.Setting.{NeverFalls, Plannable, Entry, activeIn, lightIn, costIn, Ascending}
+use Rattle.theory.specs.Setting.{NeverFalls, Plannable, Entry, activeIn, lightIn, rowCost, Ascending}
 use Rattle.theory.specs.Sheets.{countsOf, sheet-at-least}
 use Rattle.theory.specs.Condition3.{exact-least, list-ratio, coarse-twice}
 
@@ -40,8 +40,8 @@ unevenRow k = getD (0 ∷ 2 ∷ []) k 0
 -- Without convexity a row of entries can cost less than the running cost of its count: 3, and not 4.
 pub row-needs-convex :
     ((k : ℕ) → Entry concave (unevenRow k)) ×
-    (costIn concave 2 unevenRow < operatingCost concave (activeIn 2 unevenRow) (lightIn 2 unevenRow))
-unfolding sum activeIn lightIn costIn stepCost operatingCost
+    (rowCost concave 2 unevenRow < operatingCost concave (activeIn 2 unevenRow) (lightIn 2 unevenRow))
+unfolding sum activeIn lightIn rowCost stepCost operatingCost
 row-needs-convex = (entry, lit< tt)
   where
     entry : (k : ℕ) → Entry concave (unevenRow k)
@@ -110,7 +110,7 @@ abbrev coarseCost : ℕ
 coarseCost = planCost exampleE (leastPlan exampleE (coarseCounts (exampleE .modules)))
 
 -- The numbers: the least plans cost 5, 6 and 8, the sheets 5 and 10, the second one's counts 7.
-pub costs-computed :
+costs-computed :
     (exactCost ≡ 5) × (wideCost ≡ 6) × (coarseCost ≡ 8) × (sheetCost exampleE steadySheet ≡ 5) × (sheetCost exampleE movedSheet ≡ 10) ×
     (countsCost exampleE 0 (countsOf exampleE movedSheet) ≡ 7)
 unfolding every sum tabulate rows keep flatMap canServe operatingCost allCounts powerOfTwo coarseCounts stateAt stepCost changeCost

@@ -16,7 +16,7 @@ pub record Best (ok : ℕ → Type 0) (value : ℕ → ℕ) (c : Choice) : Type 
   pub least : (k : ℕ) → ok k → c .cost ≤ value k
   pub first : (k : ℕ) → ok k → value k ≡ c .cost → c .at ≤ k
 
--- the downward pass at a place that serves
+-- the downward pass at a place that serves: its own value, or the best above it
 pub best-own :
     {ok : ℕ → Type 0} {value : ℕ → ℕ} {c : Choice} (j : ℕ) → ok j → Best (λ k. (j < k) × ok k) value c →
     Best (λ k. (j ≤ k) × ok k) value (cheaper (record { cost = value j; at = j }) c)
@@ -25,17 +25,19 @@ best-own {ok} {value} {c} j serves above = go (leb (value j) (c .cost)) refl
     mine : Choice
     mine = record { cost = value j; at = j }
 
+    least-of : (x : ℕ) → x ≤ value j → x ≤ c .cost → (k : ℕ) → (j ≤ k) × ok k → x ≤ value k
+    least-of x to-own to-above k h =
+        ⊎-elim
+        (λ (g : k ≤ j). let same : k ≡ j = omega arith in rw same to-own)
+        (λ (g : j < k). omega (arith, above .least k (g, h .1)))
+        (le-or-lt k j)
+
     go : (b : Bool) → leb (value j) (c .cost) ≡ b → Best (λ k. (j ≤ k) × ok k) value (cond b mine c)
     go true e =
         record {
           found = (omega arith, serves);
           cost-is = refl;
-          least =
-              λ k h.
-              ⊎-elim
-              (λ (g : k ≤ j). let same : k ≡ j = omega arith in rw same (omega arith))
-              (λ (g : j < k). omega (arith, leb-true (value j) (c .cost) e, above .least k (omega arith, h .1)))
-              (le-or-lt k j);
+          least = least-of (value j) (omega arith) (leb-true (value j) (c .cost) e);
           first = λ k h _. h .0;
         }
     go false e =
@@ -43,17 +45,12 @@ best-own {ok} {value} {c} j serves above = go (leb (value j) (c .cost)) refl
         record {
           found = (omega (arith, above .found .0), above .found .1);
           cost-is = above .cost-is;
-          least =
-              λ k h.
-              ⊎-elim
-              (λ (g : k ≤ j). let same : k ≡ j = omega arith in rw same (omega arith))
-              (λ (g : j < k). above .least k (omega arith, h .1))
-              (le-or-lt k j);
+          least = least-of (c .cost) (omega arith) (omega arith);
           first =
               λ k h equal.
               ⊎-elim
               (λ (g : k ≤ j). let same : value k ≡ value j = ap value (omega arith) in omega arith)
-              (λ (g : j < k). above .first k (omega arith, h .1) equal)
+              (λ (g : j < k). above .first k (g, h .1) equal)
               (le-or-lt k j);
         }
 
@@ -73,7 +70,7 @@ best-skip {ok} j stuck above =
     higher k h =
         ⊎-elim
         (λ (g : k ≤ j). let same : k ≡ j = omega arith in absurd (stuck (rw same at (h .1))))
-        (λ (g : j < k). (omega arith, h .1))
+        (λ (g : j < k). (g, h .1))
         (le-or-lt k j)
 
 -- the upward pass: from place j to the one above, which costs g more; `now` and `later` are the values up to the one and the other

@@ -19,7 +19,7 @@ use Rattle.laws.specs.Acceptance.{modules-range, top-range, load-range, table-c
 use Rattle.columns.specs.Column.{countAtPlace, searchedPlan, searchedCost}
 use Rattle.theory.specs.Setting.{NeverFalls, PlanFits, Plannable, Ascending, LeastByCounts}
 use Rattle.theory.specs.Tables.{convex-test, never-falls-test}
-use Rattle.theory.specs.Sheets.{countsOf, counts-fit, sheet-at-least, plan-sheet-serves, plan-cost-counts}
+use Rattle.theory.specs.Sheets.{countsOf, sheet-counts-fit, sheet-at-least, plan-sheet-serves, plan-cost-counts}
 use Rattle.theory.specs.Places.{count-fits}
 use Rattle.theory.specs.Least.{searched-least, searched-cost}
 use Rattle.theory.specs.Enumeration.{least-plan, least-plan-unique}
@@ -51,7 +51,7 @@ module _ {i : Instance} (ready : Plannable i) where
           first = λ r a e. L .first r a (omega (arith, allowed-cost p (L .allowed), allowed-cost r a));
         }
 
-    -- The search finds the least plan and its cost.
+    -- The search over the list finds the least plan and its cost (thesis 4.12, 5.7).
     pub searched-plan : (searchedPlan i counts 0 ≡ leastPlan i counts) × (searchedCost i counts 0 ≡ planCost i (leastPlan i counts))
     searched-plan =
         let L = searched-least i counts 0 asc (ready .loads) in
@@ -59,37 +59,38 @@ module _ {i : Instance} (ready : Plannable i) where
         let cost = searched-cost i counts 0 asc (ready .loads) ∙ sym (allowed-cost (searchedPlan i counts 0) (L .allowed)) in
         (same, cost ∙ ap (planCost i) same)
 
-    -- The sheet of the least plan can be written, serves, and costs what the plan costs.
+    -- The least plan has a sheet that can be written;
     pub least-plan-fits : PlanFits i (leastPlan i counts)
     least-plan-fits = allowed-fits (least-plan i counts asc (ready .loads) .allowed)
 
+    -- that sheet serves, and costs what the plan costs.
     pub least-sheet :
         (serves i (sheetOf i (leastPlan i counts)) ≡ true) ×
         (sheetCost i (sheetOf i (leastPlan i counts)) ≡ planCost i (leastPlan i counts))
     unfolding planCost
     least-sheet = (plan-sheet-serves i (leastPlan i counts) least-plan-fits, refl)
 
-  -- Over all counts no sheet that serves costs less.
+  -- Condition 3, exact: no sheet that serves costs less than the least plan over all counts (thesis 3.8).
   pub exact-least : (s : List ℕ) → serves i s ≡ true → planCost i (leastPlan i (allCounts (i .modules))) ≤ sheetCost i s
   exact-least s e =
-      let fit = counts-fit i s (ready .steps) e in
+      let fit = sheet-counts-fit i s (ready .steps) e in
       let counted : Allowed i (allCounts (i .modules)) (countsOf i s) =
       record { slotwise = fit .slotwise; member = λ t h. all-member (i .modules) _ .0 (fit .in-rack t h); served = fit .served } in
       let least = least-plan i (allCounts (i .modules)) (all-ascending (i .modules) (ready .some)) (ready .loads) .least _ counted in
       omega (arith, plan-cost-counts i (countsOf i s) fit, sheet-at-least i (ready .convex) s e)
 
   -- Over a list in which each count is at most r times one more than the one before it, the least plan costs at most r times as
-  -- much as any sheet that serves, if the table never falls.
+  -- much as any sheet that serves, if the table never falls (thesis 5.5 and 5.11, for whole ratios).
   pub list-ratio :
       NeverFalls (i .topStep) (i .table) → (counts : List ℕ) → Ascending counts (i .modules) → (r : ℕ) → 1 ≤ r →
       ((j : ℕ) → j + 1 < length counts → countAtPlace counts (j + 1) ≤ r * (countAtPlace counts j + 1)) →
       (s : List ℕ) → serves i s ≡ true → planCost i (leastPlan i counts) ≤ r * sheetCost i s
   list-ratio rises counts asc r one gaps s e =
-      let fit = counts-fit i s (ready .steps) e in
+      let fit = sheet-counts-fit i s (ready .steps) e in
       let bound = ratio i counts 0 asc (ready .loads) rises r one gaps (countsOf i s) (fit .in-rack) (fit .served) in
       omega (arith, searched-plan counts asc .1, mul-le-mul-left r (sheet-at-least i (ready .convex) s e))
 
-  -- Over the coarse counts it costs at most twice as much.
+  -- Condition 3, coarse: over the coarse counts it costs at most twice as much (thesis 5.8).
   pub coarse-twice :
       NeverFalls (i .topStep) (i .table) → (s : List ℕ) → serves i s ≡ true →
       planCost i (leastPlan i (coarseCounts (i .modules))) ≤ 2 * sheetCost i s

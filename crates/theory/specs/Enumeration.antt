@@ -126,15 +126,15 @@ module _ (cost : List ℕ → ℕ) (R : List ℕ → List ℕ → Type 0) where
 
 module _ (counts : List ℕ) where
   -- a plan of t slots with counts from the list
-  abbrev pub PlanOver : ℕ → List ℕ → Type 0
-  PlanOver t p = (length p ≡ t) × ((u : ℕ) → u < t → Member (getD p u 0) counts)
+  abbrev PlanFrom : ℕ → List ℕ → Type 0
+  PlanFrom t p = (length p ≡ t) × ((u : ℕ) → u < t → Member (getD p u 0) counts)
 
   -- the enumerated plans of t slots, each with the count n after them
   abbrev thenCount : ℕ → ℕ → List (List ℕ)
   thenCount t n = map (λ p. p ++ (n ∷ [])) (plansInOrder counts t)
 
   -- the enumeration holds such plans only,
-  enumerated : (t : ℕ) (p : List ℕ) → List·Memᴰ p (plansInOrder counts t) → PlanOver t p
+  enumerated : (t : ℕ) (p : List ℕ) → List·Memᴰ p (plansInOrder counts t) → PlanFrom t p
   unfolding plansInOrder
   enumerated zero p m = (ap length (List·Memᴰ·eq-of-singleton m), λ u h. absurd (not-suc-le-zero h))
   enumerated (suc t) p m =
@@ -150,7 +150,7 @@ module _ (counts : List ℕ) where
       rw e (snoc-length q n t size, member)
 
   -- all of them,
-  enumerates : (t : ℕ) (p : List ℕ) → PlanOver t p → List·Memᴰ p (plansInOrder counts t)
+  enumerates : (t : ℕ) (p : List ℕ) → PlanFrom t p → List·Memᴰ p (plansInOrder counts t)
   unfolding plansInOrder
   enumerates zero [] over = List·Memᴰ·head refl
   enumerates zero (x ∷ xs) (size, members) = absurd (omega arith)
@@ -158,7 +158,7 @@ module _ (counts : List ℕ) where
       let (k, inside, here) = members t (omega arith) in
       let n = getD p t 0 in
       let whole : p ≡ take t p ++ (n ∷ []) = sym (take-all (suc t) p (omega arith)) ∙ take-suc p t 0 (omega arith) in
-      let front : PlanOver t (take t p) =
+      let front : PlanFrom t (take t p) =
       (length-take-le t p (omega arith), λ u h. rw (getD-take t p u 0 h) (members u (omega arith))) in
       let longer = Memᴰ·map (λ p. p ++ (n ∷ [])) (enumerates t (take t p) front) in
       Memᴰ·cast whole (to-flatMap (thenCount t) (rw here at (member-at counts k 0 inside)) longer)
@@ -192,41 +192,6 @@ module _ (counts : List ℕ) where
           rw (e, f)
           (not-after-snoc t p q x y (enumerated t p in-p .0) (enumerated t q in-q .0) (omega arith) (λ g. absurd (omega arith)))
 
--- p is the least plan of t slots over the counts among those that pass a test, first in tie order
-pub record LeastOver (cost : List ℕ → ℕ) (test : List ℕ → Bool) (counts : List ℕ) (t : ℕ) (p : List ℕ) : Type 0 where
-  pub over : PlanOver counts t p
-  pub passes : test p ≡ true
-  pub least : (r : List ℕ) → PlanOver counts t r → test r ≡ true → cost p ≤ cost r
-  pub first : (r : List ℕ) → PlanOver counts t r → test r ≡ true → cost r ≡ cost p → NotAfterIn t p r
-
--- the function of the definition gives it, for any cost and test, where some plan passes
-pub cheapest-plan :
-    (cost : List ℕ → ℕ) (test : List ℕ → Bool) (counts : List ℕ) (t : ℕ) →
-    ((j : ℕ) → j + 1 < length counts → getD counts j 0 < getD counts (j + 1) 0) →
-    (r : List ℕ) → PlanOver counts t r → test r ≡ true →
-    LeastOver cost test counts t (cheapestOf cost (keep test (plansInOrder counts t)))
-cheapest-plan cost test counts t rises r over passes =
-    record {
-      over = enumerated counts t (cheapestOf cost (keep test plans)) (found .0);
-      passes = found .1;
-      least = λ q o e. best .least q (listed q o e);
-      first = λ q o e. best .first q (listed q o e);
-    }
-  where
-    plans : List (List ℕ)
-    plans = plansInOrder counts t
-
-    listed : (q : List ℕ) → PlanOver counts t q → test q ≡ true → List·Memᴰ q (keep test plans)
-    listed q o e = to-keep test (enumerates counts t q o) e
-
-    best : CheapestIn cost (NotAfterIn t) (keep test plans) (cheapestOf cost (keep test plans))
-    best =
-        cheapest-of cost (NotAfterIn t) (λ p u h _. omega arith) (keep test plans) r (listed r over passes)
-        (in-order-keep test (enumerated-in-order counts rises t))
-
-    found : List·Memᴰ (cheapestOf cost (keep test plans)) plans × (test (cheapestOf cost (keep test plans)) ≡ true)
-    found = from-keep test plans (best .member)
-
 -- the full rack in every slot is allowed
 full-rack :
     (i : Instance) (counts : List ℕ) → Ascending counts (i .modules) → LoadsFit i →
@@ -237,19 +202,31 @@ full-rack i counts asc loads =
     let here = asc .last ∙ sym (getD-replicate (i .slots) t (i .modules) 0 h) in
     (lastPlace counts, last-inside asc, here, last-serves asc i (i .load t) (loads t h)))
 
--- the least plan as a function is the least plan as a predicate
+-- Document 01's least plan, as the function `leastPlan`, is the least plan as a predicate;
 pub least-plan : (i : Instance) (counts : List ℕ) → Ascending counts (i .modules) → LoadsFit i → LeastPlan i counts (leastPlan i counts)
 unfolding leastPlan
 least-plan i counts asc loads =
-    let full = full-rack i counts asc loads in
-    let L = cheapest-plan (planCost i) (planServes i) counts (i .slots) (asc .rises) _ (full .slotwise, full .member) (full .served) in
+    let (enumerated-one, serves) = from-keep (planServes i) plans (best .member) in
+    let (size, members) = enumerated counts (i .slots) _ enumerated-one in
     record {
-      allowed = record { slotwise = L .over .0; member = L .over .1; served = L .passes };
-      least = λ r a. L .least r (a .slotwise, a .member) (a .served);
-      first = λ r a. L .first r (a .slotwise, a .member) (a .served);
+      allowed = record { slotwise = size; member = members; served = serves };
+      least = λ r a. best .least r (listed r a);
+      first = λ r a. best .first r (listed r a);
     }
+  where
+    plans : List (List ℕ)
+    plans = plansInOrder counts (i .slots)
 
--- and there is only one
+    listed : (r : List ℕ) → Allowed i counts r → List·Memᴰ r (keep (planServes i) plans)
+    listed r a = to-keep (planServes i) (enumerates counts (i .slots) r (a .slotwise, a .member)) (a .served)
+
+    best : CheapestIn (planCost i) (NotAfterIn (i .slots)) (keep (planServes i) plans) (cheapestOf (planCost i) (keep (planServes i) plans))
+    best =
+        cheapest-of (planCost i) (NotAfterIn (i .slots)) (λ p u h _. omega arith) (keep (planServes i) plans) _
+        (listed _ (full-rack i counts asc loads))
+        (in-order-keep (planServes i) (enumerated-in-order counts (asc .rises) (i .slots)))
+
+-- and there is only one.
 pub least-plan-unique : (i : Instance) (counts p r : List ℕ) → LeastPlan i counts p → LeastPlan i counts r → p ≡ r
 least-plan-unique i counts p r P R =
     let same : planCost i p ≡ planCost i r = omega (arith, P .least r (R .allowed), R .least p (P .allowed)) in

@@ -130,14 +130,14 @@ module _ (i : Instance) (counts : List ℕ) (start : ℕ) (asc : Ascending count
   first-inside : 0 < length counts
   first-inside = omega (arith, asc .two)
 
-  -- the search's cost is that of its plan
+  -- The search's cost is that of its plan,
   pub searched-cost : searchedCost i counts start ≡ countsCost i start (searchedPlan i counts start)
   unfolding searchedCost searchedPlan
   searched-cost =
       sym (way-back-cost (i .slots) 0 (omega arith) first-inside) ∙ cost-to-first (wayBack i counts start (i .slots) 0)
 
   -- no allowed plan costs less by counts
-  pub searched-below : (r : List ℕ) → Allowed i counts r → searchedCost i counts start ≤ countsCost i start r
+  searched-below : (r : List ℕ) → Allowed i counts r → searchedCost i counts start ≤ countsCost i start r
   unfolding searchedCost
   searched-below r a =
       omega (
@@ -146,7 +146,7 @@ module _ (i : Instance) (counts : List ℕ) (start : ℕ) (asc : Ascending count
         cost-to-first r,
       )
 
-  -- the search's plan is the least by counts, first in tie order
+  -- and its plan is the least by counts, first in tie order (thesis 4.12).
   pub searched-least : LeastByCounts i counts start (searchedPlan i counts start)
   unfolding searchedPlan searchedCost
   searched-least =

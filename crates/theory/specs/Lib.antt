@@ -1,4 +1,6 @@
--- The theorems, a module a subject. Every statement is over instances and lists of any size.
+-- The theorems, a module a subject. Every statement is over instances and lists of any size. The end theorems are in Sheets,
+-- Enumeration, Average, Lists, Condition3, Refusals, Outcomes and Reading; the other modules lead to them, and Bites shows that their
+-- hypotheses are needed and can be met.
 pub mod Setting
 pub mod Tables
 pub mod Running

@@ -59,31 +59,22 @@ power-above (suc c) =
     (λ (high : suc c < 2 ^ e). (e, high, omega arith))
     (le-or-lt (2 ^ e) (suc c))
 
--- '0, each power of two up to m, and m'
-abbrev coarseTest : ℕ → ℕ → Bool
-coarseTest m n = eqb n 0 || (eqb n m || powerOfTwo n)
-
-abbrev IsCoarse : ℕ → ℕ → Type 0
-IsCoarse m n = (n ≡ 0) ⊎ ((n ≡ m) ⊎ ((e : ℕ) × (n ≡ 2 ^ e)))
-
-coarse-test : (m n : ℕ) → (coarseTest m n ≡ true) ↔ IsCoarse m n
-coarse-test m n = (to, from)
-  where
-    to : coarseTest m n ≡ true → IsCoarse m n
-    to t = ⊎-map (eqb-true n 0) (λ u. ⊎-map (eqb-true n m) (power-iff n .0) (or-cases _ _ u)) (or-cases _ _ t)
-
-    from : IsCoarse m n → coarseTest m n ≡ true
-    from (inl e) = rw (eq-eqb n 0 e)
-    from (inr (inl e)) = rw (eq-eqb n m e) (or-true (eqb n 0))
-    from (inr (inr p)) = rw (power-iff n .1 p, or-true) (or-true (eqb n 0))
-
+-- 'only the allowed counts 0, each power of two up to m, and m'
 pub coarse-member : (m n : ℕ) → Member n (coarseCounts m) ↔ ((n ≤ m) × ((n ≡ 0) ⊎ ((n ≡ m) ⊎ ((e : ℕ) × (n ≡ 2 ^ e)))))
 unfolding coarseCounts
 coarse-member m n =
-    let kept = kept-member (coarseTest m) (allCounts m) n in (
-      λ h. let (stands, t) = kept .0 h in (all-member m n .1 stands, coarse-test m n .0 t),
-      λ (h, c). kept .1 (all-member m n .0 h, coarse-test m n .1 c),
+    let kept = kept-member _ (allCounts m) n in (
+      λ h. let (stands, t) = kept .0 h in (all-member m n .1 stands, to t),
+      λ (h, c). kept .1 (all-member m n .0 h, from c),
     )
+  where
+    to : (eqb n 0 || (eqb n m || powerOfTwo n)) ≡ true → (n ≡ 0) ⊎ ((n ≡ m) ⊎ ((e : ℕ) × (n ≡ 2 ^ e)))
+    to t = ⊎-map (eqb-true n 0) (λ u. ⊎-map (eqb-true n m) (power-iff n .0) (or-cases _ _ u)) (or-cases _ _ t)
+
+    from : (n ≡ 0) ⊎ ((n ≡ m) ⊎ ((e : ℕ) × (n ≡ 2 ^ e))) → (eqb n 0 || (eqb n m || powerOfTwo n)) ≡ true
+    from (inl e) = rw (eq-eqb n 0 e)
+    from (inr (inl e)) = rw (eq-eqb n m e) (or-true (eqb n 0))
+    from (inr (inr p)) = rw (power-iff n .1 p, or-true) (or-true (eqb n 0))
 
 all-in-order : (m : ℕ) → InOrder _<_ (allCounts m)
 unfolding allCounts
@@ -94,7 +85,7 @@ all-in-order m = rising-in-order (allCounts m) (λ j h. next j (rw length-tabula
 
 coarse-in-order : (m : ℕ) → InOrder _<_ (coarseCounts m)
 unfolding coarseCounts
-coarse-in-order m = in-order-keep (coarseTest m) (all-in-order m)
+coarse-in-order m = in-order-keep _ (all-in-order m)
 
 -- a list in order with 0 and m, and nothing above m
 ascending : (l : List ℕ) (m : ℕ) → InOrder _<_ l → Member 0 l → Member m l → ((n : ℕ) → Member n l → n ≤ m) → 1 ≤ m → Ascending l m
@@ -108,6 +99,7 @@ ascending l m order (j, b, e) (k, c, f) top some =
       rises = λ j h. in-order-at order 0 j (j + 1) (omega arith) h;
     }
 
+-- Both lists rise from 0 to m.
 pub all-ascending : (m : ℕ) → 1 ≤ m → Ascending (allCounts m) m
 all-ascending m some =
     ascending (allCounts m) m (all-in-order m) (all-member m 0 .0 (omega arith))
@@ -126,7 +118,7 @@ next-least l order j n h (k, c, e) above =
     (λ (after : j < k). omega (arith, in-order-le order (j + 1) k (omega arith) c))
     (le-or-lt k j)
 
--- each coarse count is at most twice one more than the one before
+-- Each coarse count is at most twice one more than the one before.
 pub coarse-doubling :
     (m : ℕ) → 1 ≤ m → (j : ℕ) → j + 1 < length (coarseCounts m) →
     countAtPlace (coarseCounts m) (j + 1) ≤ 2 * (countAtPlace (coarseCounts m) j + 1)
@@ -140,7 +132,7 @@ coarse-doubling m some j b =
     (λ (beyond : m < 2 ^ e). omega (arith, coarse-member m (countAtPlace l (j + 1)) .0 (j + 1, b, refl) .0))
     (le-or-lt (2 ^ e) m)
 
--- 'the smallest allowed count not below n'
+-- 'the smallest allowed count not below n': the rounded count is it.
 pub rounded-least :
     (m n : ℕ) → 1 ≤ m → n ≤ m →
     Member (roundedCount m n) (coarseCounts m) × (n ≤ roundedCount m n) ×

@@ -8,43 +8,45 @@ use lib.ListN.{length, getD, take}
 use lib.Dec.{leb}
 use lib.Seq.{take-at}
 use borrow.Author.Tests.{leb-true, le-leb, le-ltb, ltb-false, eqb-true, eq-eqb, not-false}
-use Rattle.lists.specs.Tests.{every-at, every-all, and-both, or-left}
+use Rattle.lists.specs.Tests.{every-at, every-all, or-left}
+use Rattle.model.specs.declared.Refusal.{Refusal}
 use Rattle.model.specs.declared.Refusal.the-variants.{NotMonotone, BufferTooShort, WrongLength, EntryRange, LoadNotServed}
 use Rattle.model.specs.declared.Answer.{Answer}
-use Rattle.model.specs.declared.Answer.the-variants.{Cost}
+use Rattle.model.specs.declared.Answer.the-variants.{Cost, Refused}
 use Rattle.model.specs.Answers.{numberOf}
 use Rattle.model.specs.Instance.{instanceOf, neverFalls}
 use Rattle.model.specs.Counts.{allCounts, coarseCounts}
-use Rattle.model.specs.Sheets.{sheetLength, sheetEntries, sheetLight, serves, sheetCost}
+use Rattle.model.specs.Sheets.{serves, sheetCost}
 use Rattle.model.specs.Plans.{sheetOf, planCost, leastPlan}
-use Rattle.model.specs.Calls.{checkCard, planExact, planCoarse, makeSheet, markSheet, nothing, plan, sheet, area, exactWork, coarseWork, sheetBytes}
-use Rattle.model.specs.Calls.{rightLength, entriesInRange, loadsServed, anyShort, requestOf, onCard, applies, refusals, lowest, successCost}
+use Rattle.model.specs.Calls.{checkCard, planExact, planCoarse, makeSheet, markSheet, nothing, plan, sheet, area, onCard, requestOf}
+use Rattle.model.specs.Calls.{exactWork, coarseWork, sheetBytes, rightLength, entriesInRange, loadsServed, anyShort}
+use Rattle.model.specs.Calls.{applies, refusals, lowest, successCost}
 use Rattle.model.specs.Calls.{answer, atExit, exactPlanAtExit, coarsePlanAtExit, sheetAtExit}
 use Rattle.laws.specs.Answers.{number-zero}
 use Rattle.laws.specs.Lowest.{lowest-passed}
-use Rattle.laws.specs.OnCard.{on-card-passed, on-card-accepted}
+use Rattle.laws.specs.OnCard.{on-card-refused, on-card-passed, on-card-accepted}
 use Rattle.laws.specs.Acceptance.{modules-range}
 use Rattle.theory.specs.Setting.{PlanFits, Ascending}
-use Rattle.theory.specs.Sheets.{serves-length, serves-entries, serves-light, sheet-length, plan-sheet-serves}
+use Rattle.theory.specs.Sheets.{serves-parts, sheet-length, plan-sheet-serves}
 use Rattle.theory.specs.Lists.{all-ascending, coarse-ascending}
 use Rattle.theory.specs.Condition3.{least-plan-fits, accepted-plannable}
 use Rattle.theory.specs.Refusals.{succeeded}
 
--- what a call has written, of the length asked for
-written-taken :
+-- After an answer with a cost the first k bytes of the buffer are the k bytes that are written.
+pub written-taken :
     {a : Answer} {n : ℕ} (written entry : List ℕ) (k : ℕ) → a ≡ Cost n → length written ≡ k → take k (atExit a written entry) ≡ written
 unfolding atExit
 written-taken written entry k e size = rw e (take-at written _ k size)
 
 -- Marking a sheet.
 module _ (c s : List ℕ) where
-  -- marking that answers a cost was on an accepted card
+  -- marking that answers a cost is on an accepted card
   marked-on : {n : ℕ} → answer (markSheet c s) ≡ Cost n → answer (checkCard c) ≡ Cost 0
   unfolding answer requestOf refusals
   marked-on = on-card-accepted c _ _ _ _
 
   module _ (given : answer (checkCard c) ≡ Cost 0) where
-    -- the tests that remain are the three of `serves`
+    -- on which the tests that remain are the three of `serves`
     mark-tests :
         answer (markSheet c s) ≡
         lowest (applies (onCard c [] (sheet s))) (WrongLength ∷ EntryRange ∷ LoadNotServed ∷ []) (Cost (sheetCost (instanceOf c) s))
@@ -52,19 +54,16 @@ module _ (c s : List ℕ) where
     mark-tests = on-card-passed c _ _ _ _ given
 
     marked-serves : {n : ℕ} → answer (markSheet c s) ≡ Cost n → serves (instanceOf c) s ≡ true
-    unfolding serves applies rightLength entriesInRange loadsServed
+    unfolding applies rightLength entriesInRange loadsServed
     marked-serves e =
         let size = lowest-passed _ _ _ (sym mark-tests ∙ e) in
         let entries = lowest-passed _ _ _ (size .1) in
         let light = lowest-passed _ _ _ (entries .1) in
-        let i = instanceOf c in
-        and-both
-        (not-false (sheetLength i s) (size .0))
-        (and-both (not-false (sheetEntries i s) (entries .0)) (not-false (sheetLight i s) (light .0)))
+        serves-parts (instanceOf c) s .1 (not-false _ (size .0), not-false _ (entries .0), not-false _ (light .0))
 
     serves-marked : serves (instanceOf c) s ≡ true → answer (markSheet c s) ≡ Cost (sheetCost (instanceOf c) s)
     unfolding lowest applies rightLength entriesInRange loadsServed
-    serves-marked e = mark-tests ∙ rw (serves-length _ s e, serves-entries _ s e, serves-light _ s e)
+    serves-marked e = let (size, entries, light) = serves-parts (instanceOf c) s .0 e in mark-tests ∙ rw (size, entries, light)
 
     -- Marking on an accepted card gives the sheet's cost exactly if the sheet serves.
     pub mark-accepts : answer (markSheet c s) ≡ Cost (sheetCost (instanceOf c) s) ↔ serves (instanceOf c) s ≡ true
@@ -79,12 +78,13 @@ module _ (c s : List ℕ) where
 
 -- Making the sheet of a plan.
 module _ (c p s : List ℕ) where
-  -- as was a sheet call that answers one
+  -- a sheet call that answers a cost is on an accepted card
   made-on : {n : ℕ} → answer (makeSheet c p s) ≡ Cost n → answer (checkCard c) ≡ Cost 0
   unfolding answer requestOf refusals
   made-on = on-card-accepted c _ _ _ _
 
   module _ (given : answer (checkCard c) ≡ Cost 0) where
+    -- on which these tests remain
     make-tests :
         answer (makeSheet c p s) ≡
         lowest (applies (onCard c (area s (sheetBytes (instanceOf c)) ∷ []) (plan p)))
@@ -92,8 +92,7 @@ module _ (c p s : List ℕ) where
     unfolding answer requestOf refusals successCost
     make-tests = on-card-passed c _ _ _ _ given
 
-    -- they pass where there is room and the plan has a sheet
-    -- what a plan and an area that the sheet call accepts are known to be
+    -- where they pass, the area has room and the plan a sheet,
     pub made-room : {n : ℕ} → answer (makeSheet c p s) ≡ Cost n → sheetBytes (instanceOf c) ≤ length s
     unfolding applies anyShort
     made-room e = ltb-false _ _ (or-left _ _ (lowest-passed _ _ _ (sym make-tests ∙ e) .0))
@@ -112,6 +111,7 @@ module _ (c p s : List ℕ) where
           served = not-false _ (light .0);
         }
 
+    -- and the other way round
     fits-made :
         PlanFits (instanceOf c) p → sheetBytes (instanceOf c) ≤ length s → answer (makeSheet c p s) ≡ Cost (planCost (instanceOf c) p)
     unfolding lowest applies rightLength entriesInRange loadsServed anyShort
@@ -133,39 +133,45 @@ module _ (c p s : List ℕ) where
       (serves-marked c (sheetOf i p) (made-on made) (plan-sheet-serves i p fit) ∙ sym made)
 
 -- The sheet call accepts the plan q with the buffer s, and marking accepts the sheet that it writes, both with the answer a.
-abbrev pub Marked : (c q s : List ℕ) → Answer → Type 0
+abbrev Marked : (c q s : List ℕ) → Answer → Type 0
 Marked c q s a =
     (answer (makeSheet c q s) ≡ a) × (answer (markSheet c (take (sheetBytes (instanceOf c)) (sheetAtExit c q s))) ≡ a)
 
--- The least plans over an ascending list of allowed counts.
-module _ (c : List ℕ) (given : answer (checkCard c) ≡ Cost 0) (counts : List ℕ) (asc : Ascending counts (instanceOf c .modules)) where
+-- The least plan over a list of counts that rises from 0 to m, in a rack of any m modules.
+module _ (counts : ℕ → List ℕ) (asc : (m : ℕ) → 1 ≤ m → Ascending (counts m) m) (c : List ℕ) (given : answer (checkCard c) ≡ Cost 0) where
   abbrev best : List ℕ
-  best = leastPlan (instanceOf c) counts
+  best = leastPlan (instanceOf c) (counts (instanceOf c .modules))
 
-  -- Sheet call and marking accept them at their cost.
+  pub best-fits : PlanFits (instanceOf c) best
+  best-fits = least-plan-fits (accepted-plannable c given) _ (asc _ (modules-range c given .0))
+
+  -- Sheet call and marking accept it at its cost;
   pub sheet-accepted : (s : List ℕ) → sheetBytes (instanceOf c) ≤ length s → Marked c best s (Cost (planCost (instanceOf c) best))
   sheet-accepted s room =
-      let made = fits-made c best s given (least-plan-fits (accepted-plannable c given) counts asc) room in
+      let made = fits-made c best s given best-fits room in
       (made, made-marked c best s (ap numberOf made) ∙ made)
 
-  -- so they do after a planner that answers this cost, with the plan in its buffer
+  -- so they do after a planner that answers this cost, with the plan in its buffer.
   planner-marked :
       {a : Answer} → a ≡ Cost (planCost (instanceOf c) best) → (entry s : List ℕ) → sheetBytes (instanceOf c) ≤ length s →
       Marked c (take (instanceOf c .slots) (atExit a best entry)) s a
-  planner-marked {a} e entry s room =
-      let size = least-plan-fits (accepted-plannable c given) counts asc .slotwise in
-      rw (written-taken best entry (instanceOf c .slots) e size, e) (sheet-accepted s room)
+  planner-marked {a} e entry s room = rw (written-taken best entry (instanceOf c .slots) e (best-fits .slotwise), e) (sheet-accepted s room)
 
 -- The planners.
 module _ (c p w : List ℕ) where
-  -- a planner that answers a cost was on an accepted card
-  exact-on : {n : ℕ} → answer (planExact c p w) ≡ Cost n → answer (checkCard c) ≡ Cost 0
+  -- A planner that answers a cost is on an accepted card.
+  pub exact-on : {n : ℕ} → answer (planExact c p w) ≡ Cost n → answer (checkCard c) ≡ Cost 0
   unfolding answer requestOf refusals
   exact-on = on-card-accepted c _ _ _ _
 
-  coarse-on : {n : ℕ} → answer (planCoarse c p w) ≡ Cost n → answer (checkCard c) ≡ Cost 0
+  pub coarse-on : {n : ℕ} → answer (planCoarse c p w) ≡ Cost n → answer (checkCard c) ≡ Cost 0
   unfolding answer requestOf refusals
   coarse-on = on-card-accepted c _ _ _ _
+
+  -- On a card that is refused the planner is refused too, with the same number.
+  pub exact-refused : {x : Refusal} → answer (checkCard c) ≡ Refused x → answer (planExact c p w) ≡ Refused x
+  unfolding answer requestOf refusals
+  exact-refused = on-card-refused c _ _ _ _
 
   -- Where a planner gives number 0, sheet call and marking accept the plan that it writes, with the planner's answer.
   pub exact-marked :
@@ -174,8 +180,7 @@ module _ (c p w : List ℕ) where
   unfolding exactPlanAtExit successCost
   exact-marked e s room =
       let planned = succeeded (planExact c p w) e in
-      let given = exact-on planned in
-      planner-marked c given (allCounts (instanceOf c .modules)) (all-ascending _ (modules-range c given .0)) planned p s room
+      planner-marked allCounts all-ascending c (exact-on planned) planned p s room
 
   pub coarse-marked :
       numberOf (answer (planCoarse c p w)) ≡ 0 → (s : List ℕ) → sheetBytes (instanceOf c) ≤ length s →
@@ -183,8 +188,7 @@ module _ (c p w : List ℕ) where
   unfolding coarsePlanAtExit successCost
   coarse-marked e s room =
       let planned = succeeded (planCoarse c p w) e in
-      let given = coarse-on planned in
-      planner-marked c given (coarseCounts (instanceOf c .modules)) (coarse-ascending _ (modules-range c given .0)) planned p s room
+      planner-marked coarseCounts coarse-ascending c (coarse-on planned) planned p s room
 
   -- An accepted card is always planned where the buffers are long enough,
   pub always-planned :

@@ -58,8 +58,8 @@ module _ {counts : List ℕ} {m : ℕ} (asc : Ascending counts m) where
         let less : countAtPlace counts k - countAtPlace counts j ≤ d = omega arith in
         omega (arith, column .slope j k h b, mul-le-mul-left price less)
 
+    -- A place j whose count is at most d above y stands before y's block or after it.
     module _ {y c : ℕ} (below : LineBelow counts f y c) (j d : ℕ) (b : j < length counts) (near : countAtPlace counts j ≤ y + d) where
-      -- such a count may stand before the block or after it
       value-before : (s : Block counts y) → j ≤ s .place → width s * f j ≤ width s * (c + price * d)
       value-before s before =
           let low = column .rises j (s .place) before (omega arith) in
@@ -74,7 +74,7 @@ module _ {counts : List ℕ} {m : ℕ} (asc : Ascending counts m) where
           let high = mul-le-mul-left (s .under) (slope-by (s .place + 1) j e (omega arith) b (omega arith)) in
           omega (arith, below .line s, ap (λ (n : ℕ). s .under * price * n) rest)
 
-      -- at a count at most d above y the column is at most the bound and the price of d modules
+      -- There the column is at most the bound and the price of d modules.
       pub value-below : y ≤ m → f j ≤ c + price * d
       value-below h =
           let s : Block counts y = block y h in

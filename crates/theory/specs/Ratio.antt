@@ -1,4 +1,4 @@
--- The least cost over a list of allowed counts that leaves no wide gaps, against the cost of every plan (thesis 5.1).
+-- The least cost over a list of allowed counts that leaves no wide gaps, against the cost of every plan (thesis 5.5, 5.11).
 use Prim.Native.Nat.{ℕ, zero, suc, _+_, _-_, _*_, _≤_, _<_, min}
 use mathlib.Core.Path.{_≡_, ap}
 use mathlib.Core.Bool.{true}
@@ -137,7 +137,7 @@ module _ (i : Instance) (counts : List ℕ) (start : ℕ) (asc : Ascending count
         omega arith in
         rw bound at served-so
 
-    -- The least cost over the list, from any start, is at most r times the cost of every plan that serves, with the price of the start.
+    -- The least cost over the list, from any start, is at most r times what any plan that serves costs with the price of the start.
     pub ratio : searchedCost i counts start ≤ r * (countsCost i start p + switchingPrice i * start)
     unfolding searchedCost countsCost
     ratio =

@@ -1,6 +1,6 @@
 -- What is read of a long input: the longest card has 2,869 bytes, so the first 2,870 bytes decide the answer.
 use Prim.Native.Nat.{ℕ, _+_, _*_, _≤_}
-use mathlib.Core.Path.{_≡_, sym, _∙_, ap}
+use mathlib.Core.Path.{_≡_, _∙_, ap}
 use mathlib.Core.Bool.{Bool, true, false, not}
 use mathlib.Core.List.{List, _∷_}
 use mathlib.Core.Logic.{⊎-elim}
@@ -16,32 +16,33 @@ use Rattle.model.specs.declared.Refusal.{Refusal}
 use Rattle.model.specs.declared.Refusal.the-variants.{NotACard, Version, RackSize, SlotCount, CardLength}
 use Rattle.model.specs.declared.Answer.the-variants.{Cost, Refused}
 use Rattle.model.specs.Instance.{instanceOf, cardLength}
-use Rattle.model.specs.Calls.{checkCard, planExact, answer, applies, requestOf, cardRefusals, refusals, successCost, lowest, rackNumber}
+use Rattle.model.specs.Calls.{checkCard, answer, applies, requestOf, cardRefusals, refusals, successCost, lowest, rackNumber}
 use Rattle.model.specs.Listing.{printed, printedFor}
 use Rattle.laws.specs.Lowest.{lowest-hit, lowest-skip}
-use Rattle.laws.specs.OnCard.{on-card-refused}
+use Rattle.theory.specs.Outcomes.{exact-refused}
 
--- the lowest of some refusals is the same by two tests
-record Both (f g : Refusal → Bool) (xs : List Refusal) : Type 0 where
+-- of some refusals the lowest is the same one by two tests
+record SameRefusal (f g : Refusal → Bool) (xs : List Refusal) : Type 0 where
   refusal : Refusal
   one : lowest f xs (Cost 0) ≡ Refused refusal
   other : lowest g xs (Cost 0) ≡ Refused refusal
 
-both-here : {f g : Refusal → Bool} {x : Refusal} {xs : List Refusal} → f x ≡ true → g x ≡ true → Both f g (x ∷ xs)
-both-here {f} {g} {x} {xs} e d = record { refusal = x; one = lowest-hit f xs (Cost 0) e; other = lowest-hit g xs (Cost 0) d }
+module _ {f g : Refusal → Bool} {x : Refusal} {xs : List Refusal} where
+  same-here : f x ≡ true → g x ≡ true → SameRefusal f g (x ∷ xs)
+  same-here e d = record { refusal = x; one = lowest-hit f xs (Cost 0) e; other = lowest-hit g xs (Cost 0) d }
 
-both-next : {f g : Refusal → Bool} {x : Refusal} {xs : List Refusal} → g x ≡ f x → (f x ≡ false → Both f g xs) → Both f g (x ∷ xs)
-both-next {f} {g} {x} {xs} same rest =
-    ⊎-elim
-    (λ (e : f x ≡ true). both-here e (same ∙ e))
-    (λ (e : f x ≡ false).
-    let b = rest e in
-    record {
-      refusal = b .refusal;
-      one = lowest-skip f xs (Cost 0) e ∙ b .one;
-      other = lowest-skip g xs (Cost 0) (same ∙ e) ∙ b .other;
-    })
-    (true-or-false (f x))
+  same-next : g x ≡ f x → (f x ≡ false → SameRefusal f g xs) → SameRefusal f g (x ∷ xs)
+  same-next same rest =
+      ⊎-elim
+      (λ (e : f x ≡ true). same-here e (same ∙ e))
+      (λ (e : f x ≡ false).
+      let r = rest e in
+      record {
+        refusal = r .refusal;
+        one = lowest-skip f xs (Cost 0) e ∙ r .one;
+        other = lowest-skip g xs (Cost 0) (same ∙ e) ∙ r .other;
+      })
+      (true-or-false (f x))
 
 -- a card longer than any is refused by 3, 4 or 5
 long-card :
@@ -55,56 +56,46 @@ long-card s long rack slots =
     let few = ltb-false 1024 (i .slots) slots in
     ap not (ne-eqb (length s) (17 + 4 * (i .topStep + 1) + 2 * i .slots) (omega arith))
 
--- where the card is refused, so is the exact planner, with the same number
-refused-plan : (c p w : List ℕ) {r : Refusal} → answer (checkCard c) ≡ Refused r → answer (planExact c p w) ≡ Refused r
-unfolding answer requestOf refusals successCost
-refused-plan c p w e = on-card-refused _ _ _ _ _ e
-
 module _ (x : List ℕ) (long : 2870 ≤ length x) where
-  y : List ℕ
-  y = take 2870 x
+  -- what is read of a longer input
+  abbrev front : List ℕ
+  front = take 2870 x
 
-  long-y : 2870 ≤ length y
-  unfolding y
-  long-y = omega (arith, length-take-le 2870 x long)
+  front-long : 2870 ≤ length front
+  front-long = omega (arith, length-take-le 2870 x long)
 
   -- refusals 1 to 4 see the first 17 bytes alone
-  same-mark : applies (requestOf (checkCard y)) NotACard ≡ applies (requestOf (checkCard x)) NotACard
-  unfolding applies requestOf y
-  same-mark = rw (le-ltb (length x) 17 (omega arith), le-ltb (length (take 2870 x)) 17 (omega (arith, long-y)), take-take 3 2870 x (omega arith))
+  same-mark : applies (requestOf (checkCard front)) NotACard ≡ applies (requestOf (checkCard x)) NotACard
+  unfolding applies requestOf
+  same-mark =
+      rw (le-ltb (length x) 17 (omega arith), le-ltb (length front) 17 (omega (arith, front-long)), take-take 3 2870 x (omega arith))
 
-  same-version : applies (requestOf (checkCard y)) Version ≡ applies (requestOf (checkCard x)) Version
-  unfolding applies requestOf y
+  same-version : applies (requestOf (checkCard front)) Version ≡ applies (requestOf (checkCard x)) Version
+  unfolding applies requestOf
   same-version = rw (little-take 2 2870 x 3 (omega arith))
 
-  same-rack : applies (requestOf (checkCard y)) RackSize ≡ applies (requestOf (checkCard x)) RackSize
-  unfolding applies requestOf instanceOf y
+  same-rack : applies (requestOf (checkCard front)) RackSize ≡ applies (requestOf (checkCard x)) RackSize
+  unfolding applies requestOf instanceOf
   same-rack = rw (little-take 1 2870 x 5 (omega arith), little-take 1 2870 x 6 (omega arith))
 
-  same-slots : applies (requestOf (checkCard y)) SlotCount ≡ applies (requestOf (checkCard x)) SlotCount
-  unfolding applies requestOf instanceOf y
+  same-slots : applies (requestOf (checkCard front)) SlotCount ≡ applies (requestOf (checkCard x)) SlotCount
+  unfolding applies requestOf instanceOf
   same-slots = rw (little-take 2 2870 x 7 (omega arith))
 
-  both-refused : Both (applies (requestOf (checkCard x))) (applies (requestOf (checkCard y))) cardRefusals
-  both-refused =
-      both-next same-mark λ _.
-      both-next same-version λ _.
-      both-next same-rack λ rack.
-      both-next same-slots λ slots.
-      both-here (long-card x long rack slots) (long-card y long-y (same-rack ∙ rack) (same-slots ∙ slots))
+  -- input and front are refused, with the same number
+  long-refused : SameRefusal (applies (requestOf (checkCard x))) (applies (requestOf (checkCard front))) cardRefusals
+  long-refused =
+      same-next same-mark λ _.
+      same-next same-version λ _.
+      same-next same-rack λ rack.
+      same-next same-slots λ slots.
+      same-here (long-card x long rack slots) (long-card front front-long (same-rack ∙ rack) (same-slots ∙ slots))
 
-  -- both inputs are refused, with the same number
-  pub long-refused : (r : Refusal) × (answer (checkCard x) ≡ Refused r) × (answer (checkCard (take 2870 x)) ≡ Refused r)
-  unfolding answer refusals successCost y
-  long-refused = (both-refused .refusal, both-refused .one, both-refused .other)
-
--- the planner answers the first 2,870 bytes as it answers them all
-pub long-input : (x p w : List ℕ) → 2870 ≤ length x → answer (planExact x p w) ≡ answer (planExact (take 2870 x) p w)
-long-input x p w long = let (r, whole, part) = long-refused x long in refused-plan x p w whole ∙ sym (refused-plan (take 2870 x) p w part)
-
--- and the program prints the same
+-- What follows the first 2,870 bytes is without effect on what the program prints.
 pub long-printed : (x : List ℕ) → 2870 ≤ length x → printed x ≡ printed (take 2870 x)
-unfolding printed printedFor
+unfolding printed printedFor answer refusals successCost
 long-printed x long =
-    let (r, whole, part) = long-refused x long in
-    rw (refused-plan x (replicate 1024 0) (replicate 65536 0) whole, refused-plan (take 2870 x) (replicate 1024 0) (replicate 65536 0) part)
+    let r = long-refused x long in
+    let whole = exact-refused x (replicate 1024 0) (replicate 65536 0) (r .one) in
+    let front = exact-refused (take 2870 x) (replicate 1024 0) (replicate 65536 0) (r .other) in
+    rw (whole, front)

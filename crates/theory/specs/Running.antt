@@ -1,7 +1,7 @@
 -- The running cost of a count: one formula, the least cost of a row of bytes, and the row that attains it.
 use Prim.Native.Nat.{ℕ, zero, suc, _+_, _-_, _*_, _/_, _%_, _≤_, _<_}
 use mathlib.Core.Path.{_≡_, refl, ap, sym, _∙_}
-use mathlib.Core.Bool.{Bool, true, false, cond, _||_, or-true}
+use mathlib.Core.Bool.{Bool, true, false, cond, or-true, or-false}
 use mathlib.Core.Logic.{_⊎_, inl, inr, ⊎-elim}
 use lib.Dec.{leb, eqb, eqb·suc-zero}
 use borrow.Author.Tests.{leb-true, le-leb, lt-ltb, le-ltb, ne-eqb}
@@ -11,12 +11,12 @@ use native.Mathlib.Omega.{arith}
 use Rattle.lists.specs.Numbers.{le-or-lt, true-or-false}
 use Rattle.lists.specs.Products.{mul-le-mul-some}
 use Rattle.lists.specs.Division.{remainder-le, quotient-lt, part-and-rest}
-use Rattle.lists.specs.Sums.{sum, sum-const, sum-from}
+use Rattle.lists.specs.Sums.{sum, sum-const, sum-from, sum-at-most}
 use Rattle.model.specs.Instance.{Instance}
 use Rattle.model.specs.Counts.{operatingCost}
 use Rattle.model.specs.Sheets.{off, isOff, stepOf, stepCost}
 use Rattle.model.specs.Plans.{moduleByte}
-use Rattle.theory.specs.Setting.{Convex, Entry, activeIn, lightIn, costIn}
+use Rattle.theory.specs.Setting.{Convex, Entry, activeIn, lightIn, rowCost}
 use Rattle.theory.specs.Tables.{supporting-line}
 
 -- The three cases of the running cost are one formula,
@@ -44,8 +44,9 @@ running-bound i f table n l h =
     let high = mul-le-mul-some (l % n) (λ some. table (l / n + 1) (omega (arith, quotient-lt n l (i .topStep) h some))) in
     omega (arith, running-formula i n l h, part-and-rest n (l % n) f (remainder-le n l (i .topStep) h))
 
--- n times the straight line between F(q) and F(q + 1) at l / n, without division.
-straight-line : (i : Instance) (n l : ℕ) → 0 < n → l ≤ n * i .topStep →
+-- 'the thesis's n·f(L/n) with straight lines between table entries' (01): for n modules the running cost is n times the line from
+-- F(q) to F(q + 1), taken at l / n; stated without division.
+pub straight-line : (i : Instance) (n l : ℕ) → 0 < n → l ≤ n * i .topStep →
     operatingCost i n l + l % n * i .table (l / n) ≡ n * i .table (l / n) + l % n * i .table (l / n + 1)
 straight-line i n l p h = omega (arith, running-formula i n l h, part-and-rest n (l % n) (i .table (l / n)) (le-of-lt (mod-lt l p)))
 
@@ -93,17 +94,13 @@ module _ (i : Instance) (n l cost : ℕ) (fits : l ≤ n * i .topStep)
 
 -- an entry is off or a step
 entry-cases : (i : Instance) (b : ℕ) → Entry i b → (isOff b ≡ true) ⊎ ((isOff b ≡ false) × (b ≤ i .topStep))
-entry-cases i b e = ⊎-elim inl (λ (g : isOff b ≡ false). inr (g, leb-true b (i .topStep) (step _ g e))) (true-or-false (isOff b))
-  where
-    step : (t : Bool) → isOff b ≡ false → (t || isOff b) ≡ true → t ≡ true
-    step true g h = refl
-    step false g h = sym g ∙ h
+entry-cases i b e =
+    ⊎-elim inl (λ (g : isOff b ≡ false). inr (g, leb-true b (i .topStep) (rw (g, or-false) at e))) (true-or-false (isOff b))
 
 -- no more modules are active than there are
 pub active-le : (m : ℕ) (b : ℕ → ℕ) → activeIn m b ≤ m
-unfolding sum activeIn
-active-le zero b = omega arith
-active-le (suc m) b = omega (arith, active-le m b, at-most-one (isOff (b m)))
+unfolding activeIn
+active-le m b = omega (arith, sum-at-most m (λ k h. at-most-one (isOff (b k))))
   where
     at-most-one : (x : Bool) → cond x 0 1 ≤ 1
     at-most-one true = omega arith
@@ -122,8 +119,8 @@ module _ (i : Instance) where
 
   -- where the table lies above a line, so does the cost of a row
   row-above-line : (m : ℕ) (b : ℕ → ℕ) → ((k : ℕ) → k < m → Entry i (b k)) → (u x y z : ℕ) → AboveLine i u x y z →
-      activeIn m b * u + lightIn m b * x ≤ costIn i m b + lightIn m b * y + activeIn m b * z
-  unfolding sum activeIn lightIn costIn
+      activeIn m b * u + lightIn m b * x ≤ rowCost i m b + lightIn m b * y + activeIn m b * z
+  unfolding sum activeIn lightIn rowCost
   row-above-line zero b e u x y z h = omega arith
   row-above-line (suc m) b e u x y z h =
       omega (arith, row-above-line m b (λ k l. e k (omega arith)) u x y z h, byte-above-line u x y z h (b m) (e m (omega arith)))
@@ -141,10 +138,10 @@ module _ (i : Instance) where
   row-fits zero b e = omega arith
   row-fits (suc m) b e = omega (arith, row-fits m b (λ k l. e k (omega arith)), byte-fits (b m) (e m (omega arith)))
 
-  -- Any row of entries costs at least the running cost of its active modules and its light.
+  -- On a convex table any row of entries costs at least the running cost of its active modules and its light (thesis 3.4).
   pub row-at-least : Convex (i .topStep) (i .table) → (m : ℕ) (b : ℕ → ℕ) → ((k : ℕ) → k < m → Entry i (b k)) →
-      operatingCost i (activeIn m b) (lightIn m b) ≤ costIn i m b
-  row-at-least c m b e = above-lines i (activeIn m b) (lightIn m b) (costIn i m b) (row-fits m b e) (row-above-line m b e) c
+      operatingCost i (activeIn m b) (lightIn m b) ≤ rowCost i m b
+  row-at-least c m b e = above-lines i (activeIn m b) (lightIn m b) (rowCost i m b) (row-fits m b e) (row-above-line m b e) c
 
 -- The row of a plan: the first l % n modules at the step above, the others up to n at the step, the rest off.
 module _ (n l : ℕ) where
@@ -215,8 +212,8 @@ module _ (i : Instance) (m n l : ℕ) (steps : i .topStep < off) (rack : n ≤ m
       let summed = plan-row-sum i n l fits stepOf (λ b. b) refl (λ b h. rw (step-active b (omega arith))) m rack in
       omega (arith, part-and-rest n (l % n) (l / n) (remainder-le n l (i .topStep) fits), div-add-mod l n)
 
-  pub plan-row-cost : costIn i m (moduleByte n l) ≡ operatingCost i n l
-  unfolding costIn stepCost
+  pub plan-row-cost : rowCost i m (moduleByte n l) ≡ operatingCost i n l
+  unfolding rowCost stepCost
   plan-row-cost =
       plan-row-sum i n l fits (stepCost i) (i .table) refl (λ b h. rw (step-active b (omega arith))) m rack ∙
       sym (running-formula i n l fits)

@@ -13,10 +13,11 @@ use Rattle.model.specs.Thesis.{switchingPrice, countAt, stepUp, countsCost}
 use Rattle.model.specs.Plans.{Allowed, NotAfter, planServes}
 use Rattle.columns.specs.Column.{countAtPlace, lastPlace}
 
--- Tables.
+-- Tables with the entries f 0 to f q: no entry lies above the middle of its neighbours;
 abbrev pub Convex : ℕ → (ℕ → ℕ) → Type 0
 Convex q f = (k : ℕ) → k + 1 < q → 2 * f (k + 1) ≤ f k + f (k + 2)
 
+-- no entry lies above the next one.
 abbrev pub NeverFalls : ℕ → (ℕ → ℕ) → Type 0
 NeverFalls q f = (k : ℕ) → k < q → f k ≤ f (k + 1)
 
@@ -31,18 +32,19 @@ pub record Plannable (i : Instance) : Type 0 where
   pub loads : LoadsFit i
   pub convex : Convex (i .topStep) (i .table)
 
--- Rows of bytes, one for each of m modules.
+-- Rows of bytes, one for each of m modules. An entry is a step of the table or off;
 abbrev pub Entry : Instance → ℕ → Type 0
 Entry i b = (leb b (i .topStep) || isOff b) ≡ true
 
+-- a row has so many active modules, so much light, and a running cost.
 unfoldable pub activeIn : ℕ → (ℕ → ℕ) → ℕ
 activeIn m b = sum m (λ k. cond (isOff (b k)) 0 1)
 
 unfoldable pub lightIn : ℕ → (ℕ → ℕ) → ℕ
 lightIn m b = sum m (λ k. stepOf (b k))
 
-unfoldable pub costIn : Instance → ℕ → (ℕ → ℕ) → ℕ
-costIn i m b = sum m (λ k. stepCost i (b k))
+unfoldable pub rowCost : Instance → ℕ → (ℕ → ℕ) → ℕ
+rowCost i m b = sum m (λ k. stepCost i (b k))
 
 -- Plans whose sheet can be written: each count is in the rack and serves its load, and no step is the byte for off.
 pub record PlanFits (i : Instance) (p : List ℕ) : Type 0 where

@@ -20,7 +20,7 @@ use Rattle.model.specs.Sheets.{off, isOff, stepOf, stateAt, sheetLength, sheetE
 use Rattle.model.specs.Sheets.{stepCost, changeCost, sheetCost}
 use Rattle.model.specs.Thesis.{switchingPrice, scheduleCost, scheduleOf, Feasible, countAt, stepUp, countsCost}
 use Rattle.model.specs.Plans.{moduleByte, slotRow, sheetOf, planCost, planServes}
-use Rattle.theory.specs.Setting.{Convex, Entry, activeIn, lightIn, costIn, PlanFits}
+use Rattle.theory.specs.Setting.{Convex, Entry, activeIn, lightIn, rowCost, PlanFits}
 use Rattle.theory.specs.Running.{active-le, row-fits, row-at-least, byte-off, plan-row-entry, plan-row-light, plan-row-cost}
 use Rattle.theory.specs.Switching.{started, startedIn, stoppedIn, change-cost, switches-balance}
 use Rattle.theory.specs.Switching.{started-at-least, started-at-most, plan-started}
@@ -66,17 +66,18 @@ module _ (i : Instance) (s : List ℕ) where
       let down = sum-scale n (i .powerDown) stoppedAt ∙ ap (λ (x : ℕ). i .powerDown * x) (stopped-as-started ∙ started-in-slots) in
       omega arith
 
-  -- A sheet costs what its rows cost and the switching price for each module that goes on,
+  -- 'By thesis chapter 2 this equals charging both at warm-up' (01): a sheet costs what its rows cost and the switching price, both
+  -- prices together, for each module that goes on;
   pub sheet-cost-starts : sheetCost i s ≡
-      sum (i .slots) (λ t. costIn i (i .modules) (stateAt i s (suc t))) +
+      sum (i .slots) (λ t. rowCost i (i .modules) (stateAt i s (suc t))) +
       switchingPrice i * sum (i .slots) (λ t. startedIn (i .modules) (stateAt i s t) (stateAt i s (suc t)))
-  unfolding sheetCost costIn
+  unfolding sheetCost rowCost
   sheet-cost-starts = omega (arith, changes-cost)
 
-  -- slot by slot.
-  sheet-cost-slots : sheetCost i s ≡ sum (i .slots) (λ t. costIn i (i .modules) (stateAt i s (suc t)) + switchingPrice i * startedAt t)
+  -- the same slot by slot
+  sheet-cost-slots : sheetCost i s ≡ sum (i .slots) (λ t. rowCost i (i .modules) (stateAt i s (suc t)) + switchingPrice i * startedAt t)
   sheet-cost-slots =
-      let apart = sum-add (i .slots) (λ t. costIn i (i .modules) (stateAt i s (suc t))) (λ t. switchingPrice i * startedAt t) in
+      let apart = sum-add (i .slots) (λ t. rowCost i (i .modules) (stateAt i s (suc t))) (λ t. switchingPrice i * startedAt t) in
       omega (arith, sheet-cost-starts, sum-scale (i .slots) (switchingPrice i) startedAt)
 
 -- In a schedule a byte's step times its state is its step, F of its step times its state is its cost,
@@ -103,42 +104,37 @@ state-difference false true = refl
 state-difference false false = refl
 
 module _ (i : Instance) (s : List ℕ) where
-  -- the three parts of `serves`
-  pub serves-length : serves i s ≡ true → sheetLength i s ≡ true
+  -- A sheet serves exactly if it has the right length, entries and light.
+  pub serves-parts : serves i s ≡ true ↔ ((sheetLength i s ≡ true) × (sheetEntries i s ≡ true) × (sheetLight i s ≡ true))
   unfolding serves
-  serves-length e = and-left (sheetLength i s) _ e
+  serves-parts = (
+    λ e.
+        let rest = and-right (sheetLength i s) _ e in
+        (and-left (sheetLength i s) _ e, and-left (sheetEntries i s) _ rest, and-right (sheetEntries i s) _ rest),
+    λ (size, entries, light). and-both size (and-both entries light),
+  )
 
-  pub serves-entries : serves i s ≡ true → sheetEntries i s ≡ true
-  unfolding serves
-  serves-entries e = and-left (sheetEntries i s) _ (and-right (sheetLength i s) _ e)
-
-  pub serves-light : serves i s ≡ true → sheetLight i s ≡ true
-  unfolding serves
-  serves-light e = and-right (sheetEntries i s) _ (and-right (sheetLength i s) _ e)
-
-  -- The cost of any list of bytes is 2.2 of its states and steps.
+  -- The cost of any list of bytes is the thesis's cost 2.2 of its states and steps.
   pub thesis-cost : sheetCost i s ≡ scheduleCost i (scheduleOf i s)
-  unfolding scheduleCost scheduleOf costIn startedIn
+  unfolding scheduleCost scheduleOf rowCost startedIn
   thesis-cost = rw sheet-cost-starts (simp (cost-active, state-difference))
 
   schedule-light : (t : ℕ) → sum (i .modules) (λ k. scheduleOf i s .assigned t k * scheduleOf i s .active t k) ≡ lightAt i s t
   unfolding scheduleOf lightAt
   schedule-light t = simp assigned-active
 
-  -- Its steps sum to the loads exactly if 2.3 holds.
-  pub thesis-feasible : sheetLight i s ≡ true → Feasible i (scheduleOf i s)
+  -- Its steps sum to the loads exactly if its states and steps satisfy the thesis's 2.3.
+  pub thesis-feasible : sheetLight i s ≡ true ↔ Feasible i (scheduleOf i s)
   unfolding sheetLight
-  thesis-feasible e t h = schedule-light (suc t) ∙ eqb-true _ _ (every-at (i .slots) _ e t h)
-
-  pub feasible-light : Feasible i (scheduleOf i s) → sheetLight i s ≡ true
-  unfolding sheetLight
-  feasible-light f = every-all (i .slots) _ (λ t h. eq-eqb _ _ (sym (schedule-light (suc t)) ∙ f t h))
+  thesis-feasible = (
+    λ e t h. schedule-light (suc t) ∙ eqb-true _ _ (every-at (i .slots) _ e t h),
+    λ f. every-all (i .slots) _ (λ t h. eq-eqb _ _ (sym (schedule-light (suc t)) ∙ f t h)),
+  )
 
   -- A list of m × T bytes, each a step or off, serves exactly if its states and steps satisfy 2.3.
   pub serves-feasible : sheetLength i s ≡ true → sheetEntries i s ≡ true → serves i s ≡ true ↔ Feasible i (scheduleOf i s)
-  unfolding serves
   serves-feasible size entries =
-      (λ e. thesis-feasible (serves-light e), λ f. and-both size (and-both entries (feasible-light f)))
+      (λ e. thesis-feasible .0 (serves-parts .0 e .2), λ f. serves-parts .1 (size, entries, thesis-feasible .1 f))
 
 -- The counts of a sheet: its active modules, slot by slot.
 unfoldable pub countsOf : Instance → List ℕ → List ℕ
@@ -154,14 +150,15 @@ module _ (i : Instance) (s : List ℕ) where
   row-entries : serves i s ≡ true → (t : ℕ) → t < i .slots → (k : ℕ) → k < i .modules → Entry i (stateAt i s (suc t) k)
   unfolding stateAt sheetLength sheetEntries
   row-entries e t h k g =
-      let size : length s ≡ i .modules * i .slots = eqb-true _ _ (serves-length i s e) in
-      rw (lt-ltb t (i .slots) h) (every-at (length s) _ (serves-entries i s e) (t * i .modules + k) (omega (arith, digits-lt h g)))
+      let (sized, entries, light) = serves-parts i s .0 e in
+      let size : length s ≡ i .modules * i .slots = eqb-true _ _ sized in
+      rw (lt-ltb t (i .slots) h) (every-at (length s) _ entries (t * i .modules + k) (omega (arith, digits-lt h g)))
 
   row-light : serves i s ≡ true → (t : ℕ) → t < i .slots → lightIn (i .modules) (stateAt i s (suc t)) ≡ i .load t
   unfolding lightIn sheetLight lightAt
-  row-light e t h = eqb-true _ _ (every-at (i .slots) _ (serves-light i s e) t h)
+  row-light e t h = eqb-true _ _ (every-at (i .slots) _ (serves-parts i s .0 e .2) t h)
 
--- A sheet that serves costs at least its counts.
+-- On a convex table a sheet that serves costs at least what its counts cost by 3.9 to 3.13 (thesis 3.8).
 pub sheet-at-least : (i : Instance) → Convex (i .topStep) (i .table) → (s : List ℕ) → serves i s ≡ true →
     countsCost i 0 (countsOf i s) ≤ sheetCost i s
 unfolding countsCost stepUp
@@ -169,17 +166,17 @@ sheet-at-least i c s e = rw sheet-cost-slots (sum-mono (i .slots) slot)
   where
     slot : (t : ℕ) → t < i .slots →
         stepUp i (countAt 0 (countsOf i s) t) (countAt 0 (countsOf i s) (suc t)) (i .load t) ≤
-        costIn i (i .modules) (stateAt i s (suc t)) + switchingPrice i * startedAt i s t
+        rowCost i (i .modules) (stateAt i s (suc t)) + switchingPrice i * startedAt i s t
     slot t h =
         let running = row-at-least i c (i .modules) (stateAt i s (suc t)) (row-entries i s e t h) in
         let switching = started-at-least (i .modules) (stateAt i s t) (stateAt i s (suc t)) in
         rw (counts-at i s t (omega arith), counts-at i s (suc t) h, ← row-light i s e t h)
         (add-le-add running (mul-le-mul-left (switchingPrice i) switching))
 
--- Its counts are a plan whose sheet can be written.
-pub counts-fit : (i : Instance) (s : List ℕ) → i .topStep < off → serves i s ≡ true → PlanFits i (countsOf i s)
+-- The counts of a sheet that serves are a plan whose sheet can be written.
+pub sheet-counts-fit : (i : Instance) (s : List ℕ) → i .topStep < off → serves i s ≡ true → PlanFits i (countsOf i s)
 unfolding countsOf countAt planServes canServe
-counts-fit i s steps e =
+sheet-counts-fit i s steps e =
     record {
       steps = steps;
       slotwise = length-tabulate (i .slots) _;
@@ -215,13 +212,11 @@ module _ (i : Instance) (p : List ℕ) where
 
   -- a place in it is that of a slot and a module
   place-slot : (j : ℕ) → j < length (sheetOf i p) → (j / i .modules < i .slots) × (j % i .modules < i .modules)
-  place-slot j h = ⊎-elim none some (eq-zero-or-pos (i .modules))
-    where
-      none : i .modules ≡ 0 → (j / i .modules < i .slots) × (j % i .modules < i .modules)
-      none e = absurd (omega (arith, sheet-length, ap (λ (x : ℕ). x * i .slots) e))
-
-      some : 0 < i .modules → (j / i .modules < i .slots) × (j % i .modules < i .modules)
-      some g = (div-lt-iff-lt-mul g .1 (omega (arith, sheet-length)), mod-lt j g)
+  place-slot j h =
+      ⊎-elim
+      (λ (none : i .modules ≡ 0). absurd (omega (arith, sheet-length, ap (λ (x : ℕ). x * i .slots) none)))
+      (λ (some : 0 < i .modules). (div-lt-iff-lt-mul some .1 (omega (arith, sheet-length)), mod-lt j some))
+      (eq-zero-or-pos (i .modules))
 
   -- at time t it has the row of the count and the load
   state-row : (t : ℕ) → t ≤ i .slots → (k : ℕ) → k < i .modules →
@@ -262,14 +257,14 @@ module _ (i : Instance) (p : List ℕ) (fit : PlanFits i p) where
           sum-ext (i .modules) (λ k g. ap stepOf (state-row i p (suc t) h k g)) ∙
           plan-row-light i (i .modules) (countAt 0 p (suc t)) (i .load t) (fit .steps) (rack-at (suc t) h) (fits-at (suc t) h)
 
-  -- The sheet of a plan serves,
+  -- The sheet of a plan whose counts serve the loads serves the show,
   pub plan-sheet-serves : serves i (sheetOf i p) ≡ true
-  unfolding serves sheetLength
-  plan-sheet-serves = and-both (eq-eqb _ _ (sheet-length i p)) (and-both plan-entries plan-light)
+  unfolding sheetLength
+  plan-sheet-serves = serves-parts i (sheetOf i p) .1 (eq-eqb _ _ (sheet-length i p), plan-entries, plan-light)
 
   plan-running : (t : ℕ) → t < i .slots →
-      costIn i (i .modules) (stateAt i (sheetOf i p) (suc t)) ≡ operatingCost i (countAt 0 p (suc t)) (i .load t)
-  unfolding costIn
+      rowCost i (i .modules) (stateAt i (sheetOf i p) (suc t)) ≡ operatingCost i (countAt 0 p (suc t)) (i .load t)
+  unfolding rowCost
   plan-running t h =
       sum-ext (i .modules) (λ k g. ap (stepCost i) (state-row i p (suc t) h k g)) ∙
       plan-row-cost i (i .modules) (countAt 0 p (suc t)) (i .load t) (fit .steps) (rack-at (suc t) h) (fits-at (suc t) h)
@@ -283,7 +278,7 @@ module _ (i : Instance) (p : List ℕ) (fit : PlanFits i p) where
       plan-started i (i .modules) (countAt 0 p t) (loadAt i t) (countAt 0 p (suc t)) (i .load t)
       (fit .steps) (rack-at t l) (rack-at (suc t) h) (fits-at t l) (fits-at (suc t) h)
 
-  -- and a plan costs what its counts cost.
+  -- and the plan costs what its counts cost by 3.9 to 3.13.
   pub plan-cost-counts : planCost i p ≡ countsCost i 0 p
   unfolding planCost countsCost stepUp
   plan-cost-counts =

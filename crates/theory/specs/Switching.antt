@@ -25,7 +25,7 @@ unfoldable pub stoppedIn : ℕ → (ℕ → ℕ) → (ℕ → ℕ) → ℕ
 stoppedIn m a b = sum m (λ k. started (isOff (b k)) (isOff (a k)))
 
 -- Those active before and those that go on are those active now and those that go off:
-pub switch-balance : (m : ℕ) (a b : ℕ → ℕ) → activeIn m a + startedIn m a b ≡ activeIn m b + stoppedIn m a b
+switch-balance : (m : ℕ) (a b : ℕ → ℕ) → activeIn m a + startedIn m a b ≡ activeIn m b + stoppedIn m a b
 unfolding sum activeIn startedIn stoppedIn
 switch-balance zero a b = refl
 switch-balance (suc m) a b = omega (arith, switch-balance m a b, byte (isOff (a m)) (isOff (b m)))
@@ -57,7 +57,7 @@ change-cost i (suc m) a b = omega (arith, change-cost i m a b, byte (isOff (a m)
     byte false true = omega arith
     byte false false = omega arith
 
--- At least the difference of the active modules goes on, and at most those active now.
+-- At least the difference of the active modules goes on (thesis 3.1), and at most those active now.
 pub started-at-least : (m : ℕ) (a b : ℕ → ℕ) → activeIn m b - activeIn m a ≤ startedIn m a b
 started-at-least m a b = omega (arith, switch-balance m a b)
 

@@ -1,76 +1,50 @@
-use mathlib.Core.Path.{sym, _∙_}
 use Rattle.card.proofs.Refusals.{front-length, size-of}
 use Rattle.card.proofs.Groups.{front-refused, size-refused, body-refused, all-passed}
 use borrow.Author.Needs.{needs}
 use Rattle.card.proofs.check.Statement.{statement}
 use Rattle.card.proofs.check.Tie as tie
-use Rattle.card.proofs.check.Reads as reads
-use Rattle.card.proofs.check.Lts as lts
-use Rattle.card.proofs.check_body.Reads as check-body-reads
-use Rattle.card.proofs.check_front.Reads as check-front-reads
-use Rattle.card.proofs.check_size.Reads as check-size-reads
-use Rattle.card.proofs.read_header.Reads as read-header-reads
 
--- src/lib.rt:298:9
 check-front-requires : tie.Need-check-front-requires
 check-front-requires c κs = search needs
 
--- src/lib.rt:299:28
 enum-known-front : tie.Need-enum-known-front
 enum-known-front c = search needs
 
--- src/lib.rt:300:9
 returns : tie.Need-returns
-returns c = front-refused _ (sym (c .before .before .before .check-front .ensures) ∙ c .before .front .given .1)
+returns c = search front-refused
 
 enum-told : tie.Need-enum-told
 enum-told c = search needs
 
--- src/lib.rt:302:9
 read-header-requires : tie.Need-read-header-requires
-read-header-requires c κs = front-length _ (sym (c .before .before .check-front .ensures) ∙ c .enum-told .given .1)
+read-header-requires c κs = search front-length
 
--- src/lib.rt:303:9
 check-size-requires : tie.Need-check-size-requires
 check-size-requires c κs = search needs
 
--- src/lib.rt:304:28
 enum-known-size : tie.Need-enum-known-size
 enum-known-size c = search needs
 
--- src/lib.rt:305:9
 returns-2 : tie.Need-returns-2
-returns-2 c =
-    size-refused _ (sym (c .before .before .before .before .before .before .before .check-front .ensures) ∙ c .before .before .before .before .before .enum-told .given .1)
-    (sym (c .before .before .before .check-size .ensures) ∙ c .before .size .given .1)
+returns-2 c = search size-refused
 
 enum-told-2 : tie.Need-enum-told-2
 enum-told-2 c = search needs
 
--- src/lib.rt:307:9
 check-body-requires : tie.Need-check-body-requires
-check-body-requires c κs = size-of _ _ (c .before .before .before .read-header .ensures) (sym (c .before .before .check-size .ensures) ∙ c .enum-told2 .given .1)
+check-body-requires c κs = search size-of
 
--- src/lib.rt:308:28
 enum-known-body : tie.Need-enum-known-body
 enum-known-body c = search needs
 
--- src/lib.rt:309:9
 returns-3 : tie.Need-returns-3
-returns-3 c =
-    body-refused _ (sym (c .before .before .before .before .before .before .before .before .before .before .check-front .ensures) ∙ c .before .before .before .before .before .before .before .before .enum-told .given .1)
-    (sym (c .before .before .before .before .before .before .check-size .ensures) ∙ c .before .before .before .before .enum-told2 .given .1)
-    (sym (c .before .before .before .check-body .ensures) ∙ c .before .body .given .1)
+returns-3 c = search body-refused
 
 enum-told-3 : tie.Need-enum-told-3
 enum-told-3 c = search needs
 
--- src/lib.rt:295:1
 returns-4 : tie.Need-returns-4
-returns-4 c =
-    all-passed _ (sym (c .before .before .before .before .before .before .before .before .before .check-front .ensures) ∙ c .before .before .before .before .before .before .before .enum-told .given .1)
-    (sym (c .before .before .before .before .before .check-size .ensures) ∙ c .before .before .before .enum-told2 .given .1)
-    _ (c .before .before .before .before .before .before .read-header .ensures) (sym (c .before .before .check-body .ensures) ∙ c .enum-told3 .given .1)
+returns-4 c = search all-passed
 
 pub check-spec : {M : Type 1} → statement M
 check-spec =

@@ -2,33 +2,24 @@ use borrow.Author.Needs.{needs}
 use Rattle.card.proofs.Mark.{mark-first, mark-second, mark-third}
 use Rattle.card.proofs.has_mark.Statement.{statement}
 use Rattle.card.proofs.has_mark.Tie as tie
-use Rattle.card.proofs.has_mark.Reads as reads
-use Rattle.card.proofs.has_mark.Lts as lts
-use Rattle.card.proofs.Cursor.one.Reads as one-reads
 
--- src/lib.rt:122:9
 one-requires : tie.Need-one-requires
 one-requires c κs = search needs
 
--- src/lib.rt:124:9
 returns : tie.Need-returns
-returns c = mark-first _ (c .before .before .before .before .pre) (c .before .before .one .ensures) (c .if1 .taken)
+returns c = search mark-first
 
--- src/lib.rt:127:9
 one-requires-2 : tie.Need-one-requires-2
 one-requires-2 c κs = search needs
 
--- src/lib.rt:129:9
 returns-2 : tie.Need-returns-2
-returns-2 c = mark-second _ (c .before .before .before .before .before .before .before .before .pre) (c .before .before .before .before .before .before .one .ensures) (c .before .before .before .before .if1 .left) (c .before .before .one2 .ensures) (c .if2 .taken)
+returns-2 c = search mark-second
 
--- src/lib.rt:132:9
 one-requires-3 : tie.Need-one-requires-3
 one-requires-3 c κs = search needs
 
--- src/lib.rt:117:1
 returns-3 : tie.Need-returns-3
-returns-3 c = mark-third _ (c .before .before .before .before .before .before .before .before .before .before .before .pre) (c .before .before .before .before .before .before .before .before .before .one .ensures) (c .before .before .before .before .before .before .before .if1 .left) (c .before .before .before .before .before .one2 .ensures) (c .before .before .before .if2 .left) (c .before .one3 .ensures)
+returns-3 c = search mark-third
 
 pub has-mark-spec : {M : Type 1} → statement M
 has-mark-spec =

@@ -7,9 +7,6 @@ use Rattle.lists.specs.Tests.{Passed, passed-none, passed-more, passed-all, pas
 use Rattle.model.specs.Instance.{instanceOf, loadsInRange}
 use Rattle.card.proofs.loads_in_range.Statement.{statement}
 use Rattle.card.proofs.loads_in_range.Tie as tie
-use Rattle.card.proofs.loads_in_range.Reads as reads
-use Rattle.card.proofs.loads_in_range.Lts as lts
-use Rattle.card.proofs.load.Reads as load-reads
 
 abbrev Inv-loop : tie.InvT-loop
 Inv-loop card most top slots t₀ t = Passed slots (λ u. leb (instanceOf card .load u) most) t
@@ -17,42 +14,41 @@ Inv-loop card most top slots t₀ t = Passed slots (λ u. leb (instanceOf card .
 abbrev μ-loop : tie.MeasureT-loop
 μ-loop card most top slots t₀ t = slots - t
 
--- src/lib.rt:258:16
 mul-most : tie.Need-mul-most Inv-loop μ-loop
 mul-most c =
-    record {
-      fits = omega (arith, mul-le-mul (c .before .before .pre .header .modules-bound) (c .before .before .pre .header .top-bound));
-    }
+    let header = c .before .before .pre .header in
+    record { fits = omega (arith, mul-le-mul (header .modules-bound) (header .top-bound)) }
 
--- src/lib.rt:262:5
 loop-holds : tie.Need-loop-holds Inv-loop μ-loop
 loop-holds c = passed-none _ _
 
--- src/lib.rt:263:19
 load-requires : tie.Need-load-requires Inv-loop μ-loop
 load-requires c κs = (omega arith, c .before .before .before .before .pre .header .top-is)
 
--- src/lib.rt:264:13
 returns : tie.Need-returns Inv-loop μ-loop
 unfolding loadsInRange
-returns c = rw (← (c .before .before .before .before .before .before .pre .header .slots-is), ← (c .before .before .before .before .before .before .pre .header .modules-is), ← (c .before .before .before .before .before .before .pre .header .top-is)) (passed-not (c .before .before .before .loop .inv) (c .before .before .loop-test .taken) (rw (← (c .before .load .ensures .is)) (lt-leb _ _ (c .if1 .taken))))
+returns c =
+    let test = c .before .before in
+    let header = test .before .before .before .before .pre .header in
+    rw (← header .slots-is, ← header .modules-is, ← header .top-is)
+    (passed-not (test .before .loop .inv) (test .loop-test .taken) (rw (← (c .before .load .ensures .is)) (lt-leb _ _ (c .if1 .taken))))
 
--- src/lib.rt:266:9
 add-t : tie.Need-add-t Inv-loop μ-loop
 add-t c = omega arith
 
--- src/lib.rt:262:5
 loop-less : tie.Need-loop-less Inv-loop μ-loop
 loop-less c = omega arith
 
--- src/lib.rt:262:5
 loop-again : tie.Need-loop-again Inv-loop μ-loop
-loop-again c = passed-more (c .before .before .before .loop .inv) (c .before .before .loop-test .taken) (rw (← (c .before .load .ensures .is)) (le-leb _ _ (c .if1 .left)))
+loop-again c =
+    let test = c .before .before in
+    passed-more (test .before .loop .inv) (test .loop-test .taken) (rw (← (c .before .load .ensures .is)) (le-leb _ _ (c .if1 .left)))
 
--- src/lib.rt:254:1
 returns-2 : tie.Need-returns-2 Inv-loop μ-loop
 unfolding loadsInRange
-returns-2 c = rw (← (c .before .before .before .before .pre .header .slots-is), ← (c .before .before .before .before .pre .header .modules-is), ← (c .before .before .before .before .pre .header .top-is)) (passed-all (c .before .loop .inv) (c .loop-test .left))
+returns-2 c =
+    let header = c .before .before .before .before .pre .header in
+    rw (← header .slots-is, ← header .modules-is, ← header .top-is) (passed-all (c .before .loop .inv) (c .loop-test .left))
 
 pub loads-in-range-spec : {M : Type 1} → statement M
 loads-in-range-spec =

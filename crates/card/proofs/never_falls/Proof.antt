@@ -6,9 +6,6 @@ use Rattle.lists.specs.Tests.{Passed, passed-none, passed-more, passed-all, pas
 use Rattle.model.specs.Instance.{instanceOf, neverFalls}
 use Rattle.card.proofs.never_falls.Statement.{statement}
 use Rattle.card.proofs.never_falls.Tie as tie
-use Rattle.card.proofs.never_falls.Reads as reads
-use Rattle.card.proofs.never_falls.Lts as lts
-use Rattle.card.proofs.entry.Reads as entry-reads
 
 abbrev Inv-loop : tie.InvT-loop
 Inv-loop card top k₀ k = Passed top (λ j. leb (instanceOf card .table j) (instanceOf card .table (j + 1))) k
@@ -16,47 +13,40 @@ Inv-loop card top k₀ k = Passed top (λ j. leb (instanceOf card .table j) (ins
 abbrev μ-loop : tie.MeasureT-loop
 μ-loop card top k₀ k = top - k
 
--- src/lib.rt:262:5
 loop-holds : tie.Need-loop-holds Inv-loop μ-loop
 loop-holds c = passed-none _ _
 
--- src/lib.rt:263:24
 add-entry : tie.Need-add-entry Inv-loop μ-loop
 add-entry c = omega arith
 
--- src/lib.rt:263:12
 entry-requires : tie.Need-entry-requires Inv-loop μ-loop
 entry-requires c κs = omega arith
 
--- src/lib.rt:263:33
 entry-requires-2 : tie.Need-entry-requires-2 Inv-loop μ-loop
 entry-requires-2 c κs = omega arith
 
--- src/lib.rt:264:13
 returns : tie.Need-returns Inv-loop μ-loop
 unfolding neverFalls
 returns c =
-    passed-not (c .before .before .before .before .loop .inv) (c .before .before .before .loop-test .taken)
+    let test = c .before .before .before in
+    passed-not (test .before .loop .inv) (test .loop-test .taken)
     (rw (← (c .before .before .entry .ensures .is), ← (c .before .entry2 .ensures .is)) (lt-leb _ _ (c .if1 .taken)))
 
--- src/lib.rt:266:9
 add-k : tie.Need-add-k Inv-loop μ-loop
 add-k c = omega arith
 
--- src/lib.rt:262:5
 loop-less : tie.Need-loop-less Inv-loop μ-loop
 loop-less c = omega arith
 
--- src/lib.rt:262:5
 loop-again : tie.Need-loop-again Inv-loop μ-loop
 loop-again c =
-    passed-more (c .before .before .before .before .loop .inv) (c .before .before .before .loop-test .taken)
+    let test = c .before .before .before in
+    passed-more (test .before .loop .inv) (test .loop-test .taken)
     (rw (← (c .before .before .entry .ensures .is), ← (c .before .entry2 .ensures .is)) (le-leb _ _ (c .if1 .left)))
 
--- src/lib.rt:257:1
 returns-2 : tie.Need-returns-2 Inv-loop μ-loop
 unfolding neverFalls
-returns-2 c = passed-all (c .before .loop .inv) (c .loop-test .left)
+returns-2 c = search passed-all
 
 pub never-falls-spec : {M : Type 1} → statement M
 never-falls-spec =

@@ -1,22 +1,16 @@
 use borrow.Author.Tests.{le-leb, lt-leb}
 use Rattle.card.proofs.rack_in_range.Statement.{statement}
 use Rattle.card.proofs.rack_in_range.Tie as tie
-use Rattle.card.proofs.rack_in_range.Reads as reads
-use Rattle.card.proofs.rack_in_range.Lts as lts
 
--- src/lib.rt:171:9
 returns : tie.Need-returns
 returns c = rw (lt-leb 1 _ (c .if1 .taken))
 
--- src/lib.rt:174:9
 returns-2 : tie.Need-returns-2
 returns-2 c = rw (le-leb 1 _ (c .before .if1 .left), lt-leb _ 200 (c .if2 .taken))
 
--- src/lib.rt:177:9
 returns-3 : tie.Need-returns-3
 returns-3 c = rw (le-leb 1 _ (c .before .before .if1 .left), le-leb _ 200 (c .before .if2 .left), lt-leb 1 _ (c .if3 .taken))
 
--- src/lib.rt:167:1
 returns-4 : tie.Need-returns-4
 returns-4 c = rw (le-leb 1 _ (c .before .before .if1 .left), le-leb _ 200 (c .before .if2 .left), le-leb 1 _ (c .if3 .left))
 

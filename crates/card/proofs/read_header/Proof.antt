@@ -5,33 +5,22 @@ use Rattle.model.specs.Instance.{instanceOf}
 use Rattle.card.proofs.Reading.{read-at}
 use Rattle.card.proofs.read_header.Statement.{statement}
 use Rattle.card.proofs.read_header.Tie as tie
-use Rattle.card.proofs.read_header.Reads as reads
-use Rattle.card.proofs.read_header.Lts as lts
-use Rattle.card.proofs.Cursor.four.Reads as four-reads
-use Rattle.card.proofs.Cursor.one.Reads as one-reads
-use Rattle.card.proofs.Cursor.two.Reads as two-reads
 
--- src/lib.rt:150:9
 one-requires : tie.Need-one-requires
 one-requires c κs = search needs
 
--- src/lib.rt:152:9
 one-requires-2 : tie.Need-one-requires-2
 one-requires-2 c κs = search needs
 
--- src/lib.rt:154:9
 two-requires : tie.Need-two-requires
 two-requires c κs = search needs
 
--- src/lib.rt:156:9
 four-requires : tie.Need-four-requires
 four-requires c κs = search needs
 
--- src/lib.rt:158:9
 four-requires-2 : tie.Need-four-requires-2
 four-requires-2 c κs = search needs
 
--- src/lib.rt:145:1
 returns : tie.Need-returns
 unfolding instanceOf
 returns c =

@@ -6,9 +6,6 @@ use Rattle.lists.specs.Tests.{Passed, passed-none, passed-more, passed-all, pas
 use Rattle.model.specs.Instance.{instanceOf, tableInRange}
 use Rattle.card.proofs.table_in_range.Statement.{statement}
 use Rattle.card.proofs.table_in_range.Tie as tie
-use Rattle.card.proofs.table_in_range.Reads as reads
-use Rattle.card.proofs.table_in_range.Lts as lts
-use Rattle.card.proofs.entry.Reads as entry-reads
 
 abbrev Inv-loop : tie.InvT-loop
 Inv-loop card top k₀ k = Passed (top + 1) (λ j. leb (instanceOf card .table j) 1000000) k
@@ -16,32 +13,31 @@ Inv-loop card top k₀ k = Passed (top + 1) (λ j. leb (instanceOf card .table j
 abbrev μ-loop : tie.MeasureT-loop
 μ-loop card top k₀ k = top + 1 - k
 
--- src/lib.rt:220:5
 loop-holds : tie.Need-loop-holds Inv-loop μ-loop
 loop-holds c = passed-none _ _
 
--- src/lib.rt:221:22
 entry-requires : tie.Need-entry-requires Inv-loop μ-loop
 entry-requires c κs = omega arith
 
--- src/lib.rt:222:13
 returns : tie.Need-returns Inv-loop μ-loop
 unfolding tableInRange
-returns c = passed-not (c .before .before .before .loop .inv) (omega (arith, c .before .before .loop-test .taken)) (rw (← (c .before .entry .ensures .is)) (lt-leb _ _ (c .if1 .taken)))
+returns c =
+    let test = c .before .before in
+    passed-not (test .before .loop .inv) (omega (arith, test .loop-test .taken))
+    (rw (← (c .before .entry .ensures .is)) (lt-leb _ _ (c .if1 .taken)))
 
--- src/lib.rt:224:9
 add-k : tie.Need-add-k Inv-loop μ-loop
 add-k c = omega (arith, c .before .before .before .before .before .good .0, c .before .before .before .before .before .pre .room)
 
--- src/lib.rt:220:5
 loop-less : tie.Need-loop-less Inv-loop μ-loop
 loop-less c = omega arith
 
--- src/lib.rt:220:5
 loop-again : tie.Need-loop-again Inv-loop μ-loop
-loop-again c = passed-more (c .before .before .before .loop .inv) (omega (arith, c .before .before .loop-test .taken)) (rw (← (c .before .entry .ensures .is)) (le-leb _ _ (c .if1 .left)))
+loop-again c =
+    let test = c .before .before in
+    passed-more (test .before .loop .inv) (omega (arith, test .loop-test .taken))
+    (rw (← (c .before .entry .ensures .is)) (le-leb _ _ (c .if1 .left)))
 
--- src/lib.rt:215:1
 returns-2 : tie.Need-returns-2 Inv-loop μ-loop
 unfolding tableInRange
 returns-2 c = passed-all (c .before .loop .inv) (omega (arith, c .loop-test .left))

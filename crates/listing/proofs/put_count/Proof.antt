@@ -2,10 +2,6 @@ use Rattle.lists.specs.Writing.{written-more}
 use borrow.Author.Needs.{needs}
 use Rattle.listing.proofs.put_count.Statement.{statement}
 use Rattle.listing.proofs.put_count.Tie as tie
-use Rattle.listing.proofs.put_count.Reads as reads
-use Rattle.listing.proofs.put_count.Lts as lts
-use Rattle.listing.proofs.put.Reads as put-reads
-use Rattle.listing.proofs.put_number.Reads as put-number-reads
 
 put-requires : tie.Need-put-requires
 put-requires c κs = search needs

@@ -5,9 +5,6 @@ use Rattle.lists.specs.Writing.{RowsWritten, rows-none, rows-room, rows-more, r
 use Rattle.listing.specs.Texts.{countText}
 use Rattle.listing.proofs.put_counts.Statement.{statement}
 use Rattle.listing.proofs.put_counts.Tie as tie
-use Rattle.listing.proofs.put_counts.Reads as reads
-use Rattle.listing.proofs.put_counts.Lts as lts
-use Rattle.listing.proofs.put_count.Reads as put-count-reads
 
 abbrev Inv-loop : tie.InvT-loop
 Inv-loop out₀ at plan place₀ t₀ out place t = RowsWritten (countText plan) (length plan) at out₀ t out place
@@ -16,7 +13,7 @@ abbrev μ-loop : tie.MeasureT-loop
 μ-loop out₀ at plan place₀ t₀ out place t = length plan - t
 
 loop-holds : tie.Need-loop-holds Inv-loop μ-loop
-loop-holds c = rows-none _ _ (c .before .before .pre)
+loop-holds c = search rows-none
 
 shared-slice-read-put-count : tie.Need-shared-slice-read-put-count Inv-loop μ-loop
 shared-slice-read-put-count c = omega arith
@@ -33,15 +30,13 @@ loop-less : tie.Need-loop-less Inv-loop μ-loop
 loop-less c = omega arith
 
 loop-again : tie.Need-loop-again Inv-loop μ-loop
-loop-again c =
-    let test = c .before .before .before .before .before in
-    rows-more (test .before .loop .inv) (test .loop-test .taken) (c .before .before .put-count .ensures)
+loop-again c = search rows-more
 
 same-length : tie.Need-same-length Inv-loop μ-loop
-same-length c = c .before .loop .inv .so-far .size
+same-length c = search
 
 returns : tie.Need-returns Inv-loop μ-loop
-returns c = rows-all (c .before .loop .inv) (c .loop-test .left)
+returns c = search rows-all
 
 pub put-counts-spec : {M : Type 1} → statement M
 put-counts-spec =

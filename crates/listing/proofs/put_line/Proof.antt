@@ -2,14 +2,9 @@ use Rattle.lists.specs.Writing.{room-first, room-rest, written-more}
 use borrow.Author.Needs.{needs}
 use Rattle.listing.proofs.put_line.Statement.{statement}
 use Rattle.listing.proofs.put_line.Tie as tie
-use Rattle.listing.proofs.put_line.Reads as reads
-use Rattle.listing.proofs.put_line.Lts as lts
-use Rattle.listing.proofs.put.Reads as put-reads
-use Rattle.listing.proofs.put_number.Reads as put-number-reads
-use Rattle.listing.proofs.put_word.Reads as put-word-reads
 
 put-word-requires : tie.Need-put-word-requires
-put-word-requires c κs = room-first _ (c .before .before .before .pre)
+put-word-requires c κs = search room-first
 
 put-number-requires : tie.Need-put-number-requires
 put-number-requires c κs =
@@ -17,20 +12,13 @@ put-number-requires c κs =
     room-first _ (room-rest (word .before .before .before .before .pre) (word .put-word .ensures))
 
 put-requires : tie.Need-put-requires
-put-requires c κs =
-    let middle = c .before .before .before in
-    let word = middle .before .before .before .before in
-    room-rest (room-rest (word .before .before .before .before .pre) (word .put-word .ensures)) (middle .put-number .ensures)
+put-requires c κs = search (room-first, room-rest)
 
 same-length : tie.Need-same-length
 same-length c = search needs
 
 returns : tie.Need-returns
-returns c =
-    let end = c .before .before in
-    let middle = end .before .before .before .before in
-    let word = middle .before .before .before .before in
-    written-more (word .put-word .ensures) (written-more (middle .put-number .ensures) (end .put .ensures))
+returns c = search written-more
 
 pub put-line-spec : {M : Type 1} → statement M
 put-line-spec =

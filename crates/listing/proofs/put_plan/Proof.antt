@@ -3,24 +3,17 @@ use Rattle.model.specs.Listing.{planLine}
 use borrow.Author.Needs.{needs}
 use Rattle.listing.proofs.put_plan.Statement.{statement}
 use Rattle.listing.proofs.put_plan.Tie as tie
-use Rattle.listing.proofs.put_plan.Reads as reads
-use Rattle.listing.proofs.put_plan.Lts as lts
-use Rattle.listing.proofs.put.Reads as put-reads
-use Rattle.listing.proofs.put_counts.Reads as put-counts-reads
-use Rattle.listing.proofs.put_word.Reads as put-word-reads
 
 slice-aggregate-put-word : tie.Need-slice-aggregate-put-word
 slice-aggregate-put-word c = search needs
 
 put-word-requires : tie.Need-put-word-requires
 unfolding planLine
-put-word-requires c κs = room-first _ (c .before .before .before .before .pre)
+put-word-requires c κs = search room-first
 
 put-counts-requires : tie.Need-put-counts-requires
 unfolding planLine
-put-counts-requires c κs =
-    let word = c .before .before .before in
-    room-first _ (room-rest (word .before .before .before .before .before .pre) (word .put-word .ensures))
+put-counts-requires c κs = search (room-first, room-rest)
 
 put-requires : tie.Need-put-requires
 unfolding planLine
@@ -34,11 +27,7 @@ same-length c = search needs
 
 returns : tie.Need-returns
 unfolding planLine
-returns c =
-    let end = c .before .before in
-    let middle = end .before .before .before .before in
-    let word = middle .before .before .before .before in
-    written-more (word .put-word .ensures) (written-more (middle .put-counts .ensures) (end .put .ensures))
+returns c = search written-more
 
 pub put-plan-spec : {M : Type 1} → statement M
 put-plan-spec =

@@ -2,12 +2,9 @@ use Prim.Native.Nat.{_-_}
 use native.Mathlib.Omega.{arith}
 use Rattle.lists.specs.Writing.{RowsWritten, rows-none, rows-room, rows-more, rows-all}
 use Rattle.listing.specs.Texts.{sheetLine}
-use Rattle.listing.proofs.Parts.{row-within, row-line}
+use Rattle.listing.proofs.Parts.{row-in-sheet, row-line}
 use Rattle.listing.proofs.put_sheet.Statement.{statement}
 use Rattle.listing.proofs.put_sheet.Tie as tie
-use Rattle.listing.proofs.put_sheet.Reads as reads
-use Rattle.listing.proofs.put_sheet.Lts as lts
-use Rattle.listing.proofs.put_slot.Reads as put-slot-reads
 
 abbrev Inv-loop : tie.InvT-loop
 Inv-loop out₀ at m slots sheet place₀ t₀ out place t = RowsWritten (sheetLine m sheet) slots at out₀ t out place
@@ -16,13 +13,13 @@ abbrev μ-loop : tie.MeasureT-loop
 μ-loop out₀ at m slots sheet place₀ t₀ out place t = slots - t
 
 loop-holds : tie.Need-loop-holds Inv-loop μ-loop
-loop-holds c = rows-none _ _ (c .before .before .pre .1)
+loop-holds c = search rows-none
 
 mul-start : tie.Need-mul-start Inv-loop μ-loop
-mul-start c = omega (arith, row-within (c .before .before .before .before .pre .0) (c .loop-test .taken))
+mul-start c = omega (arith, row-in-sheet (c .before .before .before .before .pre .0) (c .loop-test .taken))
 
 add-end : tie.Need-add-end Inv-loop μ-loop
-add-end c = omega (arith, row-within (c .before .before .before .before .pre .0) (c .loop-test .taken))
+add-end c = omega (arith, row-in-sheet (c .before .before .before .before .pre .0) (c .loop-test .taken))
 
 sub-put-slot : tie.Need-sub-put-slot Inv-loop μ-loop
 sub-put-slot c = omega arith
@@ -31,7 +28,7 @@ part-put-slot-start : tie.Need-part-put-slot-start Inv-loop μ-loop
 part-put-slot-start c = omega arith
 
 part-put-slot-end : tie.Need-part-put-slot-end Inv-loop μ-loop
-part-put-slot-end c = row-within (c .before .before .before .before .before .pre .0) (c .before .loop-test .taken)
+part-put-slot-end c = row-in-sheet (c .before .before .before .before .before .pre .0) (c .before .loop-test .taken)
 
 put-slot-requires : tie.Need-put-slot-requires Inv-loop μ-loop
 put-slot-requires c κs =
@@ -52,10 +49,10 @@ loop-again c =
     rows-more (test .before .loop .inv) (test .loop-test .taken) (rw row-line at (c .before .before .put-slot .ensures))
 
 same-length : tie.Need-same-length Inv-loop μ-loop
-same-length c = c .before .loop .inv .so-far .size
+same-length c = search
 
 returns : tie.Need-returns Inv-loop μ-loop
-returns c = rows-all (c .before .loop .inv) (c .loop-test .left)
+returns c = search rows-all
 
 pub put-sheet-spec : {M : Type 1} → statement M
 put-sheet-spec =

@@ -4,15 +4,10 @@ use Rattle.model.specs.Listing.{newline, slotLine}
 use borrow.Author.Needs.{needs}
 use Rattle.listing.proofs.put_slot.Statement.{statement}
 use Rattle.listing.proofs.put_slot.Tie as tie
-use Rattle.listing.proofs.put_slot.Reads as reads
-use Rattle.listing.proofs.put_slot.Lts as lts
-use Rattle.listing.proofs.put.Reads as put-reads
-use Rattle.listing.proofs.put_slot_number.Reads as put-slot-number-reads
-use Rattle.listing.proofs.put_steps.Reads as put-steps-reads
 
 put-slot-number-requires : tie.Need-put-slot-number-requires
 unfolding slotLine
-put-slot-number-requires c κs = let start = c .before .before .before in (start .pre .0, room-first _ (start .pre .1))
+put-slot-number-requires c κs = search room-first
 
 put-requires : tie.Need-put-requires
 unfolding slotLine
@@ -25,7 +20,8 @@ unfolding slotLine
 put-steps-requires c κs =
     let colon = c .before .before .before in
     let number = colon .before .before .before .before in
-    room-first _ (room-rest (room-rest (number .before .before .before .before .pre .1) (number .put-slot-number .ensures)) (colon .put .ensures))
+    let rest = room-rest (number .before .before .before .before .pre .1) (number .put-slot-number .ensures) in
+    room-first _ (room-rest rest (colon .put .ensures))
 
 put-requires-2 : tie.Need-put-requires-2
 unfolding slotLine
@@ -33,8 +29,8 @@ put-requires-2 c κs =
     let steps = c .before .before .before in
     let colon = steps .before .before .before .before in
     let number = colon .before .before .before .before in
-    let rest = room-rest (room-rest (number .before .before .before .before .pre .1) (number .put-slot-number .ensures)) (colon .put .ensures) in
-    room-less (omega arith) (room-rest {b = newline} rest (steps .put-steps .ensures))
+    let rest = room-rest (number .before .before .before .before .pre .1) (number .put-slot-number .ensures) in
+    room-less (omega arith) (room-rest {b = newline} (room-rest rest (colon .put .ensures)) (steps .put-steps .ensures))
 
 same-length : tie.Need-same-length
 same-length c = search needs

@@ -4,16 +4,12 @@ use Rattle.listing.proofs.Digits.{decimal-rise}
 use borrow.Author.Needs.{needs}
 use Rattle.listing.proofs.put_slot_number.Statement.{statement}
 use Rattle.listing.proofs.put_slot_number.Tie as tie
-use Rattle.listing.proofs.put_slot_number.Reads as reads
-use Rattle.listing.proofs.put_slot_number.Lts as lts
-use Rattle.listing.proofs.put_number.Reads as put-number-reads
-use Rattle.listing.proofs.put_word.Reads as put-word-reads
 
 slice-aggregate-put-word : tie.Need-slice-aggregate-put-word
 slice-aggregate-put-word c = search needs
 
 put-word-requires : tie.Need-put-word-requires
-put-word-requires c κs = room-first _ (c .before .before .before .pre .1)
+put-word-requires c κs = search room-first
 
 add-put-number : tie.Need-add-put-number
 add-put-number c = search needs
@@ -27,7 +23,7 @@ same-length : tie.Need-same-length
 same-length c = search needs
 
 returns : tie.Need-returns
-returns c = written-more (c .before .before .before .before .before .before .put-word .ensures) (c .before .before .put-number .ensures)
+returns c = search written-more
 
 pub put-slot-number-spec : {M : Type 1} → statement M
 put-slot-number-spec =

@@ -4,10 +4,6 @@ use Rattle.listing.proofs.Steps.{step-off, step-on, step-some}
 use borrow.Author.Needs.{needs}
 use Rattle.listing.proofs.put_step.Statement.{statement}
 use Rattle.listing.proofs.put_step.Tie as tie
-use Rattle.listing.proofs.put_step.Reads as reads
-use Rattle.listing.proofs.put_step.Lts as lts
-use Rattle.listing.proofs.put_count.Reads as put-count-reads
-use Rattle.listing.proofs.put_word.Reads as put-word-reads
 
 slice-aggregate-put-word : tie.Need-slice-aggregate-put-word
 slice-aggregate-put-word c = search needs

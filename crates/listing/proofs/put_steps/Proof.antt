@@ -6,9 +6,6 @@ use Rattle.listing.specs.Texts.{moduleText}
 use Rattle.listing.proofs.Steps.{module-text}
 use Rattle.listing.proofs.put_steps.Statement.{statement}
 use Rattle.listing.proofs.put_steps.Tie as tie
-use Rattle.listing.proofs.put_steps.Reads as reads
-use Rattle.listing.proofs.put_steps.Lts as lts
-use Rattle.listing.proofs.put_step.Reads as put-step-reads
 
 abbrev Inv-loop : tie.InvT-loop
 Inv-loop out₀ at row place₀ k₀ out place k = RowsWritten (moduleText row) (length row) at out₀ k out place
@@ -17,7 +14,7 @@ abbrev μ-loop : tie.MeasureT-loop
 μ-loop out₀ at row place₀ k₀ out place k = length row - k
 
 loop-holds : tie.Need-loop-holds Inv-loop μ-loop
-loop-holds c = rows-none _ _ (c .before .before .pre)
+loop-holds c = search rows-none
 
 shared-slice-read-put-step : tie.Need-shared-slice-read-put-step Inv-loop μ-loop
 shared-slice-read-put-step c = omega arith
@@ -41,10 +38,10 @@ loop-again c =
     rows-more (test .before .loop .inv) below (rw (module-text _ _ below) (c .before .before .put-step .ensures))
 
 same-length : tie.Need-same-length Inv-loop μ-loop
-same-length c = c .before .loop .inv .so-far .size
+same-length c = search
 
 returns : tie.Need-returns Inv-loop μ-loop
-returns c = rows-all (c .before .loop .inv) (c .loop-test .left)
+returns c = search rows-all
 
 pub put-steps-spec : {M : Type 1} → statement M
 put-steps-spec =

@@ -4,9 +4,6 @@ use lib.ListN.{length}
 use Rattle.lists.specs.Writing.{RowsWritten, elementText, whole-room, whole-written, rows-none, rows-room, rows-more, rows-all}
 use Rattle.listing.proofs.put_word.Statement.{statement}
 use Rattle.listing.proofs.put_word.Tie as tie
-use Rattle.listing.proofs.put_word.Reads as reads
-use Rattle.listing.proofs.put_word.Lts as lts
-use Rattle.listing.proofs.put.Reads as put-reads
 
 abbrev Inv-loop : tie.InvT-loop
 Inv-loop out₀ at word place₀ k₀ out place k = RowsWritten (elementText word) (length word) at out₀ k out place
@@ -15,7 +12,7 @@ abbrev μ-loop : tie.MeasureT-loop
 μ-loop out₀ at word place₀ k₀ out place k = length word - k
 
 loop-holds : tie.Need-loop-holds Inv-loop μ-loop
-loop-holds c = rows-none _ _ (whole-room _ (c .before .before .pre))
+loop-holds c = search (rows-none, whole-room)
 
 shared-slice-read-put : tie.Need-shared-slice-read-put Inv-loop μ-loop
 shared-slice-read-put c = omega arith
@@ -32,15 +29,13 @@ loop-less : tie.Need-loop-less Inv-loop μ-loop
 loop-less c = omega arith
 
 loop-again : tie.Need-loop-again Inv-loop μ-loop
-loop-again c =
-    let test = c .before .before .before .before .before in
-    rows-more (test .before .loop .inv) (test .loop-test .taken) (c .before .before .put .ensures)
+loop-again c = search rows-more
 
 same-length : tie.Need-same-length Inv-loop μ-loop
-same-length c = c .before .loop .inv .so-far .size
+same-length c = search
 
 returns : tie.Need-returns Inv-loop μ-loop
-returns c = whole-written _ (rows-all (c .before .loop .inv) (c .loop-test .left))
+returns c = search (whole-written, rows-all)
 
 pub put-word-spec : {M : Type 1} → statement M
 put-word-spec =

@@ -4,11 +4,6 @@ use Rattle.listing.proofs.Lengths.{listing-room}
 use borrow.Author.Needs.{needs}
 use Rattle.listing.proofs.write_listing.Statement.{statement}
 use Rattle.listing.proofs.write_listing.Tie as tie
-use Rattle.listing.proofs.write_listing.Reads as reads
-use Rattle.listing.proofs.write_listing.Lts as lts
-use Rattle.listing.proofs.put_line.Reads as put-line-reads
-use Rattle.listing.proofs.put_plan.Reads as put-plan-reads
-use Rattle.listing.proofs.put_sheet.Reads as put-sheet-reads
 
 -- the area has room for the whole listing
 whole : (c : tie.After-shared-slice-known2) →

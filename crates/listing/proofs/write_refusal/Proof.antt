@@ -4,9 +4,6 @@ use Rattle.listing.proofs.Lengths.{refusal-room}
 use borrow.Author.Needs.{needs}
 use Rattle.listing.proofs.write_refusal.Statement.{statement}
 use Rattle.listing.proofs.write_refusal.Tie as tie
-use Rattle.listing.proofs.write_refusal.Reads as reads
-use Rattle.listing.proofs.write_refusal.Lts as lts
-use Rattle.listing.proofs.put_line.Reads as put-line-reads
 
 slice-aggregate-put-line : tie.Need-slice-aggregate-put-line
 slice-aggregate-put-line c = search needs
@@ -20,7 +17,7 @@ same-length c = search needs
 
 returns : tie.Need-returns
 unfolding refusedLine
-returns c = written-start (c .before .before .put-line .ensures)
+returns c = search written-start
 
 pub write-refusal-spec : {M : Type 1} → statement M
 write-refusal-spec =

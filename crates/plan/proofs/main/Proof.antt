@@ -4,12 +4,6 @@ use Rattle.lists.specs.Writing.{start-within}
 use borrow.Author.Needs.{needs}
 use Rattle.plan.proofs.main.Statement.{statement}
 use Rattle.plan.proofs.main.Tie as tie
-use Rattle.plan.proofs.main.Reads as reads
-use Rattle.plan.proofs.main.Lts as lts
-use Rattle.io.proofs.read_full.Reads as read-full-reads
-use Rattle.io.proofs.write_all.Reads as write-all-reads
-use Rattle.plan.proofs.print_card.Reads as print-card-reads
-use Rattle.plan.proofs.text_area.Reads as text-area-reads
 
 slice-aggregate-read-full : tie.Need-slice-aggregate-read-full
 slice-aggregate-read-full c = search needs
@@ -33,10 +27,10 @@ print-card-requires : tie.Need-print-card-requires
 print-card-requires c κs = search needs
 
 array-share-prefix-text : tie.Need-array-share-prefix-text
-array-share-prefix-text c = start-within _ _ (c .before .print-card .ensures .0) (c .before .print-card .ensures .1)
+array-share-prefix-text c = search start-within
 
 slice-aggregate-write-all : tie.Need-slice-aggregate-write-all
-slice-aggregate-write-all c = sym (length-take-le _ _ (start-within _ _ (c .before .before .print-card .ensures .0) (c .before .before .print-card .ensures .1)))
+slice-aggregate-write-all c = sym (length-take-le _ _ (search start-within))
 
 write-all-requires : tie.Need-write-all-requires
 write-all-requires c κs = search needs

@@ -2,9 +2,6 @@ use Rattle.model.specs.Instance.{instanceOf}
 use borrow.Author.Needs.{needs}
 use Rattle.plan.proofs.modules_of.Statement.{statement}
 use Rattle.plan.proofs.modules_of.Tie as tie
-use Rattle.plan.proofs.modules_of.Reads as reads
-use Rattle.plan.proofs.modules_of.Lts as lts
-use Rattle.card.proofs.Cursor.one.Reads as one-reads
 
 one-requires : tie.Need-one-requires
 one-requires c κs = search needs

@@ -1,16 +1,8 @@
 use Rattle.lists.specs.Writing.{start-same}
-use mathlib.Core.Path.{sym}
 use Rattle.plan.proofs.Printing.{printed-refusal, printed-listing, planned}
 use borrow.Author.Needs.{needs}
 use Rattle.plan.proofs.print_card.Statement.{statement}
 use Rattle.plan.proofs.print_card.Tie as tie
-use Rattle.plan.proofs.print_card.Reads as reads
-use Rattle.plan.proofs.print_card.Lts as lts
-use Rattle.io.proofs.large_buffer.Reads as large-buffer-reads
-use Rattle.listing.proofs.write_refusal.Reads as write-refusal-reads
-use Rattle.lamp.proofs.lamp_plan_exact.Reads as lamp-plan-exact-reads
-use Rattle.plan.proofs.plan_area.Reads as plan-area-reads
-use Rattle.plan.proofs.print_plan.Reads as print-plan-reads
 
 plan-area-requires : tie.Need-plan-area-requires
 plan-area-requires c κs = search needs
@@ -34,27 +26,19 @@ same-length : tie.Need-same-length
 same-length c = search needs
 
 returns : tie.Need-returns
-returns c =
-    let made = c .before .before .before .before .before .before .before .before in
-    let same = printed-refusal _ _ _ (made .before .before .before .before .plan-area .ensures) (made .before .before .before .large-buffer .ensures) (made .lamp-plan-exact .ensures .0) (c .before .before .before .before .if1 .taken) in
-    start-same _ _ _ (sym same) (c .before .before .write-refusal .ensures)
+returns c = start-same _ _ _ (search printed-refusal) (c .before .before .write-refusal .ensures)
 
 slice-aggregate-print-plan : tie.Need-slice-aggregate-print-plan
 slice-aggregate-print-plan c = search needs
 
 print-plan-requires : tie.Need-print-plan-requires
-print-plan-requires c κs =
-    let made = c .before .before .before .before .before .before in
-    planned _ _ _ (made .before .before .before .before .plan-area .ensures) (made .before .before .before .large-buffer .ensures) (made .lamp-plan-exact .ensures .0) (c .before .before .if1 .left) (made .lamp-plan-exact .ensures .1 .0) (made .before .before .before .before .before .before .before .pre)
+print-plan-requires c κs = search planned
 
 same-length-2 : tie.Need-same-length-2
 same-length-2 c = search needs
 
 returns-2 : tie.Need-returns-2
-returns-2 c =
-    let made = c .before .before .before .before .before .before .before .before .before in
-    let same = printed-listing _ _ _ (made .before .before .before .before .plan-area .ensures) (made .before .before .before .large-buffer .ensures) (made .lamp-plan-exact .ensures .0) (c .before .before .before .before .before .if1 .left) in
-    start-same _ _ _ (sym same) (c .before .before .print-plan .ensures)
+returns-2 c = start-same _ _ _ (search printed-listing) (c .before .before .print-plan .ensures)
 
 pub print-card-spec : {M : Type 1} → statement M
 print-card-spec =

@@ -2,27 +2,19 @@ use borrow.Author.Needs.{needs}
 use Rattle.card.proofs.Reading.{read-join}
 use Rattle.card.proofs.Cursor.four.Statement.{statement}
 use Rattle.card.proofs.Cursor.four.Tie as tie
-use Rattle.card.proofs.Cursor.four.Reads as reads
-use Rattle.card.proofs.Cursor.four.Lts as lts
-use Rattle.card.proofs.Cursor.two.Reads as two-reads
 
--- src/lib.rt:57:13
 two-requires : tie.Need-two-requires
 two-requires c κs = search needs
 
--- src/lib.rt:59:13
 two-requires-2 : tie.Need-two-requires-2
 two-requires-2 c κs = search needs
 
--- src/lib.rt:62:32
 mul-t7 : tie.Need-mul-t7
 mul-t7 c = search needs
 
--- src/lib.rt:62:20
 add-t8 : tie.Need-add-t8
 add-t8 c = search needs
 
--- src/lib.rt:53:5
 returns : tie.Need-returns
 returns c = read-join 2 (c .before .before .before .before .before .two .ensures) (c .before .before .before .two2 .ensures)
 

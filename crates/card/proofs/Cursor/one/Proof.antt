@@ -3,25 +3,20 @@ use Rattle.card.proofs.Reading.{read-one}
 use native.Mathlib.Omega.{arith}
 use Rattle.card.proofs.Cursor.one.Statement.{statement}
 use Rattle.card.proofs.Cursor.one.Tie as tie
-use Rattle.card.proofs.Cursor.one.Reads as reads
-use Rattle.card.proofs.Cursor.one.Lts as lts
-use Rattle.card.proofs.wide.Reads as wide-reads
 
--- src/lib.rt:32:25
 shared-slice-read-wide : tie.Need-shared-slice-read-wide
 shared-slice-read-wide c = search needs
 
--- src/lib.rt:32:20
 wide-requires : tie.Need-wide-requires
 wide-requires c κs = search needs
 
--- src/lib.rt:33:32
 add-t7 : tie.Need-add-t7
 add-t7 c = search needs
 
--- src/lib.rt:26:5
 returns : tie.Need-returns
-returns c = read-one _ _ _ (c .wide .ensures) (omega (arith, c .wide .ensures, c .before .before .shared-slice-known .given (c .before .before .before .args .self .at)))
+returns c =
+    let at = c .before .before .before .args .self .at in
+    read-one _ _ _ (c .wide .ensures) (omega (arith, c .before .before .shared-slice-known .given at))
 
 pub one-spec : {M : Type 1} → statement M
 one-spec = tie.close (tie.spec shared-slice-read-wide wide-requires add-t7 returns)
