@@ -21,7 +21,7 @@ use Rattle.model.specs.Calls.{checkCard, planExact, planCoarse, nothing, area, 
 use Rattle.model.specs.Calls.{answer, requestOf, refusals, applies, anyShort, lowest, successCost, atExit}
 use Rattle.model.specs.Calls.{exactPlanAtExit, exactWorkAtExit, coarsePlanAtExit, coarseWorkAtExit}
 use Rattle.laws.specs.Acceptance.{modules-range, card-size}
-use Rattle.laws.specs.OnCard.{on-card-refused, on-card-passed}
+use Rattle.laws.specs.OnCard.{on-card-passed}
 use Rattle.theory.specs.Setting.{Ascending}
 use Rattle.theory.specs.Lists.{all-ascending, coarse-ascending}
 use Rattle.theory.specs.Condition3.{accepted-plannable, least-plan-fits}
@@ -126,10 +126,6 @@ module _ {s : List ℕ} {h : Header} (r : Ready s h) where
 
 -- The exact planner.
 module _ (s p w : List ℕ) where
-  pub exact-refused : {x : Refusal} → answer (checkCard s) ≡ Refused x → answer (planExact s p w) ≡ Refused x
-  unfolding answer requestOf refusals
-  exact-refused e = on-card-refused s _ nothing (BufferTooShort ∷ []) _ e
-
   abbrev pub ExactExits : (number cost : ℕ) → (plan work : List ℕ) → Type 0
   ExactExits = Exits s p w (answer (planExact s p w)) (allCounts (instanceOf s .modules)) (exactWork (instanceOf s))
 
@@ -147,10 +143,6 @@ module _ (s p w : List ℕ) where
 
 -- The coarse planner.
 module _ (s p w : List ℕ) where
-  pub coarse-refused : {x : Refusal} → answer (checkCard s) ≡ Refused x → answer (planCoarse s p w) ≡ Refused x
-  unfolding answer requestOf refusals
-  coarse-refused e = on-card-refused s _ nothing (NotMonotone ∷ BufferTooShort ∷ []) _ e
-
   abbrev pub CoarseExits : (number cost : ℕ) → (plan work : List ℕ) → Type 0
   CoarseExits = Exits s p w (answer (planCoarse s p w)) (coarseCounts (instanceOf s .modules)) (coarseWork (instanceOf s))
 

@@ -5,7 +5,6 @@ use mathlib.Core.Bool.{true}
 use mathlib.Core.List.{List, [], _∷_}
 use native.Mathlib.Nat.{one-mul}
 use lib.ListN.{take}
-use lib.Seq.{take-at}
 use Rattle.model.specs.declared.Refusal.the-variants.{NotMonotone, BufferTooShort}
 use Rattle.model.specs.declared.Answer.{Answer}
 use Rattle.model.specs.declared.Answer.the-variants.{Cost}
@@ -19,40 +18,41 @@ use Rattle.model.specs.Calls.{atExit, exactPlanAtExit, coarsePlanAtExit}
 use Rattle.model.specs.Promises.{OwnSheet, AtMostTimes}
 use Rattle.laws.specs.Acceptance.{modules-range}
 use Rattle.laws.specs.Lowest.{lowest-passed}
-use Rattle.laws.specs.OnCard.{on-card-passed, on-card-accepted}
+use Rattle.laws.specs.OnCard.{on-card-passed}
 use Rattle.theory.specs.Setting.{Ascending, NeverFalls}
 use Rattle.theory.specs.Lists.{all-ascending, coarse-ascending}
 use Rattle.theory.specs.Refusals.{succeeded}
-use Rattle.theory.specs.Condition3.{accepted-plannable, least-plan-fits, least-sheet, exact-least, coarse-twice, monotone-never-falls}
+use Rattle.theory.specs.Condition3.{accepted-plannable, least-sheet, exact-least, coarse-twice, monotone-never-falls}
+use Rattle.theory.specs.Outcomes.{written-taken, best-fits, exact-on, coarse-on}
 
--- One argument for both planners: the answer a, where it is a cost, is the least plan's over the counts, on an accepted card.
+-- the card is accepted, and the answer is the cost of a plan
+abbrev Planned : List ℕ → List ℕ → Answer → Type 0
+Planned c best a = (answer (checkCard c) ≡ Cost 0) × (a ≡ Cost (planCost (instanceOf c) best))
+
+-- One argument for both planners: an answer with number 0 is that of the least plan over the counts.
 module _
-    (c counts : List ℕ) (a : Answer) {number cost : ℕ} (gives : Gives a number cost)
-    (accepted : numberOf a ≡ 0 → answer (checkCard c) ≡ Cost 0)
-    (least : numberOf a ≡ 0 → a ≡ Cost (planCost (instanceOf c) (leastPlan (instanceOf c) counts)))
-    (asc : answer (checkCard c) ≡ Cost 0 → Ascending counts (instanceOf c .modules)) where
+    (counts : ℕ → List ℕ) (asc : (m : ℕ) → 1 ≤ m → Ascending (counts m) m) (c : List ℕ) (a : Answer)
+    (planned : numberOf a ≡ 0 → Planned c (leastPlan (instanceOf c) (counts (instanceOf c .modules))) a) {number cost : ℕ}
+    (gives : Gives a number cost) where
   abbrev best : List ℕ
-  best = leastPlan (instanceOf c) counts
+  best = leastPlan (instanceOf c) (counts (instanceOf c .modules))
 
-  zero-of : number ≡ 0 → numberOf a ≡ 0
-  zero-of e = sym (gives .number-is) ∙ e
+  success : number ≡ 0 → Planned c best a
+  success e = planned (sym (gives .number-is) ∙ e)
 
   cost-of : number ≡ 0 → cost ≡ planCost (instanceOf c) best
-  cost-of e = gives .cost-is ∙ rw (least (zero-of e))
+  cost-of e = gives .cost-is ∙ rw (success e .1)
 
   -- the first T plan bytes at exit are the least plan
   taken : (entry : List ℕ) → number ≡ 0 → take (instanceOf c .slots) (atExit a best entry) ≡ best
-  unfolding atExit
-  taken entry e =
-      let given = accepted (zero-of e) in
-      rw (least (zero-of e)) (take-at best _ _ (least-plan-fits (accepted-plannable c given) counts (asc given) .slotwise))
+  taken entry e = written-taken best entry _ (success e .1) (best-fits counts asc c (success e .0) .slotwise)
 
   best-sheet :
       number ≡ 0 →
       (serves (instanceOf c) (sheetOf (instanceOf c) best) ≡ true) × (sheetCost (instanceOf c) (sheetOf (instanceOf c) best) ≡ cost)
   best-sheet e =
-      let given = accepted (zero-of e) in
-      let sheet = least-sheet (accepted-plannable c given) counts (asc given) in
+      let given = success e .0 in
+      let sheet = least-sheet (accepted-plannable c given) _ (asc _ (modules-range c given .0)) in
       (sheet .0, sheet .1 ∙ sym (cost-of e))
 
   own-sheet : {plan : List ℕ} (entry : List ℕ) → plan ≡ atExit a best entry → OwnSheet c plan number cost
@@ -66,56 +66,43 @@ module _
       (r : ℕ) →
       (numberOf a ≡ 0 → (s : List ℕ) → serves (instanceOf c) s ≡ true → planCost (instanceOf c) best ≤ r * sheetCost (instanceOf c) s) →
       AtMostTimes r c number cost
-  at-most r bound e s h = rw (cost-of e) (bound (zero-of e) s h)
+  at-most r bound e s h = rw (cost-of e) (bound (sym (gives .number-is) ∙ e) s h)
 
 -- The exact planner.
-module _ (c p w : List ℕ) {number cost : ℕ} (gives : Gives (answer (planExact c p w)) number cost) where
-  exact-accepted : numberOf (answer (planExact c p w)) ≡ 0 → answer (checkCard c) ≡ Cost 0
-  unfolding answer requestOf refusals
-  exact-accepted e = on-card-accepted c _ _ _ _ (succeeded (planExact c p w) e)
-
-  exact-success :
-      numberOf (answer (planExact c p w)) ≡ 0 → answer (planExact c p w) ≡ Cost (planCost (instanceOf c) (exactPlan (instanceOf c)))
+module _ (c p w : List ℕ) where
+  exact-planned : numberOf (answer (planExact c p w)) ≡ 0 → Planned c (exactPlan (instanceOf c)) (answer (planExact c p w))
   unfolding successCost
-  exact-success e = succeeded (planExact c p w) e
+  exact-planned e = let success = succeeded (planExact c p w) e in (exact-on c p w success, success)
 
-  all-asc : answer (checkCard c) ≡ Cost 0 → Ascending (allCounts (instanceOf c .modules)) (instanceOf c .modules)
-  all-asc given = all-ascending (instanceOf c .modules) (modules-range c given .0)
+  module _ {number cost : ℕ} (gives : Gives (answer (planExact c p w)) number cost) where
+    pub exact-own : {plan : List ℕ} → plan ≡ exactPlanAtExit c p w → OwnSheet c plan number cost
+    unfolding exactPlanAtExit
+    exact-own e = own-sheet allCounts all-ascending c _ exact-planned gives p e
 
-  pub exact-own : {plan : List ℕ} → plan ≡ exactPlanAtExit c p w → OwnSheet c plan number cost
-  unfolding exactPlanAtExit
-  exact-own e = own-sheet c _ (answer (planExact c p w)) gives exact-accepted exact-success all-asc p e
-
-  pub exact-bound : AtMostTimes 1 c number cost
-  exact-bound =
-      at-most c _ (answer (planExact c p w)) gives exact-accepted exact-success all-asc 1
-      (λ e s h. rw one-mul (exact-least (accepted-plannable c (exact-accepted e)) s h))
+    pub exact-bound : AtMostTimes 1 c number cost
+    exact-bound =
+        at-most allCounts all-ascending c _ exact-planned gives 1
+        (λ e s h. rw one-mul (exact-least (accepted-plannable c (exact-planned e .0)) s h))
 
 -- The coarse planner.
-module _ (c p w : List ℕ) {number cost : ℕ} (gives : Gives (answer (planCoarse c p w)) number cost) where
-  coarse-accepted : numberOf (answer (planCoarse c p w)) ≡ 0 → answer (checkCard c) ≡ Cost 0
-  unfolding answer requestOf refusals
-  coarse-accepted e = on-card-accepted c _ _ _ _ (succeeded (planCoarse c p w) e)
-
-  coarse-success :
-      numberOf (answer (planCoarse c p w)) ≡ 0 → answer (planCoarse c p w) ≡ Cost (planCost (instanceOf c) (coarsePlan (instanceOf c)))
+module _ (c p w : List ℕ) where
+  coarse-planned : numberOf (answer (planCoarse c p w)) ≡ 0 → Planned c (coarsePlan (instanceOf c)) (answer (planCoarse c p w))
   unfolding successCost
-  coarse-success e = succeeded (planCoarse c p w) e
-
-  coarse-asc : answer (checkCard c) ≡ Cost 0 → Ascending (coarseCounts (instanceOf c .modules)) (instanceOf c .modules)
-  coarse-asc given = coarse-ascending (instanceOf c .modules) (modules-range c given .0)
+  coarse-planned e = let success = succeeded (planCoarse c p w) e in (coarse-on c p w success, success)
 
   rises : numberOf (answer (planCoarse c p w)) ≡ 0 → NeverFalls (instanceOf c .topStep) (instanceOf c .table)
   unfolding answer requestOf refusals
   rises e =
-      monotone-never-falls c p w
-      (lowest-passed _ _ _ (sym (on-card-passed c _ _ (NotMonotone ∷ BufferTooShort ∷ []) _ (coarse-accepted e)) ∙ coarse-success e) .0)
+      let (given, success) = coarse-planned e in
+      let further = sym (on-card-passed c _ _ (NotMonotone ∷ BufferTooShort ∷ []) _ given) ∙ success in
+      monotone-never-falls c p w (lowest-passed _ _ _ further .0)
 
-  pub coarse-own : {plan : List ℕ} → plan ≡ coarsePlanAtExit c p w → OwnSheet c plan number cost
-  unfolding coarsePlanAtExit
-  coarse-own e = own-sheet c _ (answer (planCoarse c p w)) gives coarse-accepted coarse-success coarse-asc p e
+  module _ {number cost : ℕ} (gives : Gives (answer (planCoarse c p w)) number cost) where
+    pub coarse-own : {plan : List ℕ} → plan ≡ coarsePlanAtExit c p w → OwnSheet c plan number cost
+    unfolding coarsePlanAtExit
+    coarse-own e = own-sheet coarseCounts coarse-ascending c _ coarse-planned gives p e
 
-  pub coarse-bound : AtMostTimes 2 c number cost
-  coarse-bound =
-      at-most c _ (answer (planCoarse c p w)) gives coarse-accepted coarse-success coarse-asc 2
-      (λ e s h. coarse-twice (accepted-plannable c (coarse-accepted e)) (rises e) s h)
+    pub coarse-bound : AtMostTimes 2 c number cost
+    coarse-bound =
+        at-most coarseCounts coarse-ascending c _ coarse-planned gives 2
+        (λ e. coarse-twice (accepted-plannable c (coarse-planned e .0)) (rises e))

@@ -173,6 +173,10 @@ module _ (c p w : List ℕ) where
   unfolding answer requestOf refusals
   exact-refused = on-card-refused c _ _ _ _
 
+  pub coarse-refused : {x : Refusal} → answer (checkCard c) ≡ Refused x → answer (planCoarse c p w) ≡ Refused x
+  unfolding answer requestOf refusals
+  coarse-refused = on-card-refused c _ _ _ _
+
   -- Where a planner gives number 0, sheet call and marking accept the plan that it writes, with the planner's answer.
   pub exact-marked :
       numberOf (answer (planExact c p w)) ≡ 0 → (s : List ℕ) → sheetBytes (instanceOf c) ≤ length s →

@@ -1,6 +1,7 @@
 use mathlib.Core.Path.{sym, _∙_}
 use Rattle.card.proofs.Groups.{refused-answer, ready}
-use Rattle.lamp.proofs.Planning.{coarse-refused, coarse-exits, refused-exits}
+use Rattle.theory.specs.Outcomes.{coarse-refused}
+use Rattle.lamp.proofs.Planning.{coarse-exits, refused-exits}
 use Rattle.lamp.proofs.Promised.{coarse-own, coarse-bound}
 use borrow.Author.Needs.{needs}
 use Rattle.lamp.proofs.lamp_plan_coarse.Statement.{statement}

@@ -1,6 +1,7 @@
 use mathlib.Core.Path.{sym, _∙_}
 use Rattle.card.proofs.Groups.{refused-answer, ready}
-use Rattle.lamp.proofs.Planning.{exact-refused, exact-exits, refused-exits}
+use Rattle.theory.specs.Outcomes.{exact-refused}
+use Rattle.lamp.proofs.Planning.{exact-exits, refused-exits}
 use Rattle.lamp.proofs.Promised.{exact-own, exact-bound}
 use borrow.Author.Needs.{needs}
 use Rattle.lamp.proofs.lamp_plan_exact.Statement.{statement}
