@@ -1,6 +1,6 @@
 -- The answers of the two planners, by their tests on the table and the buffers, and their buffers at exit.
 use Prim.Native.Nat.{ℕ, _+_, _*_, _≤_, _<_}
-use mathlib.Core.Path.{_≡_, refl, sym, _∙_, ap}
+use mathlib.Core.Path.{_≡_, sym, _∙_}
 use mathlib.Core.Bool.{Bool, true, false}
 use mathlib.Core.List.{List, [], _∷_, _++_}
 use native.Mathlib.Nat.{mul-le-mul}
@@ -17,7 +17,7 @@ use Rattle.model.specs.declared.Answer.the-variants.{Cost, Refused}
 use Rattle.model.specs.Instance.{instanceOf, neverFalls}
 use Rattle.model.specs.Counts.{allCounts, coarseCounts}
 use Rattle.model.specs.Plans.{planCost, leastPlan}
-use Rattle.model.specs.Calls.{checkCard, planExact, planCoarse, nothing, area, onCard, exactWork, coarseWork, Gives}
+use Rattle.model.specs.Calls.{planExact, planCoarse, nothing, area, onCard, exactWork, coarseWork, Gives}
 use Rattle.model.specs.Calls.{answer, requestOf, refusals, applies, anyShort, lowest, successCost, atExit}
 use Rattle.model.specs.Calls.{exactPlanAtExit, exactWorkAtExit, coarsePlanAtExit, coarseWorkAtExit}
 use Rattle.laws.specs.Acceptance.{modules-range, card-size}
