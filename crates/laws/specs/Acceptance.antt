@@ -15,15 +15,15 @@ use Rattle.model.specs.Calls.{checkCard, applies, requestOf, answer, refusals, 
 use Rattle.laws.specs.Lowest.{lowest-passed}
 
 -- no refusal from 3 to 8 applies
-pub record Passes (s : List ℕ) : Type 0 where
-  pub rack : applies (requestOf (checkCard s)) RackSize ≡ false
-  pub slots : applies (requestOf (checkCard s)) SlotCount ≡ false
-  pub size : applies (requestOf (checkCard s)) CardLength ≡ false
-  pub prices : applies (requestOf (checkCard s)) PriceRange ≡ false
-  pub convexity : applies (requestOf (checkCard s)) NotConvex ≡ false
-  pub loads : applies (requestOf (checkCard s)) LoadRange ≡ false
+record Passes (s : List ℕ) : Type 0 where
+  rack : applies (requestOf (checkCard s)) RackSize ≡ false
+  slots : applies (requestOf (checkCard s)) SlotCount ≡ false
+  size : applies (requestOf (checkCard s)) CardLength ≡ false
+  prices : applies (requestOf (checkCard s)) PriceRange ≡ false
+  convexity : applies (requestOf (checkCard s)) NotConvex ≡ false
+  loads : applies (requestOf (checkCard s)) LoadRange ≡ false
 
-pub passes : (s : List ℕ) → answer (checkCard s) ≡ Cost 0 → Passes s
+passes : (s : List ℕ) → answer (checkCard s) ≡ Cost 0 → Passes s
 unfolding answer refusals successCost
 passes s e =
     let mark = lowest-passed _ _ _ e in
