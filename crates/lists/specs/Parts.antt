@@ -1,16 +1,14 @@
--- Lists of which a part was lent and has come back, and lists filled part by part.
-use Prim.Native.Nat.{ℕ, zero, suc, _+_, _-_, _*_, _≤_, _<_}
+-- Lists of which a part was lent and has come back, and the loop invariant of those filled part by part.
+use Prim.Native.Nat.{ℕ, zero, suc, _+_, _-_, _≤_, _<_}
 use mathlib.Core.Path.{_≡_, refl, ap, sym, _∙_}
 use mathlib.Core.Logic.{⊎-elim}
-use mathlib.Core.List.{List, [], _∷_, _++_, append-assoc}
-use lib.ListN.{length, getD, take, drop, replicate, length-append, length-drop, length-replicate, getD-replicate, List·getD-append}
-use lib.Seq.{length-take-le, take-at, drop-append-add, drop-drop, getD-append-add, getD-take, getD-drop}
-use borrow.Rule.Slice.PartMut.{midOf, putMid, post-is, mid-len, same-len-mid, take-put, drop-put}
-use native.Mathlib.Nat.{not-suc-le-zero, sub-zero, add-sub-cancel-left, le-dest, mul-le-mul-left}
-use native.Mathlib.Numerals.{add-one}
+use mathlib.Core.List.{List, [], _∷_, _++_}
+use lib.ListN.{length, getD, take, drop, replicate, length-replicate, getD-replicate, List·getD-append}
+use lib.Seq.{length-take-le, getD-append-add, getD-take, getD-drop}
+use borrow.Rule.Slice.PartMut.{midOf, putMid, mid-len, same-len-mid, take-put, drop-put}
+use native.Mathlib.Nat.{not-suc-le-zero, sub-zero, add-sub-cancel-left, le-dest}
 use native.Mathlib.Omega.{arith}
 use Rattle.lists.specs.Numbers.{le-or-lt}
-use Rattle.lists.specs.Lists.{tabulate, rows, length-rows}
 use Rattle.lists.specs.Filling.{Upto, upto-none}
 
 -- inside a list it does not matter what is read beyond its end
@@ -78,30 +76,3 @@ pub upto-front :
     ((k : ℕ) → k < e → f k ≡ x) → Upto f e old (new ++ drop e old)
 upto-front {f} {e} {x} {old} {new} within filled same =
     rw (sub-zero e) at (upto-part {new = new} (upto-none f old) (omega arith) within (rw (sub-zero e) filled) (λ k g. same k))
-
--- a list of equal entries
-pub tabulate-same : (n : ℕ) {f : ℕ → ℕ} {x : ℕ} → ((k : ℕ) → k < n → f k ≡ x) → tabulate n f ≡ replicate n x
-unfolding tabulate
-tabulate-same zero h = refl
-tabulate-same (suc n) h = rw (h 0 (omega arith), tabulate-same n (λ k g. h (suc k) (omega arith)))
-
--- row t of n rows of length m lies inside
-pub row-within : (m : ℕ) {n t size : ℕ} → t < n → m * n ≤ size → t * m + m ≤ size
-row-within m {n} {t} {size} h g = omega (arith, mul-le-mul-left m h)
-
--- Filling row by row: n rows of length m stand at the front, the rest is as it was.
-module _ (m n : ℕ) (f : ℕ → List ℕ) (even : (t : ℕ) → length (f t) ≡ m) (old : List ℕ) where
-  pub rows-size : n * m ≤ length old → length (rows n f ++ drop (n * m) old) ≡ length old
-  rows-size h = omega (arith, length-append (rows n f) (drop (n * m) old), length-rows m n f even, length-drop (n * m) old)
-
-  -- one row more
-  pub rows-more :
-      {l : List ℕ} → l ≡ rows n f ++ drop (n * m) old →
-      putMid (n * m) (n * m + m - n * m) l (f n) ≡ rows (n + 1) f ++ drop ((n + 1) * m) old
-  unfolding rows
-  rows-more {l} e =
-      let count : length (rows n f) ≡ n * m = length-rows m n f even in
-      let next : (n + 1) * m ≡ n * m + m = omega arith in
-      let behind : drop (n * m + m) (rows n f ++ drop (n * m) old) ≡ drop (n * m + m) old = rw (← count, drop-append-add, drop-drop) in
-      let front = take-at (rows n f) (drop (n * m) old) (n * m) count in
-      rw (e, front, post-is (n * m) (n * m + m) _ (omega arith), behind, next, add-one n, append-assoc)

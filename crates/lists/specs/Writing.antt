@@ -21,7 +21,7 @@ pub record Written (text : List ℕ) (p : ℕ) (old new : List ℕ) (next : ℕ)
   pub place : next ≡ p + length text
   pub bytes : new ≡ take p old ++ (text ++ drop (p + length text) old)
 
-pub written-none : (p : ℕ) (l : List ℕ) → p ≤ length l → Written [] p l l p
+written-none : (p : ℕ) (l : List ℕ) → p ≤ length l → Written [] p l l p
 written-none p l h =
     record { fits = omega arith; size = refl; place = omega arith; bytes = rw (add-zero p) (sym (take-append-drop p l)) }
 
@@ -76,10 +76,6 @@ pub start-within : (text old : List ℕ) {r : ℕ} {new : List ℕ} → r ≡ le
 unfolding atStart
 start-within text old e d = omega (arith, ap length d, length-append text (drop (length text) old))
 
-pub start-text : (text old : List ℕ) {r : ℕ} {new : List ℕ} → r ≡ length text → new ≡ atStart text old → take r new ≡ text
-unfolding atStart
-start-text text old e d = rw d (take-at text (drop (length text) old) _ (sym e))
-
 pub start-same :
     (a b old : List ℕ) {r : ℕ} {new : List ℕ} → a ≡ b → (r ≡ length a) × (new ≡ atStart a old) → (r ≡ length b) × (new ≡ atStart b old)
 start-same a b old e w = rw e at w
@@ -95,7 +91,7 @@ pub room-rest : {a b : List ℕ} {p q : ℕ} {old new : List ℕ} → Room (a ++
 room-rest {a} {b} h w = record { room = omega (arith, h .room, length-append a b, w .size, w .place) }
 
 -- the lengths of rows
-pub rows-rise : (f : ℕ → List ℕ) (j n : ℕ) → j ≤ n → length (rows j f) ≤ length (rows n f)
+rows-rise : (f : ℕ → List ℕ) (j n : ℕ) → j ≤ n → length (rows j f) ≤ length (rows n f)
 unfolding rows
 rows-rise f j n h =
     rises-to (λ k. length (rows k f)) n (λ k l. rw (add-one k) (omega (arith, length-append (rows k f) (f k)))) j n h (le-refl n)
@@ -110,7 +106,7 @@ rows-at-most b (suc n) f h =
 abbrev pub elementText : List ℕ → ℕ → List ℕ
 elementText l k = getD l k 0 ∷ []
 
-pub rows-of-elements : (l : List ℕ) → rows (length l) (elementText l) ≡ l
+rows-of-elements : (l : List ℕ) → rows (length l) (elementText l) ≡ l
 unfolding rows
 rows-of-elements l = first (length l) (le-refl (length l)) ∙ take-length l
   where

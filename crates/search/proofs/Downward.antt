@@ -1,6 +1,6 @@
 -- The downward pass: its recursion by place, and the loop.
 use Prim.Native.Nat.{ℕ, suc, _+_, _-_, _≤_, _<_}
-use mathlib.Core.Path.{_≡_, refl, sym, ap, _∙_}
+use mathlib.Core.Path.{_≡_, sym, ap, _∙_}
 use mathlib.Core.List.{List}
 use native.Mathlib.Nat.{sub-self}
 use native.Mathlib.Omega.{arith}
@@ -23,12 +23,10 @@ module _ (i : Instance) (counts : List ℕ) (l : ℕ) (before : ℕ → ℕ) whe
       (j : ℕ) → j < lastPlace counts →
       downward i counts l before j ≡ servedOrAbove i (countAtPlace counts j) l (before j) j (downward i counts l before (j + 1))
   unfolding downward fromTop servedOrAbove
-  downward-below j h = go (lastPlace counts - (j + 1)) (omega arith) (omega arith) refl
-    where
-      go :
-          (d : ℕ) → lastPlace counts - j ≡ suc d → lastPlace counts - suc d ≡ j → lastPlace counts - (j + 1) ≡ d →
-          downward i counts l before j ≡ servedOrAbove i (countAtPlace counts j) l (before j) j (downward i counts l before (j + 1))
-      go d e same above = rw (e, same, above)
+  downward-below j h =
+      let down : lastPlace counts - j ≡ suc (lastPlace counts - (j + 1)) = omega arith in
+      let here : lastPlace counts - suc (lastPlace counts - (j + 1)) ≡ j = omega arith in
+      rw (down, here)
 
 -- The loop at place j: that place's choice is in hand, and the lists hold those above it.
 pub record DownLoop

@@ -6,14 +6,14 @@ use native.Mathlib.Nat.{mod-lt}
 use native.Mathlib.Omega.{arith}
 use lib.ListN.{length, getD, drop, replicate}
 use Rattle.lists.specs.Lists.{getD-tabulate}
-use Rattle.lists.specs.InPlace.{front-row, front-entry}
+use Rattle.lists.specs.Rows.{front-row, front-entry}
 use Rattle.model.specs.Instance.{Instance, instanceOf}
 use Rattle.card.specs.declared.Header.{Header}
 use Rattle.columns.specs.Column.{column, selection, wayBack, searchedPlan, searchedCost}
+use Rattle.columns.specs.Laws.{upward-inside}
 use Rattle.search.specs.Written.{columnList, lastColumn, selectionRow, selectionRows, selectionsIn, wayThrough}
 use Rattle.search.specs.Asked.{Leading, Searchable}
 use Rattle.search.proofs.Allowed.{counts-small}
-use Rattle.search.proofs.Columns.{upward-inside}
 use Rattle.search.proofs.Slots.{row-size}
 
 module _ (i : Instance) (counts : List ℕ) where
@@ -27,9 +27,9 @@ module _ (i : Instance) (counts : List ℕ) where
 
   module _ (work : List ℕ) (some : 1 ≤ length counts) where
     -- each byte of the rows is a place
-    row-inside : (k : ℕ) → k < i .slots * length counts → getD (selectionsIn i counts work) k 0 < length counts
+    entry-inside : (k : ℕ) → k < i .slots * length counts → getD (selectionsIn i counts work) k 0 < length counts
     unfolding selectionRows
-    row-inside k h =
+    entry-inside k h =
         let rest = drop (i .slots * length counts) work in
         let t = k / length counts in
         let j = k % length counts in
@@ -58,7 +58,7 @@ module _ {s : List ℕ} {h : Header} {counts column₀ plan work : List ℕ} (p 
           some = some-count;
           counts-range = counts-small s (p .ahead .ready .accepted) (p .ahead .allowed);
           room = omega (arith, p .ahead .work-room);
-          inside = λ k b. rw filled (row-inside (instanceOf s) counts work some-count k (omega arith));
+          inside = λ k b. rw filled (entry-inside (instanceOf s) counts work some-count k (omega arith));
         }
 
     pub plan-found :

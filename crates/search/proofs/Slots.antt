@@ -5,10 +5,10 @@ use mathlib.Core.List.{List, _++_}
 use native.Mathlib.Nat.{sub-zero, zero-mul, mul-le-mul, mul-le-mul-right}
 use native.Mathlib.Numerals.{add-one}
 use native.Mathlib.Omega.{arith}
-use lib.ListN.{length, take, drop, length-append, length-drop}
+use lib.ListN.{length, take, drop}
 use borrow.Rule.Slice.PartMut.{mid-len}
-use Rattle.lists.specs.Lists.{rows, length-tabulate, getD-tabulate, length-rows}
-use Rattle.lists.specs.InPlace.{tabulate-same, next-row}
+use Rattle.lists.specs.Lists.{rows, length-tabulate, getD-tabulate, tabulate-same}
+use Rattle.lists.specs.Rows.{row-within, rows-size, next-row}
 use Rattle.model.specs.Instance.{Instance, instanceOf, loadPlace}
 use Rattle.model.specs.Counts.{operatingCost}
 use Rattle.model.specs.Thesis.{switchingPrice}
@@ -17,12 +17,12 @@ use Rattle.card.specs.declared.Header.{Header}
 use Rattle.card.specs.Reading.{Within}
 use Rattle.card.proofs.Room.{load-within}
 use Rattle.columns.specs.Column.{countAtPlace, lastPlace, upward, column, selection}
+use Rattle.columns.specs.Laws.{upward-same, column-bound}
 use Rattle.search.specs.Written.{costIn, Holds, priceList, columnList, lastColumn, selectionRow, selectionRows, selectionsIn}
 use Rattle.search.specs.Asked.{AtMost, Priced, PricedSlot, SlotsAhead, mostCost}
 use Rattle.counts.proofs.Division.{running-most}
 use Rattle.search.proofs.Bounds.{table-at-most}
 use Rattle.search.proofs.Allowed.{counts-fit, counts-small, full-served}
-use Rattle.search.proofs.Columns.{upward-same, column-bound}
 
 -- before slot t: the column after t slots, and t rows of selections in front of what the buffer held
 pub record SlotLoop (i : Instance) (counts work₀ costs work : List ℕ) (t : ℕ) : Type 0 where
@@ -113,8 +113,8 @@ module _ {s : List ℕ} {h : Header} {counts costs₀ work₀ : List ℕ} (p : S
       }
 
   -- no cost after t slots exceeds the start's prices and a full rack for each slot
-  column-small : (t : ℕ) → t ≤ instanceOf s .slots → (j : ℕ) → column (instanceOf s) counts 0 t j ≤ mostCost
-  column-small t within j =
+  column-small : (t j : ℕ) → t ≤ instanceOf s .slots → j < length counts → column (instanceOf s) counts 0 t j ≤ mostCost
+  column-small t j within inside =
       let accepted = p .ready .accepted in
       let modules = modules-range s accepted .1 in
       let slots = slots-range s accepted in
@@ -122,9 +122,10 @@ module _ {s : List ℕ} {h : Header} {counts costs₀ work₀ : List ℕ} (p : S
       let off = down-range s accepted in
       let price =
       mul-le-mul {n₁ = switchingPrice (instanceOf s)} {m₁ = instanceOf s .modules} {n₂ = 1000000000} {m₂ = 200} (omega arith) modules in
-      let each =
-      column-bound (instanceOf s) counts (instanceOf s .modules) 200000000 (instanceOf s .slots) (counts-fit (p .allowed)) full in
-      omega (arith, each t within j)
+      let some : 1 ≤ length counts = omega (arith, p .allowed .two) in
+      let most =
+      column-bound (instanceOf s) counts 0 (instanceOf s .modules) 200000000 some (λ k _. counts-fit (p .allowed) k) full in
+      omega (arith, most t j within inside)
     where
       full :
           (t : ℕ) → t < instanceOf s .slots →
@@ -135,22 +136,22 @@ module _ {s : List ℕ} {h : Header} {counts costs₀ work₀ : List ℕ} (p : S
     pub work-long : length work ≡ length work₀
     unfolding selectionRows
     work-long =
-        let rows-long = length-rows (length counts) t (selectionRow (instanceOf s) counts) (row-size (instanceOf s) counts) in
-        let within = f .within in
+        let rows-fit = mul-le-mul-right (length counts) (f .within) in
         ap length (f .work-is) ∙
-        simp (length-append, length-drop) (omega (arith, p .work-room, mul-le-mul-right (length counts) within))
+        rows-size (length counts) (selectionRow (instanceOf s) counts) (row-size (instanceOf s) counts) t work₀
+        (omega (arith, p .work-room))
 
     pub column-kept : length costs ≡ length costs₀
     column-kept = ap length (f .column-is) ∙ column-long (instanceOf s) counts t ∙ sym (p .column-size)
 
     pub row-room : t < h .slots → t * length counts + length counts ≤ length work
-    row-room g = omega (arith, work-long, p .work-room, mul-le-mul-right (length counts) (slot-inside g))
+    row-room g = row-within (length counts) (slot-inside g) (omega (arith, work-long, p .work-room))
 
     costs-small : AtMost mostCost costs
     unfolding columnList
     costs-small =
         rw (f .column-is)
-        (table-at-most (length counts) mostCost (column (instanceOf s) counts 0 t) (λ j _. column-small t (f .within) j))
+        (table-at-most (length counts) mostCost (column (instanceOf s) counts 0 t) (λ j inside. column-small t j (f .within) inside))
 
     pub slot-ready :
         {top l a e : ℕ} → top ≡ h .top → t < h .slots → l ≡ instanceOf s .load t → a ≡ t * length counts →

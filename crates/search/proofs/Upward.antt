@@ -6,29 +6,16 @@ use native.Mathlib.Nat.{le-refl}
 use native.Mathlib.Numerals.{add-one}
 use native.Mathlib.Omega.{arith}
 use lib.ListN.{length, set}
-use Rattle.lists.specs.Filling.{Upto, upto-more, upto-all}
-use Rattle.lists.specs.InPlace.{upto-first}
+use Rattle.lists.specs.Filling.{Upto, upto-first, upto-more, upto-all}
 use Rattle.model.specs.Instance.{Instance}
 use Rattle.model.specs.Thesis.{switchingPrice}
 use Rattle.columns.specs.Column.{Choice, cheaper, countAtPlace, downward, upward}
+use Rattle.columns.specs.Laws.{cheaper-bound}
 use Rattle.search.specs.Written.{rising, choiceIn, Holds}
 use Rattle.search.specs.Asked.{Choices, mostCost}
 use Rattle.search.proofs.Bounds.{price-small}
-use Rattle.search.proofs.Columns.{cheaper-bound}
 
 module _ (price : ℕ) (counts : List ℕ) (given : ℕ → Choice) where
-  rising-next :
-      (j : ℕ) →
-      rising price counts given (j + 1) ≡
-      cheaper
-      (record {
-        cost = rising price counts given j .cost + price * (countAtPlace counts (j + 1) - countAtPlace counts j);
-        at = rising price counts given j .at;
-      })
-      (given (j + 1))
-  unfolding rising
-  rising-next j = rw add-one
-
   rising-bound : (j : ℕ) → rising price counts given j .cost ≤ given j .cost
   unfolding rising
   rising-bound zero = le-refl (given 0 .cost)
@@ -71,10 +58,11 @@ module _ {price : ℕ} {counts column₀ places₀ : List ℕ} (p : Choices pric
         (choiceIn column places (j + 1))
 
     above-is : above ≡ rising price counts (choiceIn column₀ places₀) (j + 1)
+    unfolding rising
     above-is =
         let cost = f .costs .kept (j + 1) (omega arith) in
         let at-place = f .at-places .kept (j + 1) (omega arith) in
-        rw (cost, at-place, f .here, rising-next price counts (choiceIn column₀ places₀) j)
+        rw (cost, at-place, f .here, add-one j)
 
     pub up-turns :
         {next : Choice} → j + 1 < length counts → next ≡ above →

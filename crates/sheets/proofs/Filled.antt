@@ -7,7 +7,8 @@ use native.Mathlib.Omega.{arith}
 use lib.ListN.{length, getD, drop}
 use borrow.Rule.Slice.PartMut.{midOf, putMid}
 use Rattle.lists.specs.Lists.{tabulate, length-tabulate, rows, length-rows}
-use Rattle.lists.specs.Parts.{part-length, row-within, rows-size, rows-more}
+use Rattle.lists.specs.Parts.{part-length}
+use Rattle.lists.specs.Rows.{row-within, rows-size, next-row}
 use Rattle.model.specs.Instance.{Instance}
 use Rattle.model.specs.Plans.{moduleByte, slotRow, sheetOf}
 
@@ -28,10 +29,9 @@ filled-none i p old = record { within = omega arith; so-far = rw (zero-mul (i .m
 
 module _ {i : Instance} {p old l : List ℕ} {t : ℕ} (given : Filled i p old t l) (room : i .modules * i .slots ≤ length old) where
   pub filled-size : length l ≡ length old
-  filled-size = ap length (given .so-far) ∙ rows-size (i .modules) t (planRow i p) (row-length i p) old (rows-before (given .within) room)
-    where
-      rows-before : t ≤ i .slots → i .modules * i .slots ≤ length old → t * i .modules ≤ length old
-      rows-before h g = omega (arith, mul-le-mul-left (i .modules) h)
+  filled-size =
+      let rows-fit = mul-le-mul-left (i .modules) (given .within) in
+      ap length (given .so-far) ∙ rows-size (i .modules) (planRow i p) (row-length i p) t old (omega arith)
 
   pub filled-room : i .modules * i .slots ≤ length l
   filled-room = omega (arith, filled-size)
@@ -43,9 +43,11 @@ module _ {i : Instance} {p old l : List ℕ} {t : ℕ} (given : Filled i p old t
       Filled i p old (t + 1) (putMid (t * m) (t * m + m - t * m) l row)
   unfolding slotRow
   filled-more {m} {n} {load} {row} h m-is n-is load-is filled =
+      let start : t * m ≡ t * i .modules = rw m-is in
+      let width : t * m + m - t * m ≡ i .modules = omega arith in
       record {
         within = omega arith;
-        so-far = rw (whole, m-is) (rows-more (i .modules) t (planRow i p) (row-length i p) old (given .so-far));
+        so-far = rw whole (next-row (i .modules) (planRow i p) (row-length i p) t old start width (given .so-far));
       }
     where
       long : t * m + m ≤ length l

@@ -10,7 +10,8 @@ use lib.ListN.{length, getD}
 use borrow.Author.Tests.{leb-true, le-leb, lt-leb}
 use borrow.Rule.Slice.PartMut.{midOf}
 use Rattle.lists.specs.Tests.{every-at}
-use Rattle.lists.specs.Parts.{part-length, row-within}
+use Rattle.lists.specs.Parts.{part-length}
+use Rattle.lists.specs.Rows.{row-within}
 use Rattle.model.specs.Instance.{Instance, instanceOf, loadPlace}
 use Rattle.model.specs.Counts.{canServe}
 use Rattle.model.specs.Plans.{planServes}

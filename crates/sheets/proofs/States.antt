@@ -10,7 +10,8 @@ use lib.Dec.{eqb, ltb}
 use borrow.Author.Tests.{lt-ltb, le-ltb, eq-eqb, ne-eqb}
 use borrow.Rule.Slice.PartMut.{midOf}
 use Rattle.lists.specs.Sums.{sum, sum-ext}
-use Rattle.lists.specs.Parts.{getD-within, part-length, part-at, row-within}
+use Rattle.lists.specs.Parts.{getD-within, part-length, part-at}
+use Rattle.lists.specs.Rows.{row-within}
 use Rattle.model.specs.Instance.{Instance}
 use Rattle.model.specs.Sheets.{off, stepOf, stateAt, lightAt}
 use Rattle.sheets.specs.Marks.{rowLight}
@@ -38,7 +39,7 @@ module _ (i : Instance) (s : List ℕ) (size : length s ≡ i .modules * i .slot
       rw (le-ltb (suc t * i .modules + k) (i .modules) later, place) (sym (state-is t k (omega arith) g))
 
   -- a row's light, and the test of it
-  pub row-light-is : {m t : ℕ} → m ≡ i .modules → t < i .slots → rowLight (midOf (t * m) (t * m + m - t * m) s) ≡ lightAt i s (suc t)
+  row-light-is : {m t : ℕ} → m ≡ i .modules → t < i .slots → rowLight (midOf (t * m) (t * m + m - t * m) s) ≡ lightAt i s (suc t)
   unfolding rowLight lightAt
   row-light-is {m} {t} m-is h =
       rw m-is

@@ -56,7 +56,7 @@ module _ (i : Instance) (s : List ℕ) (size : length s ≡ i .modules * i .slot
       rw (add-one (i .slots)) (omega (arith, apart, steps-are, changes-are, last))
 
   -- no slots
-  pub cost-empty : i .slots ≡ 0 → 0 ≡ sheetCost i s
+  cost-empty : i .slots ≡ 0 → 0 ≡ sheetCost i s
   unfolding bytesCost sum stateAt
   cost-empty e =
       let none : length s ≡ 0 = size ∙ ap (λ (n : ℕ). i .modules * n) e ∙ mul-zero (i .modules) in
@@ -66,7 +66,7 @@ module _ (i : Instance) (s : List ℕ) (size : length s ≡ i .modules * i .slot
 
   -- the rows of a sheet with slots, where the last begins at place last
   module _ {last t : ℕ} (slots-are : suc t ≡ i .slots) (last-is : last ≡ t * i .modules) where
-    pub rows-all : i .modules + last ≡ length s
+    rows-all : i .modules + last ≡ length s
     rows-all = omega (arith, size, ap (λ (n : ℕ). i .modules * n) slots-are)
 
     stop-row : rowStopCost (i .powerDown) (from last s) ≡ sum (i .modules) lastChange
@@ -78,7 +78,7 @@ module _ (i : Instance) (s : List ℕ) (size : length s ≡ i .modules * i .slot
         state : (k : ℕ) → k < i .modules → getD s (last + k) 0 ≡ stateAt i s (i .slots) k
         state k g = rw last-is (sym (state-is i s size t k (omega arith) g)) ∙ ap (λ (n : ℕ). stateAt i s n k) slots-are
 
-    pub cost-whole :
+    cost-whole :
         {start rest stop : ℕ} → start ≡ bytesCost i allOff (take (i .modules) s) →
         rest ≡ bytesCost i (byteAt (take last s)) (from (i .modules) s) → stop ≡ rowStopCost (i .powerDown) (from last s) →
         start + rest + stop ≡ sheetCost i s
