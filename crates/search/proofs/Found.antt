@@ -4,7 +4,7 @@ use mathlib.Core.Path.{_≡_, refl, ap, _∙_}
 use mathlib.Core.List.{List}
 use native.Mathlib.Nat.{mod-lt}
 use native.Mathlib.Omega.{arith}
-use lib.ListN.{length, getD, drop, replicate}
+use lib.ListN.{length, getD, drop}
 use Rattle.lists.specs.Lists.{getD-tabulate}
 use Rattle.lists.specs.Rows.{front-row, front-entry}
 use Rattle.model.specs.Instance.{Instance, instanceOf}
@@ -67,9 +67,6 @@ module _ {s : List ℕ} {h : Header} {counts column₀ plan work : List ℕ} (p 
     plan-found e =
         let same = way-same (instanceOf s) counts work some-count (instanceOf s .slots) 0 (omega arith) some-count in
         e ∙ rw (filled, p .plan-size) same
-
-    pub cleared : {work₂ : List ℕ} → work₂ ≡ replicate (length work₁) 0 → work₂ ≡ replicate (length work) 0
-    cleared e = e ∙ rw kept
 
   pub cost-found :
       {column₁ : List ℕ} → column₁ ≡ lastColumn (instanceOf s) counts → getD column₁ 0 0 ≡ searchedCost (instanceOf s) counts 0

@@ -5,9 +5,6 @@ use Rattle.sheets.proofs.Slots.{switching-most, slot-kept, slot-raised}
 use borrow.Author.Needs.{needs}
 use Rattle.sheets.proofs.slot_cost.Statement.{statement}
 use Rattle.sheets.proofs.slot_cost.Tie as tie
-use Rattle.sheets.proofs.slot_cost.Reads as reads
-use Rattle.sheets.proofs.slot_cost.Lts as lts
-use Rattle.counts.proofs.operating_cost.Reads as operating-cost-reads
 
 operating-cost-requires : tie.Need-operating-cost-requires
 operating-cost-requires c κs = search needs
@@ -43,6 +40,4 @@ returns-2 c =
     slot-raised _ _ _ _ (c .before .before .operating-cost .ensures) (p .up-is) (p .down-is)
 
 pub slot-cost-spec : {M : Type 1} → statement M
-slot-cost-spec =
-    tie.close
-    (tie.spec operating-cost-requires returns add-price sub-result mul-result add-result returns-2)
+slot-cost-spec = tie.close (tie.spec operating-cost-requires returns add-price sub-result mul-result add-result returns-2)
