@@ -26,7 +26,7 @@ upto-first old e =
 pub upto-more :
     {f : ℕ → ℕ} {j x : ℕ} {old new : List ℕ} → Upto f j old new → j < length old → x ≡ f j → Upto f (j + 1) old (set new j x)
 upto-more {f} {j} {x} {old} {new} u h e =
-    let long : j < length new = omega (arith, u .size) in
+    let long : j < length new = omega arith in
     record {
       size = length-set new j x ∙ u .size;
       done = λ k g i.
@@ -55,7 +55,7 @@ downto-none f old = record { size = refl; done = λ k h g. absurd (omega arith);
 pub downto-more :
     {f : ℕ → ℕ} {j x : ℕ} {old new : List ℕ} → Downto f (j + 1) old new → j < length old → x ≡ f j → Downto f j old (set new j x)
 downto-more {f} {j} {x} {old} {new} u h e =
-    let long : j < length new = omega (arith, u .size) in
+    let long : j < length new = omega arith in
     record {
       size = length-set new j x ∙ u .size;
       done = λ k g i.

@@ -55,7 +55,7 @@ upto-part {f} {a} {e} {x} {old} {l} {new} u order within filled same =
     }
   where
     long : e ≤ length l
-    long = omega (arith, u .size)
+    long = omega arith
 
     size : length new ≡ e - a
     size = ap length filled ∙ length-replicate _ x ∙ mid-len a e l long

@@ -23,7 +23,7 @@ counts-fit {counts} a j =
     ⊎-elim
     (λ (h : length counts ≤ j). omega (arith, List·getD-eq-default counts 0 h))
     (λ (h : j < length counts).
-    omega (arith, a .last, rises-to (countAtPlace counts) (lastPlace counts) (λ k g. le-of-lt (a .rises k (omega arith))) j (lastPlace counts) (omega arith) (le-refl _)))
+    omega (arith, rises-to (countAtPlace counts) (lastPlace counts) (λ k g. le-of-lt (a .rises k (omega arith))) j (lastPlace counts) (omega arith) (le-refl _)))
     (le-or-lt (length counts) j)
 
 -- on an accepted card

@@ -50,8 +50,8 @@ module _
       best ≡ servedAt (instanceOf s) (countAtPlace counts j) l (costIn column₀ j) j → Loop column₀ places₀ best j
   down-starts {best} {j} last e =
       let two = p .allowed .two in
-      let column-end : j + 1 ≡ length column₀ = omega (arith, p .column-size) in
-      let places-end : j + 1 ≡ length places₀ = omega (arith, p .places-size) in
+      let column-end : j + 1 ≡ length column₀ = omega arith in
+      let places-end : j + 1 ≡ length places₀ = omega arith in
       record {
         inside = omega arith;
         here = e ∙ sym (downward-last (instanceOf s) counts l (costIn column₀) j last);
@@ -61,10 +61,10 @@ module _
 
   module _ {column places : List ℕ} {best : Choice} {j : ℕ} (f : Loop column places best j) where
     stored-costs : Downto (λ k. down k .cost) j column₀ (set column j (best .cost))
-    stored-costs = downto-more (f .costs) (omega (arith, f .inside, p .column-size)) (ap (λ c. c .cost) (f .here))
+    stored-costs = downto-more (f .costs) (omega arith) (ap (λ c. c .cost) (f .here))
 
     stored-places : Downto (λ k. down k .at) j places₀ (set places j (best .at))
-    stored-places = downto-more (f .at-places) (omega (arith, f .inside, p .places-size)) (ap (λ c. c .at) (f .here))
+    stored-places = downto-more (f .at-places) (omega arith) (ap (λ c. c .at) (f .here))
 
     -- the entry below is as it was
     entry-below : (x : ℕ) → 0 < j → getD (set column j x) (j - 1) 0 ≡ getD column₀ (j - 1) 0
@@ -87,9 +87,9 @@ module _
         Loop (set column j (best .cost)) (set places j (best .at)) next (j - 1)
     down-turns {next} h e =
         let back : j - 1 + 1 ≡ j = omega arith in
-        let below = downward-below (instanceOf s) counts l (costIn column₀) (j - 1) (omega (arith, f .inside)) in
+        let below = downward-below (instanceOf s) counts l (costIn column₀) (j - 1) (omega arith) in
         record {
-          inside = omega (arith, f .inside);
+          inside = omega arith;
           here = e ∙ rw (entry-below (best .cost) h, below, back, f .here);
           costs = rw back stored-costs;
           at-places = rw back stored-places;

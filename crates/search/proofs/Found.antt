@@ -48,7 +48,7 @@ module _ (i : Instance) (counts : List ℕ) where
 
 module _ {s : List ℕ} {h : Header} {counts column₀ plan work : List ℕ} (p : Searchable s h counts column₀ plan work) where
   some-count : 1 ≤ length counts
-  some-count = omega (arith, p .ahead .allowed .two)
+  some-count = omega arith
 
   module _ {work₁ : List ℕ} (kept : length work₁ ≡ length work) (filled : work₁ ≡ selectionsIn (instanceOf s) counts work) where
     pub leads-back : Leading counts work₁ plan
@@ -57,7 +57,7 @@ module _ {s : List ℕ} {h : Header} {counts column₀ plan work : List ℕ} (p 
         record {
           some = some-count;
           counts-range = counts-small s (p .ahead .ready .accepted) (p .ahead .allowed);
-          room = omega (arith, p .ahead .work-room);
+          room = omega arith;
           inside = λ k b. rw filled (entry-inside (instanceOf s) counts work some-count k (omega arith));
         }
 

@@ -34,11 +34,11 @@ module _
         record {
           priced =
               record {
-                price-range = omega (arith, p .price-is);
+                price-range = omega arith;
                 counts-range = counts-small s (q .accepted) (q .allowed);
                 column-size = rw (first .costs-are) (length-tabulate (length counts) _);
               };
-          some = omega (arith, q .allowed .two);
+          some = omega arith;
           rises = λ j h. le-of-lt (q .allowed .rises j h);
           places-size = rw (first .places-are) (length-tabulate (length counts) _);
           small =

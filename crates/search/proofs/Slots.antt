@@ -76,12 +76,12 @@ module _ {i : Instance} {counts work₀ costs work : List ℕ} {t : ℕ} (f : Sl
       }
 
   pub slots-end : i .slots ≤ t → (costs ≡ lastColumn i counts) × (work ≡ selectionsIn i counts work₀)
-  slots-end h = let all : t ≡ i .slots = omega (arith, f .within) in (rw all at (f .column-is), rw all at (f .work-is))
+  slots-end h = let all : t ≡ i .slots = omega arith in (rw all at (f .column-is), rw all at (f .work-is))
 
 -- what the loop hands on
 module _ {s : List ℕ} {h : Header} {counts costs₀ work₀ : List ℕ} (p : SlotsAhead s h counts costs₀ work₀) where
   pub price-is : h .up + h .down ≡ switchingPrice (instanceOf s)
-  price-is = omega (arith, p .ready .header .up-is, p .ready .header .down-is)
+  price-is = omega arith
 
   pub slot-inside : {t : ℕ} → t < h .slots → t < instanceOf s .slots
   slot-inside g = rw (p .ready .header .slots-is) at g
@@ -122,7 +122,7 @@ module _ {s : List ℕ} {h : Header} {counts costs₀ work₀ : List ℕ} (p : S
       let off = down-range s accepted in
       let price =
       mul-le-mul {n₁ = switchingPrice (instanceOf s)} {m₁ = instanceOf s .modules} {n₂ = 1000000000} {m₂ = 200} (omega arith) modules in
-      let some : 1 ≤ length counts = omega (arith, p .allowed .two) in
+      let some : 1 ≤ length counts = omega arith in
       let most =
       column-bound (instanceOf s) counts 0 (instanceOf s .modules) 200000000 some (λ k _. counts-fit (p .allowed) k) full in
       omega (arith, most t j within inside)
@@ -139,13 +139,13 @@ module _ {s : List ℕ} {h : Header} {counts costs₀ work₀ : List ℕ} (p : S
         let rows-fit = mul-le-mul-right (length counts) (f .within) in
         ap length (f .work-is) ∙
         rows-size (length counts) (selectionRow (instanceOf s) counts) (row-size (instanceOf s) counts) t work₀
-        (omega (arith, p .work-room))
+        (omega arith)
 
     pub column-kept : length costs ≡ length costs₀
     column-kept = ap length (f .column-is) ∙ column-long (instanceOf s) counts t ∙ sym (p .column-size)
 
     pub row-room : t < h .slots → t * length counts + length counts ≤ length work
-    row-room g = row-within (length counts) (slot-inside g) (omega (arith, work-long, p .work-room))
+    row-room g = row-within (length counts) (slot-inside g) (omega (arith, work-long))
 
     costs-small : AtMost mostCost costs
     unfolding columnList

@@ -43,7 +43,7 @@ module _ {price : ℕ} {counts column₀ places₀ : List ℕ} (p : Choices pric
   unfolding rising
   up-starts =
       record {
-        inside = omega (arith, p .some);
+        inside = omega arith;
         here = refl;
         costs = upto-first column₀ refl;
         at-places = upto-first places₀ refl;
@@ -72,15 +72,15 @@ module _ {price : ℕ} {counts column₀ places₀ : List ℕ} (p : Choices pric
         record {
           inside = h;
           here = here;
-          costs = upto-more (f .costs) (omega (arith, p .priced .column-size)) (ap (λ c. c .cost) here);
-          at-places = upto-more (f .at-places) (omega (arith, p .places-size)) (ap (λ c. c .at) here);
+          costs = upto-more (f .costs) (omega arith) (ap (λ c. c .cost) here);
+          at-places = upto-more (f .at-places) (omega arith) (ap (λ c. c .at) here);
         }
 
     pub up-ends : length counts ≤ j + 1 → Holds counts (rising price counts (choiceIn column₀ places₀)) column places
     up-ends h =
         record {
-          costs-are = rw (← (p .priced .column-size)) (upto-all (f .costs) (omega (arith, p .priced .column-size)));
-          places-are = rw (← (p .places-size)) (upto-all (f .at-places) (omega (arith, p .places-size)));
+          costs-are = rw (← (p .priced .column-size)) (upto-all (f .costs) (omega arith));
+          places-are = rw (← (p .places-size)) (upto-all (f .at-places) (omega arith));
         }
 
     -- the sums are small

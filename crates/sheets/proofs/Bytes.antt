@@ -64,7 +64,7 @@ unfolding sheetEntries
 part-ready {s} {h} {sheet} given a part inside same =
     record {
       ready = given .sized .ready;
-      few = omega (arith, given .sized .size, area-small s (given .sized .ready .accepted));
+      few = omega (arith, area-small s (given .sized .ready .accepted));
       in-range = λ x below.
           let place : a + x < length sheet = omega arith in
           rw (same x below, getD-within sheet (a + x) 0 off place) (every-at (length sheet) _ (given .entries) (a + x) place);
@@ -132,4 +132,4 @@ module _ {s : List ℕ} {h : Header} {bytes : List ℕ} (given : BytesReady s h 
 
   pub bytes-most : {cost : ℕ} → cost ≡ bytesCost (instanceOf s) before bytes → cost ≤ 204800 * 501000000
   unfolding bytesCost
-  bytes-most e = omega (arith, sum-at-most (length bytes) bytes-each, given .few)
+  bytes-most e = omega (arith, sum-at-most (length bytes) bytes-each)

@@ -62,7 +62,7 @@ module _ {i : Instance} {p old l : List ℕ} {t : ℕ} (given : Filled i p old t
       i .slots ≤ t → l ≡ sheetOf i p ++ drop (length (sheetOf i p)) old
   unfolding sheetOf
   filled-all h =
-      let same : t ≡ i .slots = omega (arith, given .within) in
+      let same : t ≡ i .slots = omega arith in
       let count = length-rows (i .modules) (i .slots) (planRow i p) (row-length i p) in
       given .so-far ∙ ap (λ (x : ℕ). rows x (planRow i p) ++ drop (x * i .modules) old) same ∙
       ap (λ (x : ℕ). rows (i .slots) (planRow i p) ++ drop x old) (sym count)

@@ -46,5 +46,5 @@ module _ (n l : ℕ) (some : n ≡ 0 → ⊥) where
       let first : Upto (moduleByte n l) (l % n) row (next ++ drop (l % n) row) = upto-front (omega arith) e byte-next in
       let active : Upto (moduleByte n l) n row (putMid (l % n) (n - l % n) (next ++ drop (l % n) row) step) =
       upto-part first (omega arith) h f byte-step in
-      upto-all (upto-part active (omega (arith, active .size)) (omega (arith, active .size)) g (λ k i j. byte-off n l k i))
-      (omega (arith, active .size))
+      upto-all (upto-part active (omega arith) (omega arith) g (λ k i j. byte-off n l k i))
+      (omega arith)

@@ -91,7 +91,7 @@ module _ {s : List ℕ} {h : Header} {sheet : List ℕ} (given : SheetReady s h 
 
   module _ (some : h .slots ≡ 0 → ⊥) where
     slots-before : suc (h .slots - 1) ≡ instanceOf s .slots
-    slots-before = omega (arith, given .sized .ready .header .slots-is)
+    slots-before = omega arith
 
     last-place : (h .slots - 1) * h .modules ≡ (h .slots - 1) * instanceOf s .modules
     last-place = ap (λ (n : ℕ). (h .slots - 1) * n) (given .sized .ready .header .modules-is)
@@ -120,8 +120,8 @@ module _ {s : List ℕ} {h : Header} {sheet : List ℕ} (given : SheetReady s h 
         let a = given .sized .ready .accepted in
         let numbers = given .sized .ready .header in
         record {
-          short = omega (arith, last-length sheet _ _ header-rows, numbers .modules-is, modules-range s a .1);
-          priced = omega (arith, numbers .down-is, down-range s a);
+          short = omega (arith, last-length sheet _ _ header-rows, modules-range s a .1);
+          priced = omega (arith, down-range s a);
         }
 
     pub sheet-whole :
@@ -141,4 +141,4 @@ pub row-stop-most : {down stop : ℕ} {row : List ℕ} → RowPriced down row �
 unfolding rowStopCost
 row-stop-most {down} {stop} {row} given e =
     let each = sum-at-most (length row) (stop-each row (given .priced)) in
-    omega (arith, each, given .short)
+    omega (arith, each)

@@ -69,7 +69,7 @@ loop-again c =
     let read = called .before .before .before in
     let test = read .before in
     let p = start (test .before) .pre in
-    slots-turn (test .before .loop .inv) (omega (arith, p .allowed .two)) (slot-inside p (test .loop-test .taken))
+    slots-turn (test .before .loop .inv) (omega arith) (slot-inside p (test .loop-test .taken))
     (read .load .ensures .is) refl refl (called .one-slot .ensures)
 
 same-length : tie.Need-same-length Inv-loop μ-loop

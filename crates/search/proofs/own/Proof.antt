@@ -8,7 +8,7 @@ operating-cost-requires : tie.Need-operating-cost-requires
 operating-cost-requires c κs = search needs
 
 add-cost : tie.Need-add-cost
-add-cost c = omega (arith, c .before .before .pre .1, c .operating-cost .ensures, running-most (c .before .before .pre .0))
+add-cost c = omega (arith, running-most (c .before .before .pre .0))
 
 returns : tie.Need-returns
 returns c = rw (c .operating-cost .ensures)

@@ -16,7 +16,7 @@ slice-read-cost : tie.Need-slice-read-cost
 slice-read-cost c =
     let rows = c .before .before .before .before .before in
     let p = start rows .pre .ahead in
-    omega (arith, p .allowed .two, p .column-size, rows .all-slots .kept .1 .1 .1 .0)
+    omega arith
 
 way-back-requires : tie.Need-way-back-requires
 way-back-requires c κs =

@@ -45,7 +45,7 @@ loop-less c = omega arith
 loop-again : tie.Need-loop-again Inv-loop μ-loop
 loop-again c =
     let size = c .before .before .before .pre .column-size in
-    upto-more (c .before .before .loop .inv) (omega (arith, c .before .loop-test .taken)) refl
+    upto-more (c .before .before .loop .inv) (omega arith) refl
 
 same-length : tie.Need-same-length Inv-loop μ-loop
 same-length c = c .before .loop .inv .size
@@ -54,7 +54,7 @@ returns : tie.Need-returns Inv-loop μ-loop
 unfolding priceList
 returns c =
     let size = c .before .before .pre .column-size in
-    rw (← size) (upto-all (c .before .loop .inv) (omega (arith, c .loop-test .left)))
+    rw (← size) (upto-all (c .before .loop .inv) (omega arith))
 
 pub start-column-spec : {M : Type 1} → statement M
 start-column-spec =

@@ -32,18 +32,18 @@ sub-t c = omega arith
 mul-at : tie.Need-mul-at Inv-loop μ-loop
 mul-at c =
     let p = start (c .before) .pre in
-    record { fits = omega (arith, row-inside p (c .before .loop .inv) (c .loop-test .taken), p .room) }
+    record { fits = omega (arith, row-inside p (c .before .loop .inv) (c .loop-test .taken)) }
 
 add-at : tie.Need-add-at Inv-loop μ-loop
 add-at c =
     let p = start (c .before) .pre in
-    record { fits = omega (arith, row-inside p (c .before .loop .inv) (c .loop-test .taken), p .room) }
+    record { fits = omega (arith, row-inside p (c .before .loop .inv) (c .loop-test .taken)) }
 
 shared-slice-read-wide : tie.Need-shared-slice-read-wide Inv-loop μ-loop
 shared-slice-read-wide c =
     let test = c .before in
     let p = start (test .before) .pre in
-    omega (arith, row-inside p (test .before .loop .inv) (test .loop-test .taken), p .room)
+    omega (arith, row-inside p (test .before .loop .inv) (test .loop-test .taken))
 
 wide-requires : tie.Need-wide-requires Inv-loop μ-loop
 wide-requires c κs = tt

@@ -25,7 +25,7 @@ entry-requires c κs =
 add-result : tie.Need-add-result
 add-result c =
     let p = c .before .before .before .before .before .before .pre .ready in
-    record { fits = omega (arith, p .header .up-is, up-range _ (p .accepted), c .before .before .entry .ensures .bound) }
+    record { fits = omega (arith, up-range _ (p .accepted)) }
 
 returns-2 : tie.Need-returns-2
 returns-2 c =

@@ -39,10 +39,10 @@ add-next : tie.Need-add-next
 add-next c = record { fits = omega (arith, step c) }
 
 slice-relend-prefix-fill : tie.Need-slice-relend-prefix-fill
-slice-relend-prefix-fill c = omega (arith, rest c, c .before .before .pre .in-row)
+slice-relend-prefix-fill c = omega (arith, rest c)
 
 slice-aggregate-fill : tie.Need-slice-aggregate-fill
-slice-aggregate-fill c = sym (length-take-le _ _ (omega (arith, rest (c .before), c .before .before .before .pre .in-row)))
+slice-aggregate-fill c = sym (length-take-le _ _ (omega (arith, rest (c .before))))
 
 fill-requires-2 : tie.Need-fill-requires-2
 fill-requires-2 c κs = search needs

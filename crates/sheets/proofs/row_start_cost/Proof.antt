@@ -32,7 +32,7 @@ add-cost c =
     let test = c .before .before in
     let p = start (test .before) .pre in
     let room = summed-room (test .before .loop .inv) (test .loop-test .taken) (c .byte-cost .ensures) (bytes-each p allOff) in
-    record { fits = omega (arith, room, p .few) }
+    record { fits = omega (arith, room) }
 
 add-k : tie.Need-add-k Inv-loop μ-loop
 add-k c = omega arith

@@ -29,7 +29,7 @@ add-cost c =
     let start = test .before .before .before in
     let each = stop-each (start .args .row .now) (start .pre .priced) in
     let room = summed-room (test .before .loop .inv) (test .loop-test .taken) (c .stop-cost .ensures) each in
-    record { fits = omega (arith, room, start .pre .short) }
+    record { fits = omega (arith, room) }
 
 add-k : tie.Need-add-k Inv-loop μ-loop
 add-k c = omega arith

@@ -37,7 +37,7 @@ add-cost c =
     let s = start (test .before) in
     let each = bytes-each (s .pre .0) (byteAt (s .args .earlier .now)) in
     let room = summed-room (test .before .loop .inv) (test .loop-test .taken) (c .byte-cost .ensures) each in
-    record { fits = omega (arith, room, s .pre .0 .few) }
+    record { fits = omega (arith, room) }
 
 add-x : tie.Need-add-x Inv-loop μ-loop
 add-x c = omega arith

@@ -42,13 +42,13 @@ part-slot-light-start c = omega arith
 part-slot-light-end : tie.Need-part-slot-light-end Inv-loop μ-loop
 part-slot-light-end c =
     let p = start (c .before) .pre in
-    row-there (p .ready) (in-header (p .ready) (c .loop-test .taken)) (omega (arith, p .size))
+    row-there (p .ready) (in-header (p .ready) (c .loop-test .taken)) (omega arith)
 
 slot-light-requires : tie.Need-slot-light-requires Inv-loop μ-loop
 slot-light-requires c κs =
     let test = c .before in
     let p = start (test .before) .pre in
-    row-short _ _ (p .ready) (row-there (p .ready) (in-header (p .ready) (test .loop-test .taken)) (omega (arith, p .size)))
+    row-short _ _ (p .ready) (row-there (p .ready) (in-header (p .ready) (test .loop-test .taken)) (omega arith))
 
 load-requires : tie.Need-load-requires Inv-loop μ-loop
 load-requires c κs =
@@ -65,7 +65,7 @@ returns c =
     let light = c .before .before .slot-light .ensures in
     passed-not (test .before .loop .inv) below
     (light-failed _ _ (p .size) (p .ready .header .modules-is) below light (c .before .load .ensures .is)
-    (λ e. omega (arith, c .if1 .taken)))
+    (λ e. omega arith))
 
 add-t : tie.Need-add-t Inv-loop μ-loop
 add-t c = omega arith

@@ -15,7 +15,7 @@ returns c = slot-kept _ _ _ _ (c .before .operating-cost .ensures) (c .if1 .take
 add-price : tie.Need-add-price
 add-price c =
     let p = c .before .before .before .before .pre .ready in
-    record { fits = omega (arith, p .header .up-is, p .header .down-is, up-range _ (p .accepted), down-range _ (p .accepted)) }
+    record { fits = omega (arith, up-range _ (p .accepted), down-range _ (p .accepted)) }
 
 sub-result : tie.Need-sub-result
 sub-result c = search needs
@@ -32,7 +32,7 @@ add-result c =
     let p = s .pre .ready .header in
     let run = running-most (s .pre .served) in
     let switching = switching-most (s .pre .served) (s .args .prev) (p .up-is) (p .down-is) in
-    record { fits = omega (arith, c .before .before .operating-cost .ensures, run, switching) }
+    record { fits = omega (arith, run, switching) }
 
 returns-2 : tie.Need-returns-2
 returns-2 c =

@@ -30,7 +30,7 @@ add-light c =
     let start = test .before .before .before in
     let each = step-each (start .args .row .now) (c .before .shared-slice-known2 .given) in
     let room = summed-room (test .before .loop .inv) (test .loop-test .taken) (c .step-of .ensures) each in
-    record { fits = omega (arith, room, start .pre .short) }
+    record { fits = omega (arith, room) }
 
 add-k : tie.Need-add-k Inv-loop μ-loop
 add-k c = omega arith
@@ -45,7 +45,7 @@ cast-result : tie.Need-cast-result Inv-loop μ-loop
 cast-result c =
     let start = c .before .before .before in
     let each = step-each (start .args .row .now) (c .before .before .shared-slice-known .given) in
-    record { fits = omega (arith, summed-most (c .before .loop .inv) each, start .pre .short) }
+    record { fits = omega (arith, summed-most (c .before .loop .inv) each) }
 
 returns : tie.Need-returns Inv-loop μ-loop
 unfolding rowLight
