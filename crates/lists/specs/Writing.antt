@@ -34,9 +34,8 @@ pub written-more :
     {a b : List ℕ} {p q r : ℕ} {old mid new : List ℕ} → Written a p old mid q → Written b q mid new r → Written (a ++ b) p old new r
 written-more {a} {b} {p} {q} {r} {old} {mid} {new} v w =
     let long = length-append a b in
-    let fits : p + length (a ++ b) ≤ length old = omega arith in
     record {
-      fits = fits;
+      fits = omega arith;
       size = w .size ∙ v .size;
       place = omega arith;
       bytes = w .bytes ∙ joined;
@@ -128,7 +127,6 @@ pub rows-room :
     Room (f k) next new
 unfolding rows
 rows-room {f} {n} {k = k} h w below =
-    let s = w .so-far in
     record { room = omega (arith, rows-rise f (suc k) n below, length-append (rows k f) (f k)) }
 
 pub rows-more :

@@ -16,8 +16,6 @@ use Rattle.search.specs.Asked.{InRack}
 module _ {s : List ℕ} {top n before : ℕ} (p : InRack s top n before) where
   pub product-small : n * top ≤ 40000
   product-small =
-      let rack = p .in-rack in
-      let top-is = p .top-is in
       mul-le-mul {n₁ = n} {m₁ = top} {n₂ = 200} {m₂ = 200}
       (omega (arith, modules-range s (p .accepted) .1)) (omega (arith, top-range s (p .accepted) .1))
 

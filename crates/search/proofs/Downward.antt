@@ -49,7 +49,6 @@ module _
       {best : Choice} {j : ℕ} → j ≡ length counts - 1 →
       best ≡ servedAt (instanceOf s) (countAtPlace counts j) l (costIn column₀ j) j → Loop column₀ places₀ best j
   down-starts {best} {j} last e =
-      let two = p .allowed .two in
       let column-end : j + 1 ≡ length column₀ = omega arith in
       let places-end : j + 1 ≡ length places₀ = omega arith in
       record {

@@ -1,5 +1,5 @@
 -- All slots, one after the other: the loop over them, and what it hands to each.
-use Prim.Native.Nat.{ℕ, suc, _+_, _-_, _*_, _≤_, _<_}
+use Prim.Native.Nat.{ℕ, _+_, _-_, _*_, _≤_, _<_}
 use mathlib.Core.Path.{_≡_, sym, ap, _∙_}
 use mathlib.Core.List.{List, _++_}
 use native.Mathlib.Nat.{sub-zero, zero-mul, mul-le-mul, mul-le-mul-right}
@@ -27,8 +27,8 @@ use Rattle.search.proofs.Allowed.{counts-fit, counts-small, full-served
 -- before slot t: the column after t slots, and t rows of selections in front of what the buffer held
 pub record SlotLoop (i : Instance) (counts work₀ costs work : List ℕ) (t : ℕ) : Type 0 where
   pub within : t ≤ i .slots
-  pub column-is : costs ≡ columnList i counts t
-  pub work-is : work ≡ selectionRows i counts t ++ drop (t * length counts) work₀
+  column-is : costs ≡ columnList i counts t
+  work-is : work ≡ selectionRows i counts t ++ drop (t * length counts) work₀
 
 pub row-size : (i : Instance) (counts : List ℕ) (t : ℕ) → length (selectionRow i counts t) ≡ length counts
 unfolding selectionRow
@@ -87,27 +87,20 @@ module _ {s : List ℕ} {h : Header} {counts costs₀ work₀ : List ℕ} (p : S
   slot-inside g = rw (p .ready .header .slots-is) at g
 
   pub row-small : {t : ℕ} → t < h .slots → t * length counts + length counts ≤ 262144
-  row-small {t} g =
-      let slot = slot-inside g in
-      let slots = slots-range s (p .ready .accepted) in
-      let area = mul-le-mul {n₁ = suc t} {m₁ = length counts} {n₂ = 1024} {m₂ = 256} (omega arith) (p .allowed .bytes) in
-      omega arith
+  row-small g = row-within (length counts) {n = 1024} (omega (arith, slots-range s (p .ready .accepted))) (omega arith)
 
   pub load-there : {t : ℕ} → t < h .slots → Within s (loadPlace (h .top) t) 2 × (h .top ≡ instanceOf s .topStep)
   load-there {t} g =
       let top-is = p .ready .header .top-is in
       (rw top-is (load-within s (p .ready .accepted) t (slot-inside g)), top-is)
 
-  pub up-small : h .up ≤ 500000000
-  up-small = rw (p .ready .header .up-is) (up-range s (p .ready .accepted))
+  pub price-most : h .up + h .down ≤ 1000000000
+  price-most = omega (arith, up-range s (p .ready .accepted), down-range s (p .ready .accepted))
 
-  pub down-small : h .down ≤ 500000000
-  down-small = rw (p .ready .header .down-is) (down-range s (p .ready .accepted))
-
-  pub start-priced : {price : ℕ} → price ≤ 1000000000 → Priced price counts costs₀
-  start-priced small =
+  pub start-priced : Priced (h .up + h .down) counts costs₀
+  start-priced =
       record {
-        price-range = small;
+        price-range = price-most;
         counts-range = counts-small s (p .ready .accepted) (p .allowed);
         column-size = p .column-size;
       }

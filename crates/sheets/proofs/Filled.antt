@@ -12,6 +12,7 @@ use Rattle.lists.specs.Rows.{row-within, rows-size, next-row}
 use Rattle.model.specs.Instance.{Instance}
 use Rattle.model.specs.Plans.{moduleByte, slotRow, sheetOf}
 
+-- the row of slot t by a plan
 abbrev planRow : Instance → List ℕ → ℕ → List ℕ
 planRow i p t = slotRow i (getD p t 0) (i .load t)
 
@@ -19,6 +20,7 @@ row-length : (i : Instance) (p : List ℕ) (t : ℕ) → length (planRow i p t) 
 unfolding slotRow
 row-length i p t = length-tabulate (i .modules) _
 
+-- the rows of the first t slots are the plan's, the rest is as it was
 pub record Filled (i : Instance) (p old : List ℕ) (t : ℕ) (new : List ℕ) : Type 0 where
   pub within : t ≤ i .slots
   pub so-far : new ≡ rows t (planRow i p) ++ drop (t * i .modules) old
@@ -58,8 +60,7 @@ module _ {i : Instance} {p old l : List ℕ} {t : ℕ} (given : Filled i p old t
           filled ∙ ap (λ (x : ℕ). tabulate x (moduleByte n load)) (part-length (t * m) m l long ∙ m-is) ∙
           rw (n-is, load-is)
 
-  pub filled-all :
-      i .slots ≤ t → l ≡ sheetOf i p ++ drop (length (sheetOf i p)) old
+  pub filled-all : i .slots ≤ t → l ≡ sheetOf i p ++ drop (length (sheetOf i p)) old
   unfolding sheetOf
   filled-all h =
       let same : t ≡ i .slots = omega arith in

@@ -20,6 +20,10 @@ use Rattle.sheets.specs.Marks.{rowLight}
 unfoldable pub stateBefore : ℕ → List ℕ → ℕ → ℕ
 stateBefore m s x = cond (ltb x m) off (getD s (x - m) 0)
 
+-- row t of rows of m bytes, as the code lends it
+abbrev lentRow : ℕ → ℕ → List ℕ → List ℕ
+lentRow m t s = midOf (t * m) (t * m + m - t * m) s
+
 module _ (i : Instance) (s : List ℕ) (size : length s ≡ i .modules * i .slots) where
   place-within : (t k : ℕ) → t < i .slots → k < i .modules → t * i .modules + k < length s
   place-within t k h g = omega (arith, size, digits-lt h g)
@@ -39,18 +43,16 @@ module _ (i : Instance) (s : List ℕ) (size : length s ≡ i .modules * i .slot
       rw (le-ltb (suc t * i .modules + k) (i .modules) later, place) (sym (state-is t k (omega arith) g))
 
   -- a row's light, and the test of it
-  row-light-is : {m t : ℕ} → m ≡ i .modules → t < i .slots → rowLight (midOf (t * m) (t * m + m - t * m) s) ≡ lightAt i s (suc t)
+  row-light-is : {m t : ℕ} → m ≡ i .modules → t < i .slots → rowLight (lentRow m t s) ≡ lightAt i s (suc t)
   unfolding rowLight lightAt
   row-light-is {m} {t} m-is h =
+      let count = part-length _ _ s (row-within (i .modules) h (omega (arith, size))) in
       rw m-is
-      (ap (λ (x : ℕ). sum x (λ k. stepOf (getD (midOf (t * i .modules) (t * i .modules + i .modules - t * i .modules) s) k 0))) count ∙
+      (ap (λ (x : ℕ). sum x (λ k. stepOf (getD (lentRow (i .modules) t s) k 0))) count ∙
       sum-ext (i .modules) (λ k g. ap stepOf (part-at _ _ s k 0 (omega arith) ∙ sym (state-is t k h g))))
-    where
-      count : length (midOf (t * i .modules) (t * i .modules + i .modules - t * i .modules) s) ≡ i .modules
-      count = part-length _ _ s (row-within (i .modules) h (omega (arith, size)))
 
-  module _ {m t x y : ℕ} (m-is : m ≡ i .modules) (below : t < i .slots)
-      (x-is : x ≡ rowLight (midOf (t * m) (t * m + m - t * m) s)) (y-is : y ≡ i .load t) where
+  module _
+      {m t x y : ℕ} (m-is : m ≡ i .modules) (below : t < i .slots) (x-is : x ≡ rowLight (lentRow m t s)) (y-is : y ≡ i .load t) where
     pub light-failed : (x ≡ y → ⊥) → eqb (lightAt i s (suc t)) (i .load t) ≡ false
     light-failed h = rw (← row-light-is m-is below, ← x-is, ← y-is) (ne-eqb x y h)
 

@@ -1,6 +1,6 @@
 -- The cost of a sheet is that of its bytes and of the changes to off after its last slot.
 use Prim.Native.Nat.{ℕ, suc, _+_, _-_, _*_, _≤_, _<_}
-use mathlib.Core.Path.{_≡_, ap, ap₂, sym, _∙_}
+use mathlib.Core.Path.{_≡_, refl, ap, ap₂, sym, _∙_}
 use mathlib.Core.List.{List}
 use native.Mathlib.Nat.{le-refl, zero-add, mul-comm, mul-zero}
 use native.Mathlib.Numerals.{add-one}
@@ -93,14 +93,9 @@ module _ {s : List ℕ} {h : Header} {sheet : List ℕ} (given : SheetReady s h 
     slots-before : suc (h .slots - 1) ≡ instanceOf s .slots
     slots-before = omega arith
 
-    last-place : (h .slots - 1) * h .modules ≡ (h .slots - 1) * instanceOf s .modules
-    last-place = ap (λ (n : ℕ). (h .slots - 1) * n) (given .sized .ready .header .modules-is)
-
     -- the first row and the rows before the last are the whole
     pub header-rows : h .modules + (h .slots - 1) * h .modules ≡ length sheet
-    header-rows =
-        let m = given .sized .ready .header .modules-is in
-        omega (arith, rows-all (instanceOf s) sheet (given .sized .size) slots-before last-place)
+    header-rows = rw (given .sized .ready .header .modules-is) (rows-all (instanceOf s) sheet (given .sized .size) slots-before refl)
 
     pub first-ready : BytesReady s h (take (h .modules) sheet)
     first-ready =
@@ -117,11 +112,10 @@ module _ {s : List ℕ} {h : Header} {sheet : List ℕ} (given : SheetReady s h 
 
     pub last-priced : RowPriced (h .down) (from ((h .slots - 1) * h .modules) sheet)
     last-priced =
-        let a = given .sized .ready .accepted in
-        let numbers = given .sized .ready .header in
+        let accepted = given .sized .ready .accepted in
         record {
-          short = omega (arith, last-length sheet _ _ header-rows, modules-range s a .1);
-          priced = omega (arith, down-range s a);
+          short = omega (arith, last-length sheet _ _ header-rows, modules-range s accepted .1);
+          priced = omega (arith, down-range s accepted);
         }
 
     pub sheet-whole :
@@ -131,10 +125,7 @@ module _ {s : List ℕ} {h : Header} {sheet : List ℕ} (given : SheetReady s h 
     sheet-whole e f g =
         let m = given .sized .ready .header .modules-is in
         let d = given .sized .ready .header .down-is in
-        cost-whole (instanceOf s) sheet (given .sized .size) slots-before last-place
-        (e ∙ ap (λ (n : ℕ). bytesCost (instanceOf s) allOff (take n sheet)) m)
-        (f ∙ ap (λ (n : ℕ). bytesCost (instanceOf s) (byteAt (take ((h .slots - 1) * h .modules) sheet)) (from n sheet)) m)
-        (g ∙ ap (λ (n : ℕ). rowStopCost n (from ((h .slots - 1) * h .modules) sheet)) d)
+        cost-whole (instanceOf s) sheet (given .sized .size) slots-before refl (rw m at e) (rw m at f) (rw (m, d) at g)
 
 -- the changes to off after a row cost little
 pub row-stop-most : {down stop : ℕ} {row : List ℕ} → RowPriced down row → stop ≡ rowStopCost down row → stop ≤ 200 * 500000000

@@ -2,7 +2,7 @@ use mathlib.Core.Path.{refl}
 use Prim.Native.Nat.{_-_}
 use native.Mathlib.Omega.{arith}
 use Rattle.model.specs.Instance.{instanceOf}
-use Rattle.search.proofs.Slots.{SlotLoop, slots-start, slots-turn, slots-end, price-is, up-small, down-small, start-priced}
+use Rattle.search.proofs.Slots.{SlotLoop, slots-start, slots-turn, slots-end, price-is, price-most, start-priced}
 use Rattle.search.proofs.Slots.{slot-inside, load-there, column-kept, work-long, row-small, row-room, slot-ready}
 use Rattle.search.proofs.all_slots.Statement.{statement}
 use Rattle.search.proofs.all_slots.Tie as tie
@@ -18,12 +18,10 @@ abbrev start : tie.At-loop Inv-loop μ-loop → tie.Start Inv-loop μ-loop
 start c = c .before .before .before .before .before .before .before .before .before .before
 
 add-price : tie.Need-add-price Inv-loop μ-loop
-add-price c = let p = c .before .before .before .before .before .pre in omega (arith, up-small p, down-small p)
+add-price c = omega (arith, price-most (c .before .before .before .before .before .pre))
 
 start-column-requires : tie.Need-start-column-requires Inv-loop μ-loop
-start-column-requires c κs =
-    let p = c .before .before .before .before .before .before .pre in
-    start-priced p (omega (arith, up-small p, down-small p))
+start-column-requires c κs = start-priced (c .before .before .before .before .before .before .pre)
 
 loop-holds : tie.Need-loop-holds Inv-loop μ-loop
 loop-holds c =

@@ -13,10 +13,7 @@ all-slots-requires : tie.Need-all-slots-requires
 all-slots-requires c κs = c .before .before .before .before .before .before .before .pre .ahead
 
 slice-read-cost : tie.Need-slice-read-cost
-slice-read-cost c =
-    let rows = c .before .before .before .before .before in
-    let p = start rows .pre .ahead in
-    omega arith
+slice-read-cost c = omega (arith, start (c .before .before .before .before .before) .pre)
 
 way-back-requires : tie.Need-way-back-requires
 way-back-requires c κs =

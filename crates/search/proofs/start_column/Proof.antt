@@ -43,18 +43,14 @@ loop-less : tie.Need-loop-less Inv-loop μ-loop
 loop-less c = omega arith
 
 loop-again : tie.Need-loop-again Inv-loop μ-loop
-loop-again c =
-    let size = c .before .before .before .pre .column-size in
-    upto-more (c .before .before .loop .inv) (omega arith) refl
+loop-again c = upto-more (c .before .before .loop .inv) (omega arith) refl
 
 same-length : tie.Need-same-length Inv-loop μ-loop
 same-length c = c .before .loop .inv .size
 
 returns : tie.Need-returns Inv-loop μ-loop
 unfolding priceList
-returns c =
-    let size = c .before .before .pre .column-size in
-    rw (← size) (upto-all (c .before .loop .inv) (omega arith))
+returns c = rw (← (c .before .before .pre .column-size)) (upto-all (c .before .loop .inv) (omega arith))
 
 pub start-column-spec : {M : Type 1} → statement M
 start-column-spec =
