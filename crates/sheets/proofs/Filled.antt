@@ -1,6 +1,6 @@
 -- A sheet buffer of which the first t slots are filled.
 use Prim.Native.Nat.{ℕ, _+_, _-_, _*_, _≤_, _<_}
-use mathlib.Core.Path.{_≡_, ap, sym, _∙_}
+use mathlib.Core.Path.{_≡_, ap, _∙_}
 use mathlib.Core.List.{List, _++_}
 use native.Mathlib.Nat.{mul-le-mul-left, zero-mul}
 use native.Mathlib.Omega.{arith}
@@ -56,14 +56,11 @@ module _ {i : Instance} {p old l : List ℕ} {t : ℕ} (given : Filled i p old t
       long = rw m-is (omega (arith, filled-size, row-within (i .modules) h room))
 
       whole : row ≡ planRow i p t
-      whole =
-          filled ∙ ap (λ (x : ℕ). tabulate x (moduleByte n load)) (part-length (t * m) m l long ∙ m-is) ∙
-          rw (n-is, load-is)
+      whole = filled ∙ rw (part-length (t * m) m l long, m-is, n-is, load-is)
 
   pub filled-all : i .slots ≤ t → l ≡ sheetOf i p ++ drop (length (sheetOf i p)) old
   unfolding sheetOf
   filled-all h =
       let same : t ≡ i .slots = omega arith in
       let count = length-rows (i .modules) (i .slots) (planRow i p) (row-length i p) in
-      given .so-far ∙ ap (λ (x : ℕ). rows x (planRow i p) ++ drop (x * i .modules) old) same ∙
-      ap (λ (x : ℕ). rows (i .slots) (planRow i p) ++ drop x old) (sym count)
+      rw count (rw same at (given .so-far))

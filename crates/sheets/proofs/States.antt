@@ -9,7 +9,7 @@ use lib.Arith.{digits-lt}
 use lib.Dec.{eqb, ltb}
 use borrow.Author.Tests.{lt-ltb, le-ltb, eq-eqb, ne-eqb}
 use borrow.Rule.Slice.PartMut.{midOf}
-use Rattle.lists.specs.Sums.{sum, sum-ext}
+use Rattle.lists.specs.Sums.{sum-ext}
 use Rattle.lists.specs.Parts.{getD-within, part-length, part-at}
 use Rattle.lists.specs.Rows.{row-within}
 use Rattle.model.specs.Instance.{Instance}
@@ -47,9 +47,7 @@ module _ (i : Instance) (s : List ℕ) (size : length s ≡ i .modules * i .slot
   unfolding rowLight lightAt
   row-light-is {m} {t} m-is h =
       let count = part-length _ _ s (row-within (i .modules) h (omega (arith, size))) in
-      rw m-is
-      (ap (λ (x : ℕ). sum x (λ k. stepOf (getD (lentRow (i .modules) t s) k 0))) count ∙
-      sum-ext (i .modules) (λ k g. ap stepOf (part-at _ _ s k 0 (omega arith) ∙ sym (state-is t k h g))))
+      rw (m-is, count) (sum-ext (i .modules) (λ k g. ap stepOf (part-at _ _ s k 0 (omega arith) ∙ sym (state-is t k h g))))
 
   module _
       {m t x y : ℕ} (m-is : m ≡ i .modules) (below : t < i .slots) (x-is : x ≡ rowLight (lentRow m t s)) (y-is : y ≡ i .load t) where

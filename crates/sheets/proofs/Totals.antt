@@ -25,7 +25,7 @@ module _ (i : Instance) (s : List ℕ) (size : length s ≡ i .modules * i .slot
 
   -- bytes are counted by slots and modules
   by-slots : (f : ℕ → ℕ) → sum (length s) f ≡ sum (i .slots) (λ t. sum (i .modules) (λ k. f (t * i .modules + k)))
-  by-slots f = ap (λ (n : ℕ). sum n f) (size ∙ mul-comm (i .modules) (i .slots)) ∙ sym (sum-blocks (i .slots) (i .modules) f)
+  by-slots f = rw (size, mul-comm (i .modules) (i .slots)) (sym (sum-blocks (i .slots) (i .modules) f))
 
   steps-are :
       sum (length s) (λ x. stepCost i (getD s x 0)) ≡ sum (i .slots) (λ t. sum (i .modules) (λ k. stepCost i (stateAt i s (suc t) k)))
@@ -59,9 +59,9 @@ module _ (i : Instance) (s : List ℕ) (size : length s ≡ i .modules * i .slot
   cost-empty : i .slots ≡ 0 → 0 ≡ sheetCost i s
   unfolding bytesCost sum stateAt
   cost-empty e =
-      let none : length s ≡ 0 = size ∙ ap (λ (n : ℕ). i .modules * n) e ∙ mul-zero (i .modules) in
+      let none : length s ≡ 0 = rw (size, e) (mul-zero (i .modules)) in
       let bytes : bytesCost i beforeAt s ≡ 0 = rw none in
-      let last = sum-const (i .modules) {f = lastChange} {c = 0} (λ k g. ap (λ (n : ℕ). stopCost (i .powerDown) (stateAt i s n k)) e) in
+      let last = sum-const (i .modules) {f = lastChange} {c = 0} (λ k g. rw e) in
       omega (arith, total)
 
   -- the rows of a sheet with slots, where the last begins at place last
@@ -72,8 +72,8 @@ module _ (i : Instance) (s : List ℕ) (size : length s ≡ i .modules * i .slot
     stop-row : rowStopCost (i .powerDown) (from last s) ≡ sum (i .modules) lastChange
     unfolding rowStopCost
     stop-row =
-        ap (λ (n : ℕ). sum n (λ k. stopCost (i .powerDown) (getD (from last s) k 0))) (last-length s (i .modules) last rows-all) ∙
-        sum-ext (i .modules) (λ k g. ap (stopCost (i .powerDown)) (last-at s (i .modules) last rows-all k g ∙ state k g))
+        rw (last-length s (i .modules) last rows-all)
+        (sum-ext (i .modules) (λ k g. ap (stopCost (i .powerDown)) (last-at s (i .modules) last rows-all k g ∙ state k g)))
       where
         state : (k : ℕ) → k < i .modules → getD s (last + k) 0 ≡ stateAt i s (i .slots) k
         state k g = rw last-is (sym (state-is i s size t k (omega arith) g)) ∙ ap (λ (n : ℕ). stateAt i s n k) slots-are
