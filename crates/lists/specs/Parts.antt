@@ -5,7 +5,7 @@ use mathlib.Core.Logic.{⊎-elim}
 use mathlib.Core.List.{List, [], _∷_, _++_}
 use lib.ListN.{length, getD, take, drop, replicate, length-replicate, getD-replicate, List·getD-append}
 use lib.Seq.{length-take-le, getD-append-add, getD-take, getD-drop}
-use borrow.Rule.Slice.PartMut.{midOf, putMid, mid-len, same-len-mid, take-put, drop-put}
+use borrow.Rule.Slice.PartMut.{midOf, putMid, mid-len, same-len-mid, drop-put}
 use native.Mathlib.Nat.{not-suc-le-zero, sub-zero, add-sub-cancel-left, le-dest}
 use native.Mathlib.Omega.{arith}
 use Rattle.lists.specs.Numbers.{le-or-lt}
@@ -27,21 +27,20 @@ part-at a e l k d h = rw (getD-take (e - a) (drop a l) k d h, getD-drop a l k d)
 
 -- A list whose part from a to e is now new: what stands before it, in it and after it.
 module _ (a e : ℕ) (l new : List ℕ) (order : a ≤ e) (within : e ≤ length l) (size : length new ≡ e - a) where
+  front : length (take a l) ≡ a
+  front = length-take-le a l (omega arith)
+
   put-before : (k d : ℕ) → k < a → getD (putMid a (e - a) l new) k d ≡ getD l k d
-  put-before k d h =
-      sym (getD-take a (putMid a (e - a) l new) k d h) ∙ ap (λ (x : List ℕ). getD x k d) (take-put a (e - a) l new (omega arith)) ∙
-      getD-take a l k d h
+  put-before k d h = List·getD-append (take a l) _ d k (omega (arith, front)) ∙ getD-take a l k d h
 
   put-inside : (k d : ℕ) → k < e - a → getD (putMid a (e - a) l new) (a + k) d ≡ getD new k d
   put-inside k d h =
-      let long : length (take a l) ≡ a = length-take-le a l (omega arith) in
-      let place : a + k ≡ length (take a l) + k = omega arith in
+      let place : a + k ≡ length (take a l) + k = omega (arith, front) in
       rw (place, getD-append-add (take a l) _ k d) (List·getD-append new _ d k (omega arith))
 
   put-after : (k d : ℕ) → getD (putMid a (e - a) l new) (e + k) d ≡ getD l (e + k) d
   put-after k d =
-      sym (getD-drop e (putMid a (e - a) l new) k d) ∙ ap (λ (x : List ℕ). getD x k d) (drop-put a e l new order within size) ∙
-      getD-drop e l k d
+      sym (getD-drop e (putMid a (e - a) l new) k d) ∙ rw (drop-put a e l new order within size) (getD-drop e l k d)
 
 -- filling the part from a to e, where f is the same all over it
 pub upto-part :
@@ -50,7 +49,7 @@ pub upto-part :
 upto-part {f} {a} {e} {x} {old} {l} {new} u order within filled same =
     record {
       size = same-len-mid a (e - a) l new (ap length filled ∙ length-replicate _ x) ∙ u .size;
-      done = λ k g i. ⊎-elim (inside k g) (λ (h : k < a). put-before a e l new order long size k 0 h ∙ u .done k h i) (le-or-lt a k);
+      done = λ k g i. ⊎-elim (λ (h : a ≤ k). inside k g (le-dest h)) (λ (h : k < a). put-before a e l new order long size k 0 h ∙ u .done k h i) (le-or-lt a k);
       kept = λ k g. after k (le-dest g) ∙ u .kept k (omega arith);
     }
   where
@@ -60,12 +59,11 @@ upto-part {f} {a} {e} {x} {old} {l} {new} u order within filled same =
     size : length new ≡ e - a
     size = ap length filled ∙ length-replicate _ x ∙ mid-len a e l long
 
-    inside : (k : ℕ) → k < e → a ≤ k → getD (putMid a (e - a) l new) k 0 ≡ f k
-    inside k g h =
-        let place : k ≡ a + (k - a) = omega arith in
-        let here : k - a < length (midOf a (e - a) l) = omega (arith, mid-len a e l long) in
-        ap (λ (y : ℕ). getD (putMid a (e - a) l new) y 0) place ∙ put-inside a e l new order long size (k - a) 0 (omega arith) ∙
-        rw filled (getD-replicate _ (k - a) x 0 here) ∙ sym (same k h g)
+    inside : (k : ℕ) → k < e → (d : ℕ) × (a + d ≡ k) → getD (putMid a (e - a) l new) k 0 ≡ f k
+    inside k g (d, p) =
+        let here : d < length (midOf a (e - a) l) = omega (arith, mid-len a e l long) in
+        let entry : getD new d 0 ≡ x = rw filled (getD-replicate _ d x 0 here) in
+        rw (same k (omega arith) g, ← p) (put-inside a e l new order long size d 0 (omega arith) ∙ entry)
 
     after : (k : ℕ) → (d : ℕ) × (e + d ≡ k) → getD (putMid a (e - a) l new) k 0 ≡ getD l k 0
     after k (d, p) = rw (← p) (put-after a e l new order long size d 0)
