@@ -49,7 +49,11 @@ pub upto-part :
 upto-part {f} {a} {e} {x} {old} {l} {new} u order within filled same =
     record {
       size = same-len-mid a (e - a) l new (ap length filled ∙ length-replicate _ x) ∙ u .size;
-      done = λ k g i. ⊎-elim (λ (h : a ≤ k). inside k g (le-dest h)) (λ (h : k < a). put-before a e l new order long size k 0 h ∙ u .done k h i) (le-or-lt a k);
+      done = λ k g i.
+          ⊎-elim
+          (λ (h : a ≤ k). inside k g (le-dest h))
+          (λ (h : k < a). put-before a e l new order long size k 0 h ∙ u .done k h i)
+          (le-or-lt a k);
       kept = λ k g. after k (le-dest g) ∙ u .kept k (omega arith);
     }
   where

@@ -50,9 +50,9 @@ module _ {s : List ℕ} {h : Header} {counts column₀ plan work : List ℕ} (p 
   some-count : 1 ≤ length counts
   some-count = omega arith
 
-  module _ {work₁ : List ℕ} (kept : length work₁ ≡ length work) (filled : work₁ ≡ selectionsIn (instanceOf s) counts work) where
-    pub leads-back : Leading counts work₁ plan
-    leads-back =
+  module _ {work₁ : List ℕ} (filled : work₁ ≡ selectionsIn (instanceOf s) counts work) where
+    pub leads-back : length work₁ ≡ length work → Leading counts work₁ plan
+    leads-back kept =
         let slots = ap (λ (x : ℕ). x * length counts) (p .plan-size) in
         record {
           some = some-count;

@@ -5,8 +5,8 @@ use mathlib.Core.List.{List, _++_}
 use native.Mathlib.Nat.{sub-zero, zero-mul, mul-le-mul, mul-le-mul-right}
 use native.Mathlib.Numerals.{add-one}
 use native.Mathlib.Omega.{arith}
-use lib.ListN.{length, take, drop}
-use borrow.Rule.Slice.PartMut.{mid-len}
+use lib.ListN.{length, drop}
+use borrow.Rule.Slice.PartMut.{midOf, putMid, mid-len}
 use Rattle.lists.specs.Lists.{rows, length-tabulate, getD-tabulate, tabulate-same}
 use Rattle.lists.specs.Rows.{row-within, rows-size, next-row}
 use Rattle.model.specs.Instance.{Instance, instanceOf, loadPlace}
@@ -60,7 +60,7 @@ module _ {i : Instance} {counts work₀ costs work : List ℕ} {t : ℕ} (f : Sl
   pub slots-turn :
       {l a e : ℕ} {costs′ places : List ℕ} → 1 ≤ length counts → t < i .slots → l ≡ i .load t → a ≡ t * length counts →
       e ≡ a + length counts → Holds counts (upward i counts l (costIn costs)) costs′ places →
-      SlotLoop i counts work₀ costs′ (take a work ++ (places ++ drop (e - a) (drop a work))) (t + 1)
+      SlotLoop i counts work₀ costs′ (putMid a (e - a) work places) (t + 1)
   unfolding columnList column selectionRow selectionRows selection
   slots-turn {l} {a} {e} {costs′} {places} some h l-is a-is e-is now =
       let same = slot-same i counts t some in
@@ -97,10 +97,10 @@ module _ {s : List ℕ} {h : Header} {counts costs₀ work₀ : List ℕ} (p : S
   pub price-most : h .up + h .down ≤ 1000000000
   price-most = omega (arith, up-range s (p .ready .accepted), down-range s (p .ready .accepted))
 
-  pub start-priced : Priced (h .up + h .down) counts costs₀
-  start-priced =
+  pub start-priced : {price : ℕ} → price ≤ 1000000000 → Priced price counts costs₀
+  start-priced small =
       record {
-        price-range = price-most;
+        price-range = small;
         counts-range = counts-small s (p .ready .accepted) (p .allowed);
         column-size = p .column-size;
       }
@@ -109,16 +109,9 @@ module _ {s : List ℕ} {h : Header} {counts costs₀ work₀ : List ℕ} (p : S
   column-small : (t j : ℕ) → t ≤ instanceOf s .slots → j < length counts → column (instanceOf s) counts 0 t j ≤ mostCost
   column-small t j within inside =
       let accepted = p .ready .accepted in
-      let modules = modules-range s accepted .1 in
-      let slots = slots-range s accepted in
-      let on = up-range s accepted in
-      let off = down-range s accepted in
-      let price =
-      mul-le-mul {n₁ = switchingPrice (instanceOf s)} {m₁ = instanceOf s .modules} {n₂ = 1000000000} {m₂ = 200} (omega arith) modules in
       let some : 1 ≤ length counts = omega arith in
-      let most =
-      column-bound (instanceOf s) counts 0 (instanceOf s .modules) 200000000 some (λ k _. counts-fit (p .allowed) k) full in
-      omega (arith, most t j within inside)
+      let most = column-bound (instanceOf s) counts 0 _ 200000000 some (λ k _. counts-fit (p .allowed) k) full t j within inside in
+      omega (arith, slots-range s accepted, mul-le-mul (rw price-is at price-most) (modules-range s accepted .1))
     where
       full :
           (t : ℕ) → t < instanceOf s .slots →
@@ -148,7 +141,7 @@ module _ {s : List ℕ} {h : Header} {counts costs₀ work₀ : List ℕ} (p : S
 
     pub slot-ready :
         {top l a e : ℕ} → top ≡ h .top → t < h .slots → l ≡ instanceOf s .load t → a ≡ t * length counts →
-        e ≡ a + length counts → PricedSlot s top (h .up + h .down) counts l costs (take (e - a) (drop a work))
+        e ≡ a + length counts → PricedSlot s top (h .up + h .down) counts l costs (midOf a (e - a) work)
     slot-ready {top} {l} {a} {e} top-is g l-is a-is e-is =
         record {
           slot =

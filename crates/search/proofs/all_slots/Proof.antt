@@ -21,7 +21,9 @@ add-price : tie.Need-add-price Inv-loop μ-loop
 add-price c = omega (arith, price-most (c .before .before .before .before .before .pre))
 
 start-column-requires : tie.Need-start-column-requires Inv-loop μ-loop
-start-column-requires c κs = start-priced (c .before .before .before .before .before .before .pre)
+start-column-requires c κs =
+    let p = c .before .before .before .before .before .before .pre in
+    start-priced p (omega (arith, price-most p))
 
 loop-holds : tie.Need-loop-holds Inv-loop μ-loop
 loop-holds c =

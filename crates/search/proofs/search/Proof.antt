@@ -1,4 +1,3 @@
-use mathlib.Core.Path.{_∙_}
 use native.Mathlib.Omega.{arith}
 use Rattle.search.proofs.Found.{leads-back, plan-found, cost-found}
 use borrow.Author.Needs.{needs}
@@ -18,7 +17,7 @@ slice-read-cost c = omega (arith, start (c .before .before .before .before .befo
 way-back-requires : tie.Need-way-back-requires
 way-back-requires c κs =
     let rows = c .before .before .before .before .before .before .before in
-    leads-back (start rows .pre) (rows .all-slots .kept .1 .1 .1 .1 .0) (rows .all-slots .ensures .1)
+    leads-back (start rows .pre) (rows .all-slots .ensures .1) (rows .all-slots .kept .1 .1 .1 .1 .0)
 
 fill-requires : tie.Need-fill-requires
 fill-requires c κs = search needs
@@ -37,9 +36,9 @@ returns c =
     let back = c .before .before .before .before .before .before in
     let rows = back .before .before .before .before .before .before .before .before in
     let p = start rows .pre in
-    let kept = rows .all-slots .kept .1 .1 .1 .1 .0 in
     let done = rows .all-slots .ensures in
-    (cost-found p (done .0), (plan-found p kept (done .1) (back .way-back .ensures), (c .before .before .fill .ensures ∙ rw kept, done .0)))
+    let cleared = rw (rows .all-slots .kept .1 .1 .1 .1 .0) at (c .before .before .fill .ensures) in
+    (cost-found p (done .0), (plan-found p (done .1) (back .way-back .ensures), (cleared, done .0)))
 
 pub search-spec : {M : Type 1} → statement M
 search-spec =
