@@ -93,9 +93,6 @@ at-most b {x} {y} h = go (isOff b)
     go true = omega arith
     go false = h
 
-pub byte-small : {b x : ℕ} → Fits w8 b → x ≡ b → x ≤ 255
-byte-small f e = omega arith
-
 pub step-each : (row : List ℕ) → ((j : ℕ) → Fits w8 (getD row j 0)) → (k : ℕ) → k < length row → stepOf (getD row k 0) ≤ 255
 step-each row bytes k h = let b = bytes k in at-most (getD row k 0) (omega arith)
 

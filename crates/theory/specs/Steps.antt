@@ -89,7 +89,7 @@ module _ (i : Instance) (counts : List ℕ) (asc : Ascending counts (i .modules)
         best-raised {value = served} j (rise (suc j) j)
         (λ k h. omega (arith, rise-through (suc j) j k h (omega arith) inside))
         (λ k h serves. served-above j k (omega arith) serves)
-        (λ k h serves. served-above (suc j) k h serves)
+        (served-above (suc j))
         (up-best j (omega arith))
         (down-best (suc j) inside)
 

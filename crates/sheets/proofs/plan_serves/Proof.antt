@@ -1,4 +1,4 @@
-use Prim.Native.Nat.{_-_}
+use Prim.Native.Nat.{_-_, _≤_}
 use native.Mathlib.Nat.{mul-le-mul}
 use native.Mathlib.Omega.{arith}
 use lib.ListN.{length, getD}
@@ -7,7 +7,6 @@ use Rattle.lists.specs.Tests.{Passed, passed-none, passed-more, passed-all, pas
 use Rattle.model.specs.Instance.{instanceOf}
 use Rattle.model.specs.Counts.{canServe}
 use Rattle.model.specs.Plans.{planServes}
-use Rattle.sheets.proofs.Bytes.{byte-small}
 use Rattle.sheets.proofs.Loads.{in-slots, no-more-slots, load-there, serve-failed, serve-passed}
 use Rattle.sheets.proofs.plan_serves.Statement.{statement}
 use Rattle.sheets.proofs.plan_serves.Tie as tie
@@ -34,7 +33,7 @@ wide-requires c κs = search needs
 mul-most : tie.Need-mul-most Inv-loop μ-loop
 mul-most c =
     let loop = c .before .before .before in
-    let n = byte-small (c .before .shared-slice-known3 .given (loop .loop .t)) (c .wide .ensures) in
+    let n : c .wide .result ≤ 255 = omega (arith, c .before .shared-slice-known3 .given (loop .loop .t)) in
     record { fits = omega (arith, mul-le-mul n (start loop .pre .ready .header .top-bound)) }
 
 load-requires : tie.Need-load-requires Inv-loop μ-loop
