@@ -1,1 +1,1 @@
-// What one slot's column of the search and its selections are. Definitions only: see specs/.
+// What one slot's column of the search and its selections are. Definitions and laws of them: see specs/.

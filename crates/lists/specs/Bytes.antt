@@ -26,15 +26,6 @@ little-join (suc v) w s p =
     let at : p + suc v ≡ p + 1 + v = omega arith in
     rw (suc-add v w, e, at, pow-suc) (omega arith)
 
--- a number of w bytes is below 256 to the w
-pub little-bound : (w : ℕ) (s : List ℕ) (p : ℕ) → ((k : ℕ) → getD s k 0 < 256) → littleEndian w s p < 256 ^ w
-unfolding littleEndian
-little-bound zero s p h = simp pow-zero (omega arith)
-little-bound (suc w) s p h =
-    let e = little-bound w s (p + 1) h in
-    let b = h p in
-    rw pow-suc (omega arith)
-
 -- a number within the first n bytes is one of those bytes alone
 pub little-take : (w n : ℕ) (s : List ℕ) (p : ℕ) → p + w ≤ n → littleEndian w (take n s) p ≡ littleEndian w s p
 unfolding littleEndian

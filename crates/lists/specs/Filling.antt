@@ -18,10 +18,15 @@ pub record Upto (f : ℕ → ℕ) (j : ℕ) (old new : List ℕ) : Type 0 where
 pub upto-none : (f : ℕ → ℕ) (old : List ℕ) → Upto f 0 old old
 upto-none f old = record { size = refl; done = λ k h g. absurd (omega arith); kept = λ k h. refl }
 
+-- where the first entry is right already
+pub upto-first : {f : ℕ → ℕ} (old : List ℕ) → getD old 0 0 ≡ f 0 → Upto f 1 old old
+upto-first old e =
+    record { size = refl; done = λ k h _. let same : k ≡ 0 = omega arith in rw same e; kept = λ k _. refl }
+
 pub upto-more :
     {f : ℕ → ℕ} {j x : ℕ} {old new : List ℕ} → Upto f j old new → j < length old → x ≡ f j → Upto f (j + 1) old (set new j x)
 upto-more {f} {j} {x} {old} {new} u h e =
-    let long : j < length new = omega (arith, u .size) in
+    let long : j < length new = omega arith in
     record {
       size = length-set new j x ∙ u .size;
       done = λ k g i.
@@ -50,7 +55,7 @@ downto-none f old = record { size = refl; done = λ k h g. absurd (omega arith);
 pub downto-more :
     {f : ℕ → ℕ} {j x : ℕ} {old new : List ℕ} → Downto f (j + 1) old new → j < length old → x ≡ f j → Downto f j old (set new j x)
 downto-more {f} {j} {x} {old} {new} u h e =
-    let long : j < length new = omega (arith, u .size) in
+    let long : j < length new = omega arith in
     record {
       size = length-set new j x ∙ u .size;
       done = λ k g i.

@@ -13,5 +13,5 @@ pub mod Filling
 pub mod Prefixes
 pub mod Searching
 pub mod Parts
-pub mod InPlace
+pub mod Rows
 pub mod Writing

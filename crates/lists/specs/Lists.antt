@@ -5,7 +5,7 @@ use mathlib.Core.Logic.{⊎-elim}
 use mathlib.Core.List.{List, [], _∷_, _++_, headD}
 use mathlib.Core.Bool.{Bool, true, false, cond, _&&_, false≢true}
 use lib.Dec.{eqb}
-use lib.ListN.{length, getD, length-append, List·getD-append}
+use lib.ListN.{length, getD, replicate, length-append, length-replicate, getD-replicate, List·getD-append}
 use lib.Seq.{getD-append-add, ext-getD}
 use native.Mathlib.Nat.{not-suc-le-zero, le-of-suc-le-suc, eq-or-lt-of-le, mul-le-mul-right}
 use native.Mathlib.Omega.{arith}
@@ -33,6 +33,13 @@ pub equal-tabulate : {n : ℕ} {f : ℕ → ℕ} {l : List ℕ} → length l ≡
 equal-tabulate {n} {f} {l} size at =
     ext-getD 0 l (tabulate n f) (size ∙ sym (length-tabulate n f))
     (λ k h. let inside : k < n = omega arith in at k inside ∙ sym (getD-tabulate n f k 0 inside))
+
+-- tables of functions that agree below n, and of one that is the same below n
+pub tabulate-same : (n : ℕ) {f g : ℕ → ℕ} → ((k : ℕ) → k < n → f k ≡ g k) → tabulate n f ≡ tabulate n g
+tabulate-same n {f} same = equal-tabulate (length-tabulate n f) (λ k h. getD-tabulate n f k 0 h ∙ same k h)
+
+pub tabulate-constant : (n : ℕ) {f : ℕ → ℕ} {x : ℕ} → ((k : ℕ) → k < n → f k ≡ x) → tabulate n f ≡ replicate n x
+tabulate-constant n {x = x} same = sym (equal-tabulate (length-replicate n x) (λ k h. getD-replicate n k x 0 h ∙ sym (same k h)))
 
 pub head-is-first : (xs : List ℕ) → headD xs 0 ≡ getD xs 0 0
 unfolding headD
@@ -87,7 +94,7 @@ sameLists [] (y ∷ ys) = false
 sameLists (x ∷ xs) [] = false
 sameLists (x ∷ xs) (y ∷ ys) = sameList x y && sameLists xs ys
 
-pub same-self : (xs : List ℕ) → sameList xs xs ≡ true
+same-self : (xs : List ℕ) → sameList xs xs ≡ true
 unfolding sameList
 same-self [] = refl
 same-self (x ∷ xs) = rw (eq-eqb x x refl, same-self xs)

@@ -1,16 +1,14 @@
--- Lists of which a part was lent and has come back, and lists filled part by part.
-use Prim.Native.Nat.{ℕ, zero, suc, _+_, _-_, _*_, _≤_, _<_}
+-- Lists of which a part was lent and has come back, and the loop invariant of those filled part by part.
+use Prim.Native.Nat.{ℕ, zero, suc, _+_, _-_, _≤_, _<_}
 use mathlib.Core.Path.{_≡_, refl, ap, sym, _∙_}
 use mathlib.Core.Logic.{⊎-elim}
-use mathlib.Core.List.{List, [], _∷_, _++_, append-assoc}
-use lib.ListN.{length, getD, take, drop, replicate, length-append, length-drop, length-replicate, getD-replicate, List·getD-append}
-use lib.Seq.{length-take-le, take-at, drop-append-add, drop-drop, getD-append-add, getD-take, getD-drop}
-use borrow.Rule.Slice.PartMut.{midOf, putMid, post-is, mid-len, same-len-mid, take-put, drop-put}
-use native.Mathlib.Nat.{not-suc-le-zero, sub-zero, add-sub-cancel-left, le-dest, mul-le-mul-left}
-use native.Mathlib.Numerals.{add-one}
+use mathlib.Core.List.{List, [], _∷_, _++_}
+use lib.ListN.{length, getD, take, drop, replicate, length-replicate, getD-replicate, List·getD-append}
+use lib.Seq.{length-take-le, getD-append-add, getD-take, getD-drop}
+use borrow.Rule.Slice.PartMut.{midOf, putMid, mid-len, same-len-mid, drop-put}
+use native.Mathlib.Nat.{not-suc-le-zero, sub-zero, add-sub-cancel-left, le-dest}
 use native.Mathlib.Omega.{arith}
 use Rattle.lists.specs.Numbers.{le-or-lt}
-use Rattle.lists.specs.Lists.{tabulate, rows, length-rows}
 use Rattle.lists.specs.Filling.{Upto, upto-none}
 
 -- inside a list it does not matter what is read beyond its end
@@ -29,21 +27,20 @@ part-at a e l k d h = rw (getD-take (e - a) (drop a l) k d h, getD-drop a l k d)
 
 -- A list whose part from a to e is now new: what stands before it, in it and after it.
 module _ (a e : ℕ) (l new : List ℕ) (order : a ≤ e) (within : e ≤ length l) (size : length new ≡ e - a) where
+  front : length (take a l) ≡ a
+  front = length-take-le a l (omega arith)
+
   put-before : (k d : ℕ) → k < a → getD (putMid a (e - a) l new) k d ≡ getD l k d
-  put-before k d h =
-      sym (getD-take a (putMid a (e - a) l new) k d h) ∙ ap (λ (x : List ℕ). getD x k d) (take-put a (e - a) l new (omega arith)) ∙
-      getD-take a l k d h
+  put-before k d h = List·getD-append (take a l) _ d k (omega (arith, front)) ∙ getD-take a l k d h
 
   put-inside : (k d : ℕ) → k < e - a → getD (putMid a (e - a) l new) (a + k) d ≡ getD new k d
   put-inside k d h =
-      let long : length (take a l) ≡ a = length-take-le a l (omega arith) in
-      let place : a + k ≡ length (take a l) + k = omega arith in
+      let place : a + k ≡ length (take a l) + k = omega (arith, front) in
       rw (place, getD-append-add (take a l) _ k d) (List·getD-append new _ d k (omega arith))
 
   put-after : (k d : ℕ) → getD (putMid a (e - a) l new) (e + k) d ≡ getD l (e + k) d
   put-after k d =
-      sym (getD-drop e (putMid a (e - a) l new) k d) ∙ ap (λ (x : List ℕ). getD x k d) (drop-put a e l new order within size) ∙
-      getD-drop e l k d
+      sym (getD-drop e (putMid a (e - a) l new) k d) ∙ rw (drop-put a e l new order within size) (getD-drop e l k d)
 
 -- filling the part from a to e, where f is the same all over it
 pub upto-part :
@@ -52,22 +49,25 @@ pub upto-part :
 upto-part {f} {a} {e} {x} {old} {l} {new} u order within filled same =
     record {
       size = same-len-mid a (e - a) l new (ap length filled ∙ length-replicate _ x) ∙ u .size;
-      done = λ k g i. ⊎-elim (inside k g) (λ (h : k < a). put-before a e l new order long size k 0 h ∙ u .done k h i) (le-or-lt a k);
+      done = λ k g i.
+          ⊎-elim
+          (λ (h : a ≤ k). inside k g (le-dest h))
+          (λ (h : k < a). put-before a e l new order long size k 0 h ∙ u .done k h i)
+          (le-or-lt a k);
       kept = λ k g. after k (le-dest g) ∙ u .kept k (omega arith);
     }
   where
     long : e ≤ length l
-    long = omega (arith, u .size)
+    long = omega arith
 
     size : length new ≡ e - a
     size = ap length filled ∙ length-replicate _ x ∙ mid-len a e l long
 
-    inside : (k : ℕ) → k < e → a ≤ k → getD (putMid a (e - a) l new) k 0 ≡ f k
-    inside k g h =
-        let place : k ≡ a + (k - a) = omega arith in
-        let here : k - a < length (midOf a (e - a) l) = omega (arith, mid-len a e l long) in
-        ap (λ (y : ℕ). getD (putMid a (e - a) l new) y 0) place ∙ put-inside a e l new order long size (k - a) 0 (omega arith) ∙
-        rw filled (getD-replicate _ (k - a) x 0 here) ∙ sym (same k h g)
+    inside : (k : ℕ) → k < e → (d : ℕ) × (a + d ≡ k) → getD (putMid a (e - a) l new) k 0 ≡ f k
+    inside k g (d, p) =
+        let here : d < length (midOf a (e - a) l) = omega (arith, mid-len a e l long) in
+        let entry : getD new d 0 ≡ x = rw filled (getD-replicate _ d x 0 here) in
+        rw (same k (omega arith) g, ← p) (put-inside a e l new order long size d 0 (omega arith) ∙ entry)
 
     after : (k : ℕ) → (d : ℕ) × (e + d ≡ k) → getD (putMid a (e - a) l new) k 0 ≡ getD l k 0
     after k (d, p) = rw (← p) (put-after a e l new order long size d 0)
@@ -78,30 +78,3 @@ pub upto-front :
     ((k : ℕ) → k < e → f k ≡ x) → Upto f e old (new ++ drop e old)
 upto-front {f} {e} {x} {old} {new} within filled same =
     rw (sub-zero e) at (upto-part {new = new} (upto-none f old) (omega arith) within (rw (sub-zero e) filled) (λ k g. same k))
-
--- a list of equal entries
-pub tabulate-same : (n : ℕ) {f : ℕ → ℕ} {x : ℕ} → ((k : ℕ) → k < n → f k ≡ x) → tabulate n f ≡ replicate n x
-unfolding tabulate
-tabulate-same zero h = refl
-tabulate-same (suc n) h = rw (h 0 (omega arith), tabulate-same n (λ k g. h (suc k) (omega arith)))
-
--- row t of n rows of length m lies inside
-pub row-within : (m : ℕ) {n t size : ℕ} → t < n → m * n ≤ size → t * m + m ≤ size
-row-within m {n} {t} {size} h g = omega (arith, mul-le-mul-left m h)
-
--- Filling row by row: n rows of length m stand at the front, the rest is as it was.
-module _ (m n : ℕ) (f : ℕ → List ℕ) (even : (t : ℕ) → length (f t) ≡ m) (old : List ℕ) where
-  pub rows-size : n * m ≤ length old → length (rows n f ++ drop (n * m) old) ≡ length old
-  rows-size h = omega (arith, length-append (rows n f) (drop (n * m) old), length-rows m n f even, length-drop (n * m) old)
-
-  -- one row more
-  pub rows-more :
-      {l : List ℕ} → l ≡ rows n f ++ drop (n * m) old →
-      putMid (n * m) (n * m + m - n * m) l (f n) ≡ rows (n + 1) f ++ drop ((n + 1) * m) old
-  unfolding rows
-  rows-more {l} e =
-      let count : length (rows n f) ≡ n * m = length-rows m n f even in
-      let next : (n + 1) * m ≡ n * m + m = omega arith in
-      let behind : drop (n * m + m) (rows n f ++ drop (n * m) old) ≡ drop (n * m + m) old = rw (← count, drop-append-add, drop-drop) in
-      let front = take-at (rows n f) (drop (n * m) old) (n * m) count in
-      rw (e, front, post-is (n * m) (n * m + m) _ (omega arith), behind, next, add-one n, append-assoc)

@@ -16,7 +16,7 @@ summed-none n f = record { within = omega arith; so-far = refl }
 
 pub summed-more : {n k x y : ℕ} {f : ℕ → ℕ} → Summed n f k x → k < n → y ≡ f k → Summed n f (k + 1) (x + y)
 unfolding sum
-summed-more {n} {k} {x} {y} {f} s h e = record { within = omega arith; so-far = rw (add-one k) (omega (arith, s .so-far)) }
+summed-more {n} {k} {x} {y} {f} s h e = record { within = omega arith; so-far = rw (add-one k) (omega arith) }
 
 pub summed-all : {n k x : ℕ} {f : ℕ → ℕ} → Summed n f k x → n ≤ k → x ≡ sum n f
 summed-all {n} {k} {x} {f} s h = let same : n ≡ k = omega arith in rw same (s .so-far)
@@ -25,7 +25,7 @@ summed-all {n} {k} {x} {f} s h = let same : n ≡ k = omega arith in rw same (s 
 pub summed-most : {n k x c : ℕ} {f : ℕ → ℕ} → Summed n f k x → ((j : ℕ) → j < n → f j ≤ c) → x ≤ n * c
 summed-most {n} {k} {x} {c} {f} s bound =
     let so-far = sum-at-most k (λ j g. bound j (omega arith)) in
-    omega (arith, s .so-far, mul-le-mul-right c (s .within))
+    omega (arith, mul-le-mul-right c (s .within))
 
 pub summed-room : {n k x y c : ℕ} {f : ℕ → ℕ} → Summed n f k x → k < n → y ≡ f k → ((j : ℕ) → j < n → f j ≤ c) → x + y ≤ n * c
 summed-room s h e bound = summed-most (summed-more s h e) bound

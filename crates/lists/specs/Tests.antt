@@ -6,6 +6,7 @@ use mathlib.Core.Logic.{_⊎_, inl, inr, ⊎-elim}
 use native.Mathlib.Nat.{not-suc-le-zero, le-refl}
 use native.Mathlib.Numerals.{add-one}
 use native.Mathlib.Omega.{arith}
+use borrow.Author.Tests.{not-true, not-false}
 use Rattle.lists.specs.Numbers.{le-or-lt, true-or-false}
 
 -- f holds at each of 0 to n - 1
@@ -31,14 +32,6 @@ and-both {a} {b} p q = rw (p, q)
 pub or-cases : (a b : Bool) → (a || b) ≡ true → (a ≡ true) ⊎ (b ≡ true)
 or-cases true b e = inl refl
 or-cases false b e = inr e
-
-pub every-none : (f : ℕ → Bool) → every 0 f ≡ true
-unfolding every
-every-none f = refl
-
-pub every-more : (n : ℕ) (f : ℕ → Bool) → every n f ≡ true → f n ≡ true → every (n + 1) f ≡ true
-unfolding every
-every-more n f e h = rw (add-one n) (and-both e h)
 
 -- what holds at every index holds at each
 pub every-at : (n : ℕ) (f : ℕ → Bool) → every n f ≡ true → (k : ℕ) → k < n → f k ≡ true
@@ -76,12 +69,10 @@ every-not (suc n) f e =
 
 -- What a branch on `!flag` says of the test that the flag stands for.
 pub test-failed : {flag test : Bool} → flag ≡ test → not flag ≡ true → test ≡ false
-test-failed {flag = true} e f = absurd (true≢false (sym f))
-test-failed {flag = false} e f = sym e
+test-failed {flag} e f = sym e ∙ not-true flag f
 
 pub test-passed : {flag test : Bool} → flag ≡ test → not flag ≡ false → test ≡ true
-test-passed {flag = true} e f = sym e
-test-passed {flag = false} e f = absurd (true≢false f)
+test-passed {flag} e f = sym e ∙ not-false flag f
 
 -- A loop that tests one index after the other: k of n have passed.
 pub record Passed (n : ℕ) (f : ℕ → Bool) (k : ℕ) : Type 0 where
@@ -89,10 +80,12 @@ pub record Passed (n : ℕ) (f : ℕ → Bool) (k : ℕ) : Type 0 where
   pub so-far : every k f ≡ true
 
 pub passed-none : (n : ℕ) (f : ℕ → Bool) → Passed n f 0
-passed-none n f = record { within = omega arith; so-far = every-none f }
+unfolding every
+passed-none n f = record { within = omega arith; so-far = refl }
 
 pub passed-more : {n k : ℕ} {f : ℕ → Bool} → Passed n f k → k < n → f k ≡ true → Passed n f (k + 1)
-passed-more {n} {k} {f} p h e = record { within = omega arith; so-far = every-more k f (p .so-far) e }
+unfolding every
+passed-more {k = k} p h e = record { within = omega arith; so-far = rw (add-one k) (and-both (p .so-far) e) }
 
 pub passed-all : {n k : ℕ} {f : ℕ → Bool} → Passed n f k → n ≤ k → true ≡ every n f
 passed-all {n} {k} {f} p h = let same : n ≡ k = omega arith in rw same (sym (p .so-far))

@@ -21,7 +21,7 @@ pub record Written (text : List ℕ) (p : ℕ) (old new : List ℕ) (next : ℕ)
   pub place : next ≡ p + length text
   pub bytes : new ≡ take p old ++ (text ++ drop (p + length text) old)
 
-pub written-none : (p : ℕ) (l : List ℕ) → p ≤ length l → Written [] p l l p
+written-none : (p : ℕ) (l : List ℕ) → p ≤ length l → Written [] p l l p
 written-none p l h =
     record { fits = omega arith; size = refl; place = omega arith; bytes = rw (add-zero p) (sym (take-append-drop p l)) }
 
@@ -34,11 +34,10 @@ pub written-more :
     {a b : List ℕ} {p q r : ℕ} {old mid new : List ℕ} → Written a p old mid q → Written b q mid new r → Written (a ++ b) p old new r
 written-more {a} {b} {p} {q} {r} {old} {mid} {new} v w =
     let long = length-append a b in
-    let fits : p + length (a ++ b) ≤ length old = omega (arith, v .fits, v .size, v .place, w .fits) in
     record {
-      fits = fits;
+      fits = omega arith;
       size = w .size ∙ v .size;
-      place = omega (arith, v .place, w .place);
+      place = omega arith;
       bytes = w .bytes ∙ joined;
     }
   where
@@ -47,7 +46,7 @@ written-more {a} {b} {p} {q} {r} {old} {mid} {new} v w =
 
     long-front : length front ≡ q
     long-front =
-        omega (arith, length-append (take p old) a, length-take-le p old (omega (arith, v .fits)), v .place)
+        omega (arith, length-append (take p old) a, length-take-le p old (omega arith))
 
     cut : mid ≡ front ++ drop (p + length a) old
     cut = v .bytes ∙ sym (append-assoc (take p old) a (drop (p + length a) old))
@@ -69,33 +68,29 @@ atStart text old = text ++ drop (length text) old
 
 pub written-start : {text old new : List ℕ} {r : ℕ} → Written text 0 old new r → (r ≡ length text) × (new ≡ atStart text old)
 unfolding atStart
-written-start {text} {old} w = (omega (arith, w .place), rw (zero-add (length text)) at (w .bytes))
+written-start {text} {old} w = (omega arith, rw (zero-add (length text)) at (w .bytes))
 
 -- what a caller knows of the part up to the place after the text
 pub start-within : (text old : List ℕ) {r : ℕ} {new : List ℕ} → r ≡ length text → new ≡ atStart text old → r ≤ length new
 unfolding atStart
 start-within text old e d = omega (arith, ap length d, length-append text (drop (length text) old))
 
-pub start-text : (text old : List ℕ) {r : ℕ} {new : List ℕ} → r ≡ length text → new ≡ atStart text old → take r new ≡ text
-unfolding atStart
-start-text text old e d = rw d (take-at text (drop (length text) old) _ (sym e))
-
 pub start-same :
     (a b old : List ℕ) {r : ℕ} {new : List ℕ} → a ≡ b → (r ≡ length a) × (new ≡ atStart a old) → (r ≡ length b) × (new ≡ atStart b old)
 start-same a b old e w = rw e at w
 
 pub room-less : {a b : List ℕ} {p : ℕ} {l : List ℕ} → length b ≤ length a → Room a p l → Room b p l
-room-less h r = record { room = omega (arith, r .room) }
+room-less h r = record { room = omega arith }
 
 -- room for two texts is room for the first, and then for the second
 pub room-first : {a : List ℕ} (b : List ℕ) {p : ℕ} {l : List ℕ} → Room (a ++ b) p l → Room a p l
-room-first {a} b h = record { room = omega (arith, h .room, length-append a b) }
+room-first {a} b h = record { room = omega (arith, length-append a b) }
 
 pub room-rest : {a b : List ℕ} {p q : ℕ} {old new : List ℕ} → Room (a ++ b) p old → Written a p old new q → Room b q new
-room-rest {a} {b} h w = record { room = omega (arith, h .room, length-append a b, w .size, w .place) }
+room-rest {a} {b} h w = record { room = omega (arith, length-append a b) }
 
 -- the lengths of rows
-pub rows-rise : (f : ℕ → List ℕ) (j n : ℕ) → j ≤ n → length (rows j f) ≤ length (rows n f)
+rows-rise : (f : ℕ → List ℕ) (j n : ℕ) → j ≤ n → length (rows j f) ≤ length (rows n f)
 unfolding rows
 rows-rise f j n h =
     rises-to (λ k. length (rows k f)) n (λ k l. rw (add-one k) (omega (arith, length-append (rows k f) (f k)))) j n h (le-refl n)
@@ -110,7 +105,7 @@ rows-at-most b (suc n) f h =
 abbrev pub elementText : List ℕ → ℕ → List ℕ
 elementText l k = getD l k 0 ∷ []
 
-pub rows-of-elements : (l : List ℕ) → rows (length l) (elementText l) ≡ l
+rows-of-elements : (l : List ℕ) → rows (length l) (elementText l) ≡ l
 unfolding rows
 rows-of-elements l = first (length l) (le-refl (length l)) ∙ take-length l
   where
@@ -125,15 +120,14 @@ pub record RowsWritten (f : ℕ → List ℕ) (n p : ℕ) (old : List ℕ) (k : 
 
 pub rows-none : (f : ℕ → List ℕ) (n : ℕ) {p : ℕ} {l : List ℕ} → Room (rows n f) p l → RowsWritten f n p l 0 l p
 unfolding rows
-rows-none f n {p} {l} h = record { within = omega arith; so-far = written-none p l (omega (arith, h .room)) }
+rows-none f n {p} {l} h = record { within = omega arith; so-far = written-none p l (omega arith) }
 
 pub rows-room :
     {f : ℕ → List ℕ} {n p k next : ℕ} {old new : List ℕ} → Room (rows n f) p old → RowsWritten f n p old k new next → k < n →
     Room (f k) next new
 unfolding rows
 rows-room {f} {n} {k = k} h w below =
-    let s = w .so-far in
-    record { room = omega (arith, h .room, rows-rise f (suc k) n below, length-append (rows k f) (f k), s .size, s .place) }
+    record { room = omega (arith, rows-rise f (suc k) n below, length-append (rows k f) (f k)) }
 
 pub rows-more :
     {f : ℕ → List ℕ} {n p k next after : ℕ} {old new newer : List ℕ} → RowsWritten f n p old k new next → k < n →
@@ -143,7 +137,7 @@ rows-more {f} {k = k} w below v = record { within = omega arith; so-far = rw (ad
 
 pub rows-all :
     {f : ℕ → List ℕ} {n p k next : ℕ} {old new : List ℕ} → RowsWritten f n p old k new next → n ≤ k → Written (rows n f) p old new next
-rows-all {n = n} {k = k} w past = let same : n ≡ k = omega (arith, w .within) in rw same (w .so-far)
+rows-all {n = n} {k = k} w past = let same : n ≡ k = omega arith in rw same (w .so-far)
 
 -- the loop that writes a list element by element
 pub whole-room : (l : List ℕ) {p : ℕ} {old : List ℕ} → Room l p old → Room (rows (length l) (elementText l)) p old

@@ -19,11 +19,11 @@ use Rattle.search.specs.Asked.{CountsUpTo, AtMost}
 -- no count exceeds the rack
 pub counts-fit : {counts : List ℕ} {m : ℕ} → CountsUpTo counts m → (j : ℕ) → countAtPlace counts j ≤ m
 counts-fit {counts} a j =
-    let two = a .two in
+    let last = lastPlace counts in
+    let rise = rises-to (countAtPlace counts) last (λ k g. le-of-lt (a .rises k (omega arith))) j last in
     ⊎-elim
     (λ (h : length counts ≤ j). omega (arith, List·getD-eq-default counts 0 h))
-    (λ (h : j < length counts).
-    omega (arith, a .last, rises-to (countAtPlace counts) (lastPlace counts) (λ k g. le-of-lt (a .rises k (omega arith))) j (lastPlace counts) (omega arith) (le-refl _)))
+    (λ (h : j < length counts). omega (arith, rise (omega arith) (le-refl last)))
     (le-or-lt (length counts) j)
 
 -- on an accepted card

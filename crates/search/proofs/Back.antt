@@ -1,11 +1,12 @@
 -- The way back: the loop, and that over the rows of selections it is the plan of the columns.
 use Prim.Native.Nat.{ℕ, suc, _+_, _-_, _*_, _≤_, _<_}
-use mathlib.Core.Path.{_≡_, refl, sym, ap, _∙_}
+use mathlib.Core.Path.{_≡_, refl, sym, _∙_}
 use mathlib.Core.List.{List, _++_, append-nil}
-use native.Mathlib.Nat.{le-refl, mul-le-mul-right}
+use native.Mathlib.Nat.{le-refl}
 use native.Mathlib.Omega.{arith}
 use lib.ListN.{length, getD, drop, set, length-set}
 use lib.Seq.{drop-length, drop-cons, append-snoc, getD-set-same, drop-set-lt}
+use Rattle.lists.specs.Rows.{row-within}
 use Rattle.columns.specs.Column.{countAtPlace}
 use Rattle.search.specs.Written.{wayThrough}
 use Rattle.search.specs.Asked.{Leading}
@@ -33,24 +34,22 @@ one-back counts work plan t j h =
 module _ {counts work plan₀ : List ℕ} (p : Leading counts work plan₀) where
   pub back-starts : BackLoop counts work plan₀ plan₀ (length plan₀) 0
   back-starts =
-      record { within = le-refl (length plan₀); place = omega (arith, p .some); size = refl; whole = rw (drop-length, append-nil) }
+      record { within = le-refl (length plan₀); place = omega arith; size = refl; whole = rw (drop-length, append-nil) }
 
   module _ {plan : List ℕ} {t j : ℕ} (f : BackLoop counts work plan₀ plan t j) where
     -- the row of the slot before lies within the plan's rows
     pub row-inside : 0 < t → (t - 1) * length counts + length counts ≤ length plan₀ * length counts
-    row-inside h =
-        let last : suc (t - 1) ≡ t = omega arith in
-        omega (arith, mul-le-mul-right (length counts) (f .within), ap (λ (x : ℕ). x * length counts) last)
+    row-inside h = row-within (length counts) {n = length plan₀} (omega arith) (omega arith)
 
     pub back-turns :
         {k : ℕ} → 0 < t → k ≡ getD work ((t - 1) * length counts + j) 0 →
         BackLoop counts work plan₀ (set plan (t - 1) (countAtPlace counts k)) (t - 1) k
     back-turns {k} h e =
         let last : t ≡ suc (t - 1) = omega arith in
-        let inside : t - 1 < length plan = omega (arith, f .within, f .size) in
+        let inside : t - 1 < length plan = omega arith in
         record {
-          within = omega (arith, f .within);
-          place = rw e (p .inside ((t - 1) * length counts + j) (omega (arith, row-inside h, f .place)));
+          within = omega arith;
+          place = rw e (p .inside ((t - 1) * length counts + j) (omega (arith, row-inside h)));
           size = length-set plan (t - 1) (countAtPlace counts k) ∙ f .size;
           whole = rw e (sym (one-back counts work plan (t - 1) j inside) ∙ (rw last at (f .whole)));
         }

@@ -1,35 +1,21 @@
--- The lower of two choices, and one place of the downward pass.
-use Prim.Native.Nat.{ℕ, _+_, _*_, _≤_, _<_}
+-- One place of the downward pass.
+use Prim.Native.Nat.{ℕ, _*_, _≤_, _<_}
 use mathlib.Core.Path.{_≡_}
 use mathlib.Core.List.{List}
 use native.Mathlib.Nat.{mul-le-mul}
 use native.Mathlib.Omega.{arith}
 use borrow.Author.Tests.{le-leb, lt-leb}
-use Rattle.model.specs.Instance.{Instance, instanceOf}
-use Rattle.model.specs.Counts.{canServe, operatingCost}
+use Rattle.model.specs.Instance.{instanceOf}
+use Rattle.model.specs.Counts.{canServe}
 use Rattle.laws.specs.Acceptance.{modules-range, top-range}
 use Rattle.counts.specs.Serving.{Served}
 use Rattle.columns.specs.Column.{Choice, cheaper}
 use Rattle.search.specs.Written.{servedAt, servedOrAbove}
 use Rattle.search.specs.Asked.{InRack}
 
-module _ (a b : Choice) where
-  pub first-cheaper : a .cost ≤ b .cost → a ≡ cheaper a b
-  first-cheaper h = rw (le-leb (a .cost) (b .cost) h)
-
-  pub second-cheaper : b .cost < a .cost → b ≡ cheaper a b
-  second-cheaper h = rw (lt-leb (a .cost) (b .cost) h)
-
-pub served-at :
-    (i : Instance) (n l before place : ℕ) {x : ℕ} → x ≡ operatingCost i n l →
-    record { cost = before + x; at = place } ≡ servedAt i n l before place
-served-at i n l before place e = rw e
-
 module _ {s : List ℕ} {top n before : ℕ} (p : InRack s top n before) where
   pub product-small : n * top ≤ 40000
   product-small =
-      let rack = p .in-rack in
-      let top-is = p .top-is in
       mul-le-mul {n₁ = n} {m₁ = top} {n₂ = 200} {m₂ = 200}
       (omega (arith, modules-range s (p .accepted) .1)) (omega (arith, top-range s (p .accepted) .1))
 

@@ -1,6 +1,6 @@
 -- The downward pass: its recursion by place, and the loop.
 use Prim.Native.Nat.{ℕ, suc, _+_, _-_, _≤_, _<_}
-use mathlib.Core.Path.{_≡_, refl, sym, ap, _∙_}
+use mathlib.Core.Path.{_≡_, sym, ap, _∙_}
 use mathlib.Core.List.{List}
 use native.Mathlib.Nat.{sub-self}
 use native.Mathlib.Omega.{arith}
@@ -23,12 +23,10 @@ module _ (i : Instance) (counts : List ℕ) (l : ℕ) (before : ℕ → ℕ) whe
       (j : ℕ) → j < lastPlace counts →
       downward i counts l before j ≡ servedOrAbove i (countAtPlace counts j) l (before j) j (downward i counts l before (j + 1))
   unfolding downward fromTop servedOrAbove
-  downward-below j h = go (lastPlace counts - (j + 1)) (omega arith) (omega arith) refl
-    where
-      go :
-          (d : ℕ) → lastPlace counts - j ≡ suc d → lastPlace counts - suc d ≡ j → lastPlace counts - (j + 1) ≡ d →
-          downward i counts l before j ≡ servedOrAbove i (countAtPlace counts j) l (before j) j (downward i counts l before (j + 1))
-      go d e same above = rw (e, same, above)
+  downward-below j h =
+      let down : lastPlace counts - j ≡ suc (lastPlace counts - (j + 1)) = omega arith in
+      let here : lastPlace counts - suc (lastPlace counts - (j + 1)) ≡ j = omega arith in
+      rw (down, here)
 
 -- The loop at place j: that place's choice is in hand, and the lists hold those above it.
 pub record DownLoop
@@ -51,9 +49,8 @@ module _
       {best : Choice} {j : ℕ} → j ≡ length counts - 1 →
       best ≡ servedAt (instanceOf s) (countAtPlace counts j) l (costIn column₀ j) j → Loop column₀ places₀ best j
   down-starts {best} {j} last e =
-      let two = p .allowed .two in
-      let column-end : j + 1 ≡ length column₀ = omega (arith, p .column-size) in
-      let places-end : j + 1 ≡ length places₀ = omega (arith, p .places-size) in
+      let column-end : j + 1 ≡ length column₀ = omega arith in
+      let places-end : j + 1 ≡ length places₀ = omega arith in
       record {
         inside = omega arith;
         here = e ∙ sym (downward-last (instanceOf s) counts l (costIn column₀) j last);
@@ -63,10 +60,10 @@ module _
 
   module _ {column places : List ℕ} {best : Choice} {j : ℕ} (f : Loop column places best j) where
     stored-costs : Downto (λ k. down k .cost) j column₀ (set column j (best .cost))
-    stored-costs = downto-more (f .costs) (omega (arith, f .inside, p .column-size)) (ap (λ c. c .cost) (f .here))
+    stored-costs = downto-more (f .costs) (omega arith) (ap (λ c. c .cost) (f .here))
 
     stored-places : Downto (λ k. down k .at) j places₀ (set places j (best .at))
-    stored-places = downto-more (f .at-places) (omega (arith, f .inside, p .places-size)) (ap (λ c. c .at) (f .here))
+    stored-places = downto-more (f .at-places) (omega arith) (ap (λ c. c .at) (f .here))
 
     -- the entry below is as it was
     entry-below : (x : ℕ) → 0 < j → getD (set column j x) (j - 1) 0 ≡ getD column₀ (j - 1) 0
@@ -89,9 +86,9 @@ module _
         Loop (set column j (best .cost)) (set places j (best .at)) next (j - 1)
     down-turns {next} h e =
         let back : j - 1 + 1 ≡ j = omega arith in
-        let below = downward-below (instanceOf s) counts l (costIn column₀) (j - 1) (omega (arith, f .inside)) in
+        let below = downward-below (instanceOf s) counts l (costIn column₀) (j - 1) (omega arith) in
         record {
-          inside = omega (arith, f .inside);
+          inside = omega arith;
           here = e ∙ rw (entry-below (best .cost) h, below, back, f .here);
           costs = rw back stored-costs;
           at-places = rw back stored-places;

@@ -4,16 +4,16 @@ use mathlib.Core.Path.{_≡_, refl, ap, _∙_}
 use mathlib.Core.List.{List}
 use native.Mathlib.Nat.{mod-lt}
 use native.Mathlib.Omega.{arith}
-use lib.ListN.{length, getD, drop, replicate}
+use lib.ListN.{length, getD, drop}
 use Rattle.lists.specs.Lists.{getD-tabulate}
-use Rattle.lists.specs.InPlace.{front-row, front-entry}
+use Rattle.lists.specs.Rows.{front-row, front-entry}
 use Rattle.model.specs.Instance.{Instance, instanceOf}
 use Rattle.card.specs.declared.Header.{Header}
 use Rattle.columns.specs.Column.{column, selection, wayBack, searchedPlan, searchedCost}
+use Rattle.columns.specs.Laws.{upward-inside}
 use Rattle.search.specs.Written.{columnList, lastColumn, selectionRow, selectionRows, selectionsIn, wayThrough}
 use Rattle.search.specs.Asked.{Leading, Searchable}
 use Rattle.search.proofs.Allowed.{counts-small}
-use Rattle.search.proofs.Columns.{upward-inside}
 use Rattle.search.proofs.Slots.{row-size}
 
 module _ (i : Instance) (counts : List ℕ) where
@@ -27,9 +27,9 @@ module _ (i : Instance) (counts : List ℕ) where
 
   module _ (work : List ℕ) (some : 1 ≤ length counts) where
     -- each byte of the rows is a place
-    row-inside : (k : ℕ) → k < i .slots * length counts → getD (selectionsIn i counts work) k 0 < length counts
+    entry-inside : (k : ℕ) → k < i .slots * length counts → getD (selectionsIn i counts work) k 0 < length counts
     unfolding selectionRows
-    row-inside k h =
+    entry-inside k h =
         let rest = drop (i .slots * length counts) work in
         let t = k / length counts in
         let j = k % length counts in
@@ -48,17 +48,17 @@ module _ (i : Instance) (counts : List ℕ) where
 
 module _ {s : List ℕ} {h : Header} {counts column₀ plan work : List ℕ} (p : Searchable s h counts column₀ plan work) where
   some-count : 1 ≤ length counts
-  some-count = omega (arith, p .ahead .allowed .two)
+  some-count = omega arith
 
-  module _ {work₁ : List ℕ} (kept : length work₁ ≡ length work) (filled : work₁ ≡ selectionsIn (instanceOf s) counts work) where
-    pub leads-back : Leading counts work₁ plan
-    leads-back =
+  module _ {work₁ : List ℕ} (filled : work₁ ≡ selectionsIn (instanceOf s) counts work) where
+    pub leads-back : length work₁ ≡ length work → Leading counts work₁ plan
+    leads-back kept =
         let slots = ap (λ (x : ℕ). x * length counts) (p .plan-size) in
         record {
           some = some-count;
           counts-range = counts-small s (p .ahead .ready .accepted) (p .ahead .allowed);
-          room = omega (arith, p .ahead .work-room);
-          inside = λ k b. rw filled (row-inside (instanceOf s) counts work some-count k (omega arith));
+          room = omega arith;
+          inside = λ k b. rw filled (entry-inside (instanceOf s) counts work some-count k (omega arith));
         }
 
     pub plan-found :
@@ -67,9 +67,6 @@ module _ {s : List ℕ} {h : Header} {counts column₀ plan work : List ℕ} (p 
     plan-found e =
         let same = way-same (instanceOf s) counts work some-count (instanceOf s .slots) 0 (omega arith) some-count in
         e ∙ rw (filled, p .plan-size) same
-
-    pub cleared : {work₂ : List ℕ} → work₂ ≡ replicate (length work₁) 0 → work₂ ≡ replicate (length work) 0
-    cleared e = e ∙ rw kept
 
   pub cost-found :
       {column₁ : List ℕ} → column₁ ≡ lastColumn (instanceOf s) counts → getD column₁ 0 0 ≡ searchedCost (instanceOf s) counts 0

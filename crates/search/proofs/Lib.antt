@@ -1,7 +1,6 @@
 pub mod Bounds
 pub mod Allowed
 pub mod Candidates
-pub mod Columns
 pub mod Downward
 pub mod Upward
 pub mod Slot

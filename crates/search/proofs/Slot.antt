@@ -5,17 +5,16 @@ use mathlib.Core.List.{List}
 use native.Mathlib.Nat.{le-of-lt}
 use native.Mathlib.Omega.{arith}
 use lib.ListN.{length}
-use Rattle.lists.specs.Lists.{length-tabulate, getD-tabulate}
-use Rattle.lists.specs.InPlace.{tabulate-same}
+use Rattle.lists.specs.Lists.{length-tabulate, getD-tabulate, tabulate-same}
 use Rattle.model.specs.Instance.{instanceOf}
 use Rattle.laws.specs.Acceptance.{up-range, down-range}
 use Rattle.columns.specs.Column.{Choice, lastPlace, downward, upward}
+use Rattle.columns.specs.Laws.{downward-bound}
 use Rattle.search.specs.Written.{costIn, choiceIn, Holds, rising}
 use Rattle.search.specs.Asked.{Choices, PricedSlot, mostCost}
 use Rattle.counts.proofs.Division.{running-most}
 use Rattle.search.proofs.Bounds.{table-at-most}
 use Rattle.search.proofs.Allowed.{counts-small, full-served}
-use Rattle.search.proofs.Columns.{downward-bound}
 use Rattle.search.proofs.Upward.{rising-upward}
 
 module _
@@ -35,11 +34,11 @@ module _
         record {
           priced =
               record {
-                price-range = omega (arith, p .price-is);
+                price-range = omega arith;
                 counts-range = counts-small s (q .accepted) (q .allowed);
                 column-size = rw (first .costs-are) (length-tabulate (length counts) _);
               };
-          some = omega (arith, q .allowed .two);
+          some = omega arith;
           rises = λ j h. le-of-lt (q .allowed .rises j h);
           places-size = rw (first .places-are) (length-tabulate (length counts) _);
           small =

@@ -1,14 +1,14 @@
 -- All slots, one after the other: the loop over them, and what it hands to each.
-use Prim.Native.Nat.{ℕ, suc, _+_, _-_, _*_, _≤_, _<_}
+use Prim.Native.Nat.{ℕ, _+_, _-_, _*_, _≤_, _<_}
 use mathlib.Core.Path.{_≡_, sym, ap, _∙_}
 use mathlib.Core.List.{List, _++_}
 use native.Mathlib.Nat.{sub-zero, zero-mul, mul-le-mul, mul-le-mul-right}
 use native.Mathlib.Numerals.{add-one}
 use native.Mathlib.Omega.{arith}
-use lib.ListN.{length, take, drop, length-append, length-drop}
-use borrow.Rule.Slice.PartMut.{mid-len}
-use Rattle.lists.specs.Lists.{rows, length-tabulate, getD-tabulate, length-rows}
-use Rattle.lists.specs.InPlace.{tabulate-same, next-row}
+use lib.ListN.{length, drop}
+use borrow.Rule.Slice.PartMut.{midOf, putMid, mid-len}
+use Rattle.lists.specs.Lists.{rows, length-tabulate, getD-tabulate, tabulate-same}
+use Rattle.lists.specs.Rows.{row-within, rows-size, next-row}
 use Rattle.model.specs.Instance.{Instance, instanceOf, loadPlace}
 use Rattle.model.specs.Counts.{operatingCost}
 use Rattle.model.specs.Thesis.{switchingPrice}
@@ -17,18 +17,18 @@ use Rattle.card.specs.declared.Header.{Header}
 use Rattle.card.specs.Reading.{Within}
 use Rattle.card.proofs.Room.{load-within}
 use Rattle.columns.specs.Column.{countAtPlace, lastPlace, upward, column, selection}
+use Rattle.columns.specs.Laws.{upward-same, column-bound}
 use Rattle.search.specs.Written.{costIn, Holds, priceList, columnList, lastColumn, selectionRow, selectionRows, selectionsIn}
 use Rattle.search.specs.Asked.{AtMost, Priced, PricedSlot, SlotsAhead, mostCost}
 use Rattle.counts.proofs.Division.{running-most}
 use Rattle.search.proofs.Bounds.{table-at-most}
 use Rattle.search.proofs.Allowed.{counts-fit, counts-small, full-served}
-use Rattle.search.proofs.Columns.{upward-same, column-bound}
 
 -- before slot t: the column after t slots, and t rows of selections in front of what the buffer held
 pub record SlotLoop (i : Instance) (counts work₀ costs work : List ℕ) (t : ℕ) : Type 0 where
   pub within : t ≤ i .slots
-  pub column-is : costs ≡ columnList i counts t
-  pub work-is : work ≡ selectionRows i counts t ++ drop (t * length counts) work₀
+  column-is : costs ≡ columnList i counts t
+  work-is : work ≡ selectionRows i counts t ++ drop (t * length counts) work₀
 
 pub row-size : (i : Instance) (counts : List ℕ) (t : ℕ) → length (selectionRow i counts t) ≡ length counts
 unfolding selectionRow
@@ -60,7 +60,7 @@ module _ {i : Instance} {counts work₀ costs work : List ℕ} {t : ℕ} (f : Sl
   pub slots-turn :
       {l a e : ℕ} {costs′ places : List ℕ} → 1 ≤ length counts → t < i .slots → l ≡ i .load t → a ≡ t * length counts →
       e ≡ a + length counts → Holds counts (upward i counts l (costIn costs)) costs′ places →
-      SlotLoop i counts work₀ costs′ (take a work ++ (places ++ drop (e - a) (drop a work))) (t + 1)
+      SlotLoop i counts work₀ costs′ (putMid a (e - a) work places) (t + 1)
   unfolding columnList column selectionRow selectionRows selection
   slots-turn {l} {a} {e} {costs′} {places} some h l-is a-is e-is now =
       let same = slot-same i counts t some in
@@ -76,33 +76,26 @@ module _ {i : Instance} {counts work₀ costs work : List ℕ} {t : ℕ} (f : Sl
       }
 
   pub slots-end : i .slots ≤ t → (costs ≡ lastColumn i counts) × (work ≡ selectionsIn i counts work₀)
-  slots-end h = let all : t ≡ i .slots = omega (arith, f .within) in (rw all at (f .column-is), rw all at (f .work-is))
+  slots-end h = let all : t ≡ i .slots = omega arith in (rw all at (f .column-is), rw all at (f .work-is))
 
 -- what the loop hands on
 module _ {s : List ℕ} {h : Header} {counts costs₀ work₀ : List ℕ} (p : SlotsAhead s h counts costs₀ work₀) where
   pub price-is : h .up + h .down ≡ switchingPrice (instanceOf s)
-  price-is = omega (arith, p .ready .header .up-is, p .ready .header .down-is)
+  price-is = omega arith
 
   pub slot-inside : {t : ℕ} → t < h .slots → t < instanceOf s .slots
   slot-inside g = rw (p .ready .header .slots-is) at g
 
   pub row-small : {t : ℕ} → t < h .slots → t * length counts + length counts ≤ 262144
-  row-small {t} g =
-      let slot = slot-inside g in
-      let slots = slots-range s (p .ready .accepted) in
-      let area = mul-le-mul {n₁ = suc t} {m₁ = length counts} {n₂ = 1024} {m₂ = 256} (omega arith) (p .allowed .bytes) in
-      omega arith
+  row-small g = row-within (length counts) {n = 1024} (omega (arith, slots-range s (p .ready .accepted))) (omega arith)
 
   pub load-there : {t : ℕ} → t < h .slots → Within s (loadPlace (h .top) t) 2 × (h .top ≡ instanceOf s .topStep)
   load-there {t} g =
       let top-is = p .ready .header .top-is in
       (rw top-is (load-within s (p .ready .accepted) t (slot-inside g)), top-is)
 
-  pub up-small : h .up ≤ 500000000
-  up-small = rw (p .ready .header .up-is) (up-range s (p .ready .accepted))
-
-  pub down-small : h .down ≤ 500000000
-  down-small = rw (p .ready .header .down-is) (down-range s (p .ready .accepted))
+  pub price-most : h .up + h .down ≤ 1000000000
+  price-most = omega (arith, up-range s (p .ready .accepted), down-range s (p .ready .accepted))
 
   pub start-priced : {price : ℕ} → price ≤ 1000000000 → Priced price counts costs₀
   start-priced small =
@@ -113,18 +106,12 @@ module _ {s : List ℕ} {h : Header} {counts costs₀ work₀ : List ℕ} (p : S
       }
 
   -- no cost after t slots exceeds the start's prices and a full rack for each slot
-  column-small : (t : ℕ) → t ≤ instanceOf s .slots → (j : ℕ) → column (instanceOf s) counts 0 t j ≤ mostCost
-  column-small t within j =
+  column-small : (t j : ℕ) → t ≤ instanceOf s .slots → j < length counts → column (instanceOf s) counts 0 t j ≤ mostCost
+  column-small t j within inside =
       let accepted = p .ready .accepted in
-      let modules = modules-range s accepted .1 in
-      let slots = slots-range s accepted in
-      let on = up-range s accepted in
-      let off = down-range s accepted in
-      let price =
-      mul-le-mul {n₁ = switchingPrice (instanceOf s)} {m₁ = instanceOf s .modules} {n₂ = 1000000000} {m₂ = 200} (omega arith) modules in
-      let each =
-      column-bound (instanceOf s) counts (instanceOf s .modules) 200000000 (instanceOf s .slots) (counts-fit (p .allowed)) full in
-      omega (arith, each t within j)
+      let some : 1 ≤ length counts = omega arith in
+      let most = column-bound (instanceOf s) counts 0 _ 200000000 some (λ k _. counts-fit (p .allowed) k) full t j within inside in
+      omega (arith, slots-range s accepted, mul-le-mul (rw price-is at price-most) (modules-range s accepted .1))
     where
       full :
           (t : ℕ) → t < instanceOf s .slots →
@@ -135,26 +122,26 @@ module _ {s : List ℕ} {h : Header} {counts costs₀ work₀ : List ℕ} (p : S
     pub work-long : length work ≡ length work₀
     unfolding selectionRows
     work-long =
-        let rows-long = length-rows (length counts) t (selectionRow (instanceOf s) counts) (row-size (instanceOf s) counts) in
-        let within = f .within in
+        let rows-fit = mul-le-mul-right (length counts) (f .within) in
         ap length (f .work-is) ∙
-        simp (length-append, length-drop) (omega (arith, p .work-room, mul-le-mul-right (length counts) within))
+        rows-size (length counts) (selectionRow (instanceOf s) counts) (row-size (instanceOf s) counts) t work₀
+        (omega arith)
 
     pub column-kept : length costs ≡ length costs₀
     column-kept = ap length (f .column-is) ∙ column-long (instanceOf s) counts t ∙ sym (p .column-size)
 
     pub row-room : t < h .slots → t * length counts + length counts ≤ length work
-    row-room g = omega (arith, work-long, p .work-room, mul-le-mul-right (length counts) (slot-inside g))
+    row-room g = row-within (length counts) (slot-inside g) (omega (arith, work-long))
 
     costs-small : AtMost mostCost costs
     unfolding columnList
     costs-small =
         rw (f .column-is)
-        (table-at-most (length counts) mostCost (column (instanceOf s) counts 0 t) (λ j _. column-small t (f .within) j))
+        (table-at-most (length counts) mostCost (column (instanceOf s) counts 0 t) (λ j inside. column-small t j (f .within) inside))
 
     pub slot-ready :
         {top l a e : ℕ} → top ≡ h .top → t < h .slots → l ≡ instanceOf s .load t → a ≡ t * length counts →
-        e ≡ a + length counts → PricedSlot s top (h .up + h .down) counts l costs (take (e - a) (drop a work))
+        e ≡ a + length counts → PricedSlot s top (h .up + h .down) counts l costs (midOf a (e - a) work)
     slot-ready {top} {l} {a} {e} top-is g l-is a-is e-is =
         record {
           slot =

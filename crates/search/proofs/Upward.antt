@@ -6,29 +6,16 @@ use native.Mathlib.Nat.{le-refl}
 use native.Mathlib.Numerals.{add-one}
 use native.Mathlib.Omega.{arith}
 use lib.ListN.{length, set}
-use Rattle.lists.specs.Filling.{Upto, upto-more, upto-all}
-use Rattle.lists.specs.InPlace.{upto-first}
+use Rattle.lists.specs.Filling.{Upto, upto-first, upto-more, upto-all}
 use Rattle.model.specs.Instance.{Instance}
 use Rattle.model.specs.Thesis.{switchingPrice}
 use Rattle.columns.specs.Column.{Choice, cheaper, countAtPlace, downward, upward}
+use Rattle.columns.specs.Laws.{cheaper-bound}
 use Rattle.search.specs.Written.{rising, choiceIn, Holds}
 use Rattle.search.specs.Asked.{Choices, mostCost}
 use Rattle.search.proofs.Bounds.{price-small}
-use Rattle.search.proofs.Columns.{cheaper-bound}
 
 module _ (price : ℕ) (counts : List ℕ) (given : ℕ → Choice) where
-  rising-next :
-      (j : ℕ) →
-      rising price counts given (j + 1) ≡
-      cheaper
-      (record {
-        cost = rising price counts given j .cost + price * (countAtPlace counts (j + 1) - countAtPlace counts j);
-        at = rising price counts given j .at;
-      })
-      (given (j + 1))
-  unfolding rising
-  rising-next j = rw add-one
-
   rising-bound : (j : ℕ) → rising price counts given j .cost ≤ given j .cost
   unfolding rising
   rising-bound zero = le-refl (given 0 .cost)
@@ -56,7 +43,7 @@ module _ {price : ℕ} {counts column₀ places₀ : List ℕ} (p : Choices pric
   unfolding rising
   up-starts =
       record {
-        inside = omega (arith, p .some);
+        inside = omega arith;
         here = refl;
         costs = upto-first column₀ refl;
         at-places = upto-first places₀ refl;
@@ -71,10 +58,11 @@ module _ {price : ℕ} {counts column₀ places₀ : List ℕ} (p : Choices pric
         (choiceIn column places (j + 1))
 
     above-is : above ≡ rising price counts (choiceIn column₀ places₀) (j + 1)
+    unfolding rising
     above-is =
         let cost = f .costs .kept (j + 1) (omega arith) in
         let at-place = f .at-places .kept (j + 1) (omega arith) in
-        rw (cost, at-place, f .here, rising-next price counts (choiceIn column₀ places₀) j)
+        rw (cost, at-place, f .here, add-one j)
 
     pub up-turns :
         {next : Choice} → j + 1 < length counts → next ≡ above →
@@ -84,15 +72,15 @@ module _ {price : ℕ} {counts column₀ places₀ : List ℕ} (p : Choices pric
         record {
           inside = h;
           here = here;
-          costs = upto-more (f .costs) (omega (arith, p .priced .column-size)) (ap (λ c. c .cost) here);
-          at-places = upto-more (f .at-places) (omega (arith, p .places-size)) (ap (λ c. c .at) here);
+          costs = upto-more (f .costs) (omega arith) (ap (λ c. c .cost) here);
+          at-places = upto-more (f .at-places) (omega arith) (ap (λ c. c .at) here);
         }
 
     pub up-ends : length counts ≤ j + 1 → Holds counts (rising price counts (choiceIn column₀ places₀)) column places
     up-ends h =
         record {
-          costs-are = rw (← (p .priced .column-size)) (upto-all (f .costs) (omega (arith, p .priced .column-size)));
-          places-are = rw (← (p .places-size)) (upto-all (f .at-places) (omega (arith, p .places-size)));
+          costs-are = rw (← (p .priced .column-size)) (upto-all (f .costs) (omega arith));
+          places-are = rw (← (p .places-size)) (upto-all (f .at-places) (omega arith));
         }
 
     -- the sums are small

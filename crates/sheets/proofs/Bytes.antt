@@ -64,7 +64,7 @@ unfolding sheetEntries
 part-ready {s} {h} {sheet} given a part inside same =
     record {
       ready = given .sized .ready;
-      few = omega (arith, given .sized .size, area-small s (given .sized .ready .accepted));
+      few = omega (arith, area-small s (given .sized .ready .accepted));
       in-range = λ x below.
           let place : a + x < length sheet = omega arith in
           rw (same x below, getD-within sheet (a + x) 0 off place) (every-at (length sheet) _ (given .entries) (a + x) place);
@@ -92,9 +92,6 @@ at-most b {x} {y} h = go (isOff b)
     go : (t : Bool) → cond t 0 x ≤ y
     go true = omega arith
     go false = h
-
-pub byte-small : {b x : ℕ} → Fits w8 b → x ≡ b → x ≤ 255
-byte-small f e = omega arith
 
 pub step-each : (row : List ℕ) → ((j : ℕ) → Fits w8 (getD row j 0)) → (k : ℕ) → k < length row → stepOf (getD row k 0) ≤ 255
 step-each row bytes k h = let b = bytes k in at-most (getD row k 0) (omega arith)
@@ -132,4 +129,4 @@ module _ {s : List ℕ} {h : Header} {bytes : List ℕ} (given : BytesReady s h 
 
   pub bytes-most : {cost : ℕ} → cost ≡ bytesCost (instanceOf s) before bytes → cost ≤ 204800 * 501000000
   unfolding bytesCost
-  bytes-most e = omega (arith, sum-at-most (length bytes) bytes-each, given .few)
+  bytes-most e = omega (arith, sum-at-most (length bytes) bytes-each)

@@ -1,16 +1,18 @@
 -- A sheet buffer of which the first t slots are filled.
 use Prim.Native.Nat.{ℕ, _+_, _-_, _*_, _≤_, _<_}
-use mathlib.Core.Path.{_≡_, ap, sym, _∙_}
+use mathlib.Core.Path.{_≡_, ap, _∙_}
 use mathlib.Core.List.{List, _++_}
 use native.Mathlib.Nat.{mul-le-mul-left, zero-mul}
 use native.Mathlib.Omega.{arith}
 use lib.ListN.{length, getD, drop}
 use borrow.Rule.Slice.PartMut.{midOf, putMid}
 use Rattle.lists.specs.Lists.{tabulate, length-tabulate, rows, length-rows}
-use Rattle.lists.specs.Parts.{part-length, row-within, rows-size, rows-more}
+use Rattle.lists.specs.Parts.{part-length}
+use Rattle.lists.specs.Rows.{row-within, rows-size, next-row}
 use Rattle.model.specs.Instance.{Instance}
 use Rattle.model.specs.Plans.{moduleByte, slotRow, sheetOf}
 
+-- the row of slot t by a plan
 abbrev planRow : Instance → List ℕ → ℕ → List ℕ
 planRow i p t = slotRow i (getD p t 0) (i .load t)
 
@@ -18,6 +20,7 @@ row-length : (i : Instance) (p : List ℕ) (t : ℕ) → length (planRow i p t) 
 unfolding slotRow
 row-length i p t = length-tabulate (i .modules) _
 
+-- the rows of the first t slots are the plan's, the rest is as it was
 pub record Filled (i : Instance) (p old : List ℕ) (t : ℕ) (new : List ℕ) : Type 0 where
   pub within : t ≤ i .slots
   pub so-far : new ≡ rows t (planRow i p) ++ drop (t * i .modules) old
@@ -28,10 +31,9 @@ filled-none i p old = record { within = omega arith; so-far = rw (zero-mul (i .m
 
 module _ {i : Instance} {p old l : List ℕ} {t : ℕ} (given : Filled i p old t l) (room : i .modules * i .slots ≤ length old) where
   pub filled-size : length l ≡ length old
-  filled-size = ap length (given .so-far) ∙ rows-size (i .modules) t (planRow i p) (row-length i p) old (rows-before (given .within) room)
-    where
-      rows-before : t ≤ i .slots → i .modules * i .slots ≤ length old → t * i .modules ≤ length old
-      rows-before h g = omega (arith, mul-le-mul-left (i .modules) h)
+  filled-size =
+      let rows-fit = mul-le-mul-left (i .modules) (given .within) in
+      ap length (given .so-far) ∙ rows-size (i .modules) (planRow i p) (row-length i p) t old (omega arith)
 
   pub filled-room : i .modules * i .slots ≤ length l
   filled-room = omega (arith, filled-size)
@@ -43,24 +45,22 @@ module _ {i : Instance} {p old l : List ℕ} {t : ℕ} (given : Filled i p old t
       Filled i p old (t + 1) (putMid (t * m) (t * m + m - t * m) l row)
   unfolding slotRow
   filled-more {m} {n} {load} {row} h m-is n-is load-is filled =
+      let start : t * m ≡ t * i .modules = rw m-is in
+      let width : t * m + m - t * m ≡ i .modules = omega arith in
       record {
         within = omega arith;
-        so-far = rw (whole, m-is) (rows-more (i .modules) t (planRow i p) (row-length i p) old (given .so-far));
+        so-far = rw whole (next-row (i .modules) (planRow i p) (row-length i p) t old start width (given .so-far));
       }
     where
       long : t * m + m ≤ length l
       long = rw m-is (omega (arith, filled-size, row-within (i .modules) h room))
 
       whole : row ≡ planRow i p t
-      whole =
-          filled ∙ ap (λ (x : ℕ). tabulate x (moduleByte n load)) (part-length (t * m) m l long ∙ m-is) ∙
-          rw (n-is, load-is)
+      whole = filled ∙ rw (part-length (t * m) m l long, m-is, n-is, load-is)
 
-  pub filled-all :
-      i .slots ≤ t → l ≡ sheetOf i p ++ drop (length (sheetOf i p)) old
+  pub filled-all : i .slots ≤ t → l ≡ sheetOf i p ++ drop (length (sheetOf i p)) old
   unfolding sheetOf
   filled-all h =
-      let same : t ≡ i .slots = omega (arith, given .within) in
+      let same : t ≡ i .slots = omega arith in
       let count = length-rows (i .modules) (i .slots) (planRow i p) (row-length i p) in
-      given .so-far ∙ ap (λ (x : ℕ). rows x (planRow i p) ++ drop (x * i .modules) old) same ∙
-      ap (λ (x : ℕ). rows (i .slots) (planRow i p) ++ drop x old) (sym count)
+      rw count (rw same at (given .so-far))

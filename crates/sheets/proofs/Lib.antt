@@ -1,4 +1,3 @@
-pub mod Tests
 pub mod Row
 pub mod Bytes
 pub mod Slots

@@ -10,7 +10,8 @@ use lib.ListN.{length, getD}
 use borrow.Author.Tests.{leb-true, le-leb, lt-leb}
 use borrow.Rule.Slice.PartMut.{midOf}
 use Rattle.lists.specs.Tests.{every-at}
-use Rattle.lists.specs.Parts.{part-length, row-within}
+use Rattle.lists.specs.Parts.{part-length}
+use Rattle.lists.specs.Rows.{row-within}
 use Rattle.model.specs.Instance.{Instance, instanceOf, loadPlace}
 use Rattle.model.specs.Counts.{canServe}
 use Rattle.model.specs.Plans.{planServes}
@@ -27,16 +28,16 @@ use Rattle.sheets.proofs.Slots.{slot-most}
 
 -- a place in the plan is a slot
 pub in-slots : {s : List ℕ} {h : Header} {p : List ℕ} {t : ℕ} → PlanSized s h p → t < length p → t < instanceOf s .slots
-in-slots given below = omega (arith, given .slotwise)
+in-slots given below = omega arith
 
 pub no-more-slots : {s : List ℕ} {h : Header} {p : List ℕ} {t : ℕ} → PlanSized s h p → length p ≤ t → instanceOf s .slots ≤ t
-no-more-slots given past = omega (arith, given .slotwise)
+no-more-slots given past = omega arith
 
 pub in-header : {s : List ℕ} {h : Header} {t : ℕ} → Ready s h → t < h .slots → t < instanceOf s .slots
-in-header given below = omega (arith, given .header .slots-is)
+in-header given below = omega arith
 
 pub past-header : {s : List ℕ} {h : Header} {t : ℕ} → Ready s h → h .slots ≤ t → instanceOf s .slots ≤ t
-past-header given past = omega (arith, given .header .slots-is)
+past-header given past = omega arith
 
 -- the row of slot t lies inside an area of m × T bytes, which are at most 200 × 1,024
 pub row-there : {s : List ℕ} {h : Header} {t size : ℕ} → Ready s h → t < instanceOf s .slots →
@@ -49,7 +50,7 @@ row-small {s} given below = row-there given below (area-small s (given .accepted
 pub row-short :
     {s : List ℕ} {h : Header} (l : List ℕ) (a : ℕ) → Ready s h → a + h .modules ≤ length l → RowShort (midOf a (a + h .modules - a) l)
 row-short {s} {h} l a given inside =
-    record { short = omega (arith, part-length a (h .modules) l inside, given .header .modules-is, modules-range s (given .accepted) .1) }
+    record { short = omega (arith, part-length a (h .modules) l inside, modules-range s (given .accepted) .1) }
 
 pub load-there : {s : List ℕ} {h : Header} {t : ℕ} → Ready s h → t < instanceOf s .slots → Within s (loadPlace (h .top) t) 2
 load-there {s} {h} {t} given below = rw (given .header .top-is) (load-within s (given .accepted) t below)
@@ -92,8 +93,8 @@ pub row-fits :
 row-fits {s} {h} {p} {t} {n} {load} l a given below inside e f =
     let slot = slot-ready given below e f .served in
     record {
-      in-row = omega (arith, part-length a (h .modules) l inside, given .sized .ready .header .modules-is, slot .in-rack);
-      serves = omega (arith, slot .serves, mul-le-mul-left n (top-range s (given .sized .ready .accepted) .1));
+      in-row = omega (arith, part-length a (h .modules) l inside);
+      serves = omega (arith, mul-le-mul-left n (top-range s (given .sized .ready .accepted) .1));
     }
 
 -- one slot's cost from what the loop has at hand, and the count that it keeps for the next

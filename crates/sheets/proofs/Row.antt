@@ -6,9 +6,9 @@ use native.Mathlib.Omega.{arith}
 use lib.ListN.{length, take, drop, replicate}
 use borrow.Author.Tests.{lt-ltb, le-ltb}
 use borrow.Rule.Slice.PartMut.{midOf, putMid}
-use Rattle.lists.specs.Lists.{tabulate}
+use Rattle.lists.specs.Lists.{tabulate, tabulate-constant}
 use Rattle.lists.specs.Filling.{Upto, upto-all}
-use Rattle.lists.specs.Parts.{upto-front, upto-part, tabulate-same}
+use Rattle.lists.specs.Parts.{upto-front, upto-part}
 use Rattle.model.specs.Sheets.{off}
 use Rattle.model.specs.Plans.{moduleByte}
 use Rattle.counts.proofs.Division.{rest-below}
@@ -20,7 +20,7 @@ byte-off n l k h = rw (le-ltb k n h)
 -- no module active
 pub row-off :
     (n l : ℕ) (row : List ℕ) {new : List ℕ} → n ≡ 0 → new ≡ replicate (length row) 255 → new ≡ tabulate (length row) (moduleByte n l)
-row-off n l row e filled = filled ∙ sym (tabulate-same (length row) (λ k h. byte-off n l k (omega arith)))
+row-off n l row e filled = filled ∙ sym (tabulate-constant (length row) (λ k h. byte-off n l k (omega arith)))
 
 module _ (n l : ℕ) (some : n ≡ 0 → ⊥) where
   byte-next : (k : ℕ) → k < l % n → moduleByte n l k ≡ l / n + 1
@@ -46,5 +46,5 @@ module _ (n l : ℕ) (some : n ≡ 0 → ⊥) where
       let first : Upto (moduleByte n l) (l % n) row (next ++ drop (l % n) row) = upto-front (omega arith) e byte-next in
       let active : Upto (moduleByte n l) n row (putMid (l % n) (n - l % n) (next ++ drop (l % n) row) step) =
       upto-part first (omega arith) h f byte-step in
-      upto-all (upto-part active (omega (arith, active .size)) (omega (arith, active .size)) g (λ k i j. byte-off n l k i))
-      (omega (arith, active .size))
+      upto-all (upto-part active (omega arith) (omega arith) g (λ k i j. byte-off n l k i))
+      (omega arith)

@@ -15,7 +15,6 @@ use Rattle.counts.proofs.Division.{running-most}
 pub switching-most : {s : List ℕ} {n l : ℕ} → Served s n l → (prev : ℕ) {up down : ℕ} → up ≡ instanceOf s .powerUp →
     down ≡ instanceOf s .powerDown → (up + down) * (n - prev) ≤ 1000000000 * 200
 switching-most {s} {n} {l} given prev {up} {down} p q =
-    let rack = given .in-rack in
     mul-le-mul {n₁ = up + down} {m₁ = n - prev} {n₂ = 1000000000} {m₂ = 200}
     (omega (arith, up-range s (given .accepted), down-range s (given .accepted)))
     (omega (arith, modules-range s (given .accepted) .1))

@@ -11,7 +11,6 @@ use borrow.Rule.Slice.PartMut.{midOf, mid-len}
 use Rattle.lists.specs.Sums.{sum, sum-ext, sum-join}
 use Rattle.lists.specs.Parts.{part-at}
 use Rattle.model.specs.Instance.{Instance}
-use Rattle.model.specs.Sheets.{off}
 use Rattle.sheets.specs.Marks.{byteCost, bytesCost, allOff, byteAt}
 use Rattle.sheets.proofs.States.{stateBefore}
 
@@ -45,15 +44,13 @@ module _ (s : List ℕ) (m last : ℕ) (all : m + last ≡ length s) where
 
     first-cost : bytesCost i allOff (take m s) ≡ sum m costAt
     unfolding bytesCost stateBefore
-    first-cost =
-        ap (λ (n : ℕ). sum n (λ k. byteCost i off (getD (take m s) k 0))) first-length ∙
-        sum-ext m (λ k h. rw (getD-take m s k 0 h, lt-ltb k m h))
+    first-cost = rw first-length (sum-ext m (λ k h. rw (getD-take m s k 0 h, lt-ltb k m h)))
 
     later-cost : bytesCost i (byteAt (take last s)) (from m s) ≡ sum last (λ k. costAt (m + k))
     unfolding bytesCost stateBefore
     later-cost =
-        ap (λ (n : ℕ). sum n (λ k. byteCost i (getD (take last s) k 0) (getD (from m s) k 0))) later-length ∙
-        sum-ext last (λ k h. rw (getD-take last s k 0 h, later-at k h, le-ltb (m + k) m (omega arith), add-sub-cancel-left m k))
+        rw later-length
+        (sum-ext last (λ k h. rw (getD-take last s k 0 h, later-at k h, le-ltb (m + k) m (omega arith), add-sub-cancel-left m k)))
 
     pub rows-cost : bytesCost i allOff (take m s) + bytesCost i (byteAt (take last s)) (from m s) ≡ bytesCost i (stateBefore m s) s
     unfolding bytesCost

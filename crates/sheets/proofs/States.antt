@@ -9,8 +9,9 @@ use lib.Arith.{digits-lt}
 use lib.Dec.{eqb, ltb}
 use borrow.Author.Tests.{lt-ltb, le-ltb, eq-eqb, ne-eqb}
 use borrow.Rule.Slice.PartMut.{midOf}
-use Rattle.lists.specs.Sums.{sum, sum-ext}
-use Rattle.lists.specs.Parts.{getD-within, part-length, part-at, row-within}
+use Rattle.lists.specs.Sums.{sum-ext}
+use Rattle.lists.specs.Parts.{getD-within, part-length, part-at}
+use Rattle.lists.specs.Rows.{row-within}
 use Rattle.model.specs.Instance.{Instance}
 use Rattle.model.specs.Sheets.{off, stepOf, stateAt, lightAt}
 use Rattle.sheets.specs.Marks.{rowLight}
@@ -18,6 +19,10 @@ use Rattle.sheets.specs.Marks.{rowLight}
 -- the byte of the same module in the slot before byte x, where a row has m bytes
 unfoldable pub stateBefore : ℕ → List ℕ → ℕ → ℕ
 stateBefore m s x = cond (ltb x m) off (getD s (x - m) 0)
+
+-- row t of rows of m bytes, as the code lends it
+abbrev lentRow : ℕ → ℕ → List ℕ → List ℕ
+lentRow m t s = midOf (t * m) (t * m + m - t * m) s
 
 module _ (i : Instance) (s : List ℕ) (size : length s ≡ i .modules * i .slots) where
   place-within : (t k : ℕ) → t < i .slots → k < i .modules → t * i .modules + k < length s
@@ -38,18 +43,14 @@ module _ (i : Instance) (s : List ℕ) (size : length s ≡ i .modules * i .slot
       rw (le-ltb (suc t * i .modules + k) (i .modules) later, place) (sym (state-is t k (omega arith) g))
 
   -- a row's light, and the test of it
-  pub row-light-is : {m t : ℕ} → m ≡ i .modules → t < i .slots → rowLight (midOf (t * m) (t * m + m - t * m) s) ≡ lightAt i s (suc t)
+  row-light-is : {m t : ℕ} → m ≡ i .modules → t < i .slots → rowLight (lentRow m t s) ≡ lightAt i s (suc t)
   unfolding rowLight lightAt
   row-light-is {m} {t} m-is h =
-      rw m-is
-      (ap (λ (x : ℕ). sum x (λ k. stepOf (getD (midOf (t * i .modules) (t * i .modules + i .modules - t * i .modules) s) k 0))) count ∙
-      sum-ext (i .modules) (λ k g. ap stepOf (part-at _ _ s k 0 (omega arith) ∙ sym (state-is t k h g))))
-    where
-      count : length (midOf (t * i .modules) (t * i .modules + i .modules - t * i .modules) s) ≡ i .modules
-      count = part-length _ _ s (row-within (i .modules) h (omega (arith, size)))
+      let count = part-length _ _ s (row-within (i .modules) h (omega (arith, size))) in
+      rw (m-is, count) (sum-ext (i .modules) (λ k g. ap stepOf (part-at _ _ s k 0 (omega arith) ∙ sym (state-is t k h g))))
 
-  module _ {m t x y : ℕ} (m-is : m ≡ i .modules) (below : t < i .slots)
-      (x-is : x ≡ rowLight (midOf (t * m) (t * m + m - t * m) s)) (y-is : y ≡ i .load t) where
+  module _
+      {m t x y : ℕ} (m-is : m ≡ i .modules) (below : t < i .slots) (x-is : x ≡ rowLight (lentRow m t s)) (y-is : y ≡ i .load t) where
     pub light-failed : (x ≡ y → ⊥) → eqb (lightAt i s (suc t)) (i .load t) ≡ false
     light-failed h = rw (← row-light-is m-is below, ← x-is, ← y-is) (ne-eqb x y h)
 

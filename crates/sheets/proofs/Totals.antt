@@ -1,6 +1,6 @@
 -- The cost of a sheet is that of its bytes and of the changes to off after its last slot.
 use Prim.Native.Nat.{ℕ, suc, _+_, _-_, _*_, _≤_, _<_}
-use mathlib.Core.Path.{_≡_, ap, ap₂, sym, _∙_}
+use mathlib.Core.Path.{_≡_, refl, ap, ap₂, sym, _∙_}
 use mathlib.Core.List.{List}
 use native.Mathlib.Nat.{le-refl, zero-add, mul-comm, mul-zero}
 use native.Mathlib.Numerals.{add-one}
@@ -25,7 +25,7 @@ module _ (i : Instance) (s : List ℕ) (size : length s ≡ i .modules * i .slot
 
   -- bytes are counted by slots and modules
   by-slots : (f : ℕ → ℕ) → sum (length s) f ≡ sum (i .slots) (λ t. sum (i .modules) (λ k. f (t * i .modules + k)))
-  by-slots f = ap (λ (n : ℕ). sum n f) (size ∙ mul-comm (i .modules) (i .slots)) ∙ sym (sum-blocks (i .slots) (i .modules) f)
+  by-slots f = rw (size, mul-comm (i .modules) (i .slots)) (sym (sum-blocks (i .slots) (i .modules) f))
 
   steps-are :
       sum (length s) (λ x. stepCost i (getD s x 0)) ≡ sum (i .slots) (λ t. sum (i .modules) (λ k. stepCost i (stateAt i s (suc t) k)))
@@ -56,29 +56,29 @@ module _ (i : Instance) (s : List ℕ) (size : length s ≡ i .modules * i .slot
       rw (add-one (i .slots)) (omega (arith, apart, steps-are, changes-are, last))
 
   -- no slots
-  pub cost-empty : i .slots ≡ 0 → 0 ≡ sheetCost i s
+  cost-empty : i .slots ≡ 0 → 0 ≡ sheetCost i s
   unfolding bytesCost sum stateAt
   cost-empty e =
-      let none : length s ≡ 0 = size ∙ ap (λ (n : ℕ). i .modules * n) e ∙ mul-zero (i .modules) in
+      let none : length s ≡ 0 = rw (size, e) (mul-zero (i .modules)) in
       let bytes : bytesCost i beforeAt s ≡ 0 = rw none in
-      let last = sum-const (i .modules) {f = lastChange} {c = 0} (λ k g. ap (λ (n : ℕ). stopCost (i .powerDown) (stateAt i s n k)) e) in
+      let last = sum-const (i .modules) {f = lastChange} {c = 0} (λ k g. rw e) in
       omega (arith, total)
 
   -- the rows of a sheet with slots, where the last begins at place last
   module _ {last t : ℕ} (slots-are : suc t ≡ i .slots) (last-is : last ≡ t * i .modules) where
-    pub rows-all : i .modules + last ≡ length s
+    rows-all : i .modules + last ≡ length s
     rows-all = omega (arith, size, ap (λ (n : ℕ). i .modules * n) slots-are)
 
     stop-row : rowStopCost (i .powerDown) (from last s) ≡ sum (i .modules) lastChange
     unfolding rowStopCost
     stop-row =
-        ap (λ (n : ℕ). sum n (λ k. stopCost (i .powerDown) (getD (from last s) k 0))) (last-length s (i .modules) last rows-all) ∙
-        sum-ext (i .modules) (λ k g. ap (stopCost (i .powerDown)) (last-at s (i .modules) last rows-all k g ∙ state k g))
+        rw (last-length s (i .modules) last rows-all)
+        (sum-ext (i .modules) (λ k g. ap (stopCost (i .powerDown)) (last-at s (i .modules) last rows-all k g ∙ state k g)))
       where
         state : (k : ℕ) → k < i .modules → getD s (last + k) 0 ≡ stateAt i s (i .slots) k
         state k g = rw last-is (sym (state-is i s size t k (omega arith) g)) ∙ ap (λ (n : ℕ). stateAt i s n k) slots-are
 
-    pub cost-whole :
+    cost-whole :
         {start rest stop : ℕ} → start ≡ bytesCost i allOff (take (i .modules) s) →
         rest ≡ bytesCost i (byteAt (take last s)) (from (i .modules) s) → stop ≡ rowStopCost (i .powerDown) (from last s) →
         start + rest + stop ≡ sheetCost i s
@@ -91,16 +91,11 @@ module _ {s : List ℕ} {h : Header} {sheet : List ℕ} (given : SheetReady s h 
 
   module _ (some : h .slots ≡ 0 → ⊥) where
     slots-before : suc (h .slots - 1) ≡ instanceOf s .slots
-    slots-before = omega (arith, given .sized .ready .header .slots-is)
-
-    last-place : (h .slots - 1) * h .modules ≡ (h .slots - 1) * instanceOf s .modules
-    last-place = ap (λ (n : ℕ). (h .slots - 1) * n) (given .sized .ready .header .modules-is)
+    slots-before = omega arith
 
     -- the first row and the rows before the last are the whole
     pub header-rows : h .modules + (h .slots - 1) * h .modules ≡ length sheet
-    header-rows =
-        let m = given .sized .ready .header .modules-is in
-        omega (arith, rows-all (instanceOf s) sheet (given .sized .size) slots-before last-place)
+    header-rows = rw (given .sized .ready .header .modules-is) (rows-all (instanceOf s) sheet (given .sized .size) slots-before refl)
 
     pub first-ready : BytesReady s h (take (h .modules) sheet)
     first-ready =
@@ -117,11 +112,10 @@ module _ {s : List ℕ} {h : Header} {sheet : List ℕ} (given : SheetReady s h 
 
     pub last-priced : RowPriced (h .down) (from ((h .slots - 1) * h .modules) sheet)
     last-priced =
-        let a = given .sized .ready .accepted in
-        let numbers = given .sized .ready .header in
+        let accepted = given .sized .ready .accepted in
         record {
-          short = omega (arith, last-length sheet _ _ header-rows, numbers .modules-is, modules-range s a .1);
-          priced = omega (arith, numbers .down-is, down-range s a);
+          short = omega (arith, last-length sheet _ _ header-rows, modules-range s accepted .1);
+          priced = omega (arith, down-range s accepted);
         }
 
     pub sheet-whole :
@@ -131,14 +125,11 @@ module _ {s : List ℕ} {h : Header} {sheet : List ℕ} (given : SheetReady s h 
     sheet-whole e f g =
         let m = given .sized .ready .header .modules-is in
         let d = given .sized .ready .header .down-is in
-        cost-whole (instanceOf s) sheet (given .sized .size) slots-before last-place
-        (e ∙ ap (λ (n : ℕ). bytesCost (instanceOf s) allOff (take n sheet)) m)
-        (f ∙ ap (λ (n : ℕ). bytesCost (instanceOf s) (byteAt (take ((h .slots - 1) * h .modules) sheet)) (from n sheet)) m)
-        (g ∙ ap (λ (n : ℕ). rowStopCost n (from ((h .slots - 1) * h .modules) sheet)) d)
+        cost-whole (instanceOf s) sheet (given .sized .size) slots-before refl (rw m at e) (rw m at f) (rw (m, d) at g)
 
 -- the changes to off after a row cost little
 pub row-stop-most : {down stop : ℕ} {row : List ℕ} → RowPriced down row → stop ≡ rowStopCost down row → stop ≤ 200 * 500000000
 unfolding rowStopCost
 row-stop-most {down} {stop} {row} given e =
     let each = sum-at-most (length row) (stop-each row (given .priced)) in
-    omega (arith, each, given .short)
+    omega (arith, each)

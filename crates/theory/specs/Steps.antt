@@ -3,14 +3,14 @@ use Prim.Native.Nat.{ℕ, zero, suc, _+_, _-_, _*_, _≤_, _<_}
 use mathlib.Core.Path.{_≡_, refl, sym, _∙_}
 use mathlib.Core.Bool.{Bool, true, false, cond, false≢true}
 use mathlib.Core.List.{List}
-use native.Mathlib.Nat.{mul-le-mul-left, mul-le-mul-right, mul-zero, sub-eq-zero-of-le}
+use native.Mathlib.Nat.{mul-le-mul-left, mul-zero, sub-eq-zero-of-le}
 use native.Mathlib.Omega.{arith}
 use lib.ListN.{length}
-use borrow.Author.Tests.{leb-true}
 use Rattle.model.specs.Instance.{Instance}
 use Rattle.model.specs.Counts.{canServe, operatingCost}
 use Rattle.model.specs.Thesis.{switchingPrice}
 use Rattle.columns.specs.Column.{countAtPlace, lastPlace, Choice, cheaper, own, fromTop, downward, upward, column, selection}
+use Rattle.columns.specs.Laws as laws
 use Rattle.theory.specs.Setting.{Ascending, LoadsFit, SlotStep}
 use Rattle.theory.specs.Running.{running-bound}
 use Rattle.theory.specs.Choices.{Best, best-own, best-skip, best-raised}
@@ -89,7 +89,7 @@ module _ (i : Instance) (counts : List ℕ) (asc : Ascending counts (i .modules)
         best-raised {value = served} j (rise (suc j) j)
         (λ k h. omega (arith, rise-through (suc j) j k h (omega arith) inside))
         (λ k h serves. served-above j k (omega arith) serves)
-        (λ k h serves. served-above (suc j) k h serves)
+        (served-above (suc j))
         (up-best j (omega arith))
         (down-best (suc j) inside)
 
@@ -114,7 +114,7 @@ module _
     (step : SlotStep i counts l before after chosen)
   where
     -- the column after a slot rises with the place
-    pub after-rises : (j k : ℕ) → j ≤ k → k < length counts → after j ≤ after k
+    after-rises : (j k : ℕ) → j ≤ k → k < length counts → after j ≤ after k
     after-rises j k h inside =
         let c = chosen k in
         let low = count-rises asc j k h inside in
@@ -127,7 +127,7 @@ module _
         )
 
     -- and by at most the switching price a module
-    pub after-slope :
+    after-slope :
         (j k : ℕ) → j ≤ k → k < length counts →
         after k ≤ after j + switchingPrice i * (countAtPlace counts k - countAtPlace counts j)
     after-slope j k h inside =
@@ -166,52 +166,10 @@ module _ (i : Instance) (counts : List ℕ) (start : ℕ) (asc : Ascending count
   column-slope zero j k h le inside = triangle (switchingPrice i) (countAtPlace counts k) (countAtPlace counts j) start
   column-slope (suc t) j k h le inside = after-slope asc (column-step t h) j k le inside
 
-  module _ (f : ℕ) (table : (k : ℕ) → k ≤ i .topStep → i .table k ≤ f) where
-    -- serving with the full rack
-    full-bound : (t : ℕ) → t < i .slots → operatingCost i (countAtPlace counts (lastPlace counts)) (i .load t) ≤ i .modules * f
-    full-bound t h = rw (asc .last) (running-bound i f table (i .modules) (i .load t) (loads t h))
-
-    -- a column's values are bounded
-    pub column-bound :
-        (t j : ℕ) → t ≤ i .slots → j < length counts →
-        column i counts start t j ≤ (t + 1) * (i .modules * (switchingPrice i + f))
-    unfolding column
-    column-bound zero j h inside =
-        let fits = count-fits asc j inside in
-        let less : countAtPlace counts j - start ≤ i .modules = omega arith in
-        omega (arith, mul-le-mul-left (switchingPrice i) less)
-    column-bound (suc t) j h inside =
-        omega (
-          arith,
-          column-step t h .at-most j (lastPlace counts) inside (last-inside asc) (last-serves asc i (i .load t) (loads t h)),
-          no-rise i counts asc j (lastPlace counts) (omega arith) (last-inside asc),
-          full-bound t h,
-          column-bound t (lastPlace counts) (omega arith) (last-inside asc),
-        )
-
-    -- and so are the numbers from which the next is computed
-    pub down-bound :
-        (t j : ℕ) → t < i .slots → j < length counts →
-        downward i counts (i .load t) (column i counts start t) j .cost ≤ (t + 2) * (i .modules * (switchingPrice i + f))
-    down-bound t j h inside =
-        let best = down-best i counts asc (i .load t) (loads t h) (column i counts start t) j inside in
-        omega (
-          arith,
-          best .least (lastPlace counts) (omega arith, (last-inside asc, last-serves asc i (i .load t) (loads t h))),
-          full-bound t h,
-          column-bound t (lastPlace counts) (omega arith) (last-inside asc),
-        )
-
-    pub own-bound :
-        (t j : ℕ) → t < i .slots → j < length counts → canServe i (countAtPlace counts j) (i .load t) ≡ true →
-        column i counts start t j + operatingCost i (countAtPlace counts j) (i .load t) ≤
-        (t + 2) * (i .modules * (switchingPrice i + f))
-    unfolding canServe
-    own-bound t j h inside serves =
-        let n = countAtPlace counts j in
-        omega (
-          arith,
-          column-bound t j (omega arith) inside,
-          running-bound i f table n (i .load t) (leb-true (i .load t) (n * i .topStep) serves),
-          mul-le-mul-right f (count-fits asc j inside),
-        )
+  -- a column's values are bounded: the full rack is switched on once and serves every slot
+  pub column-bound :
+      (f : ℕ) → ((k : ℕ) → k ≤ i .topStep → i .table k ≤ f) → (t j : ℕ) → t ≤ i .slots → j < length counts →
+      column i counts start t j ≤ switchingPrice i * i .modules + t * (i .modules * f)
+  column-bound f table =
+      laws.column-bound i counts start (i .modules) (i .modules * f) (omega (arith, asc .two)) (count-fits asc)
+      (λ t h. rw (asc .last) (running-bound i f table (i .modules) (i .load t) (loads t h)))

@@ -2,15 +2,10 @@ use mathlib.Core.Path.{refl}
 use Prim.Native.Nat.{_-_}
 use native.Mathlib.Omega.{arith}
 use Rattle.model.specs.Instance.{instanceOf}
-use Rattle.search.proofs.Slots.{SlotLoop, slots-start, slots-turn, slots-end, price-is, up-small, down-small, start-priced}
+use Rattle.search.proofs.Slots.{SlotLoop, slots-start, slots-turn, slots-end, price-is, price-most, start-priced}
 use Rattle.search.proofs.Slots.{slot-inside, load-there, column-kept, work-long, row-small, row-room, slot-ready}
 use Rattle.search.proofs.all_slots.Statement.{statement}
 use Rattle.search.proofs.all_slots.Tie as tie
-use Rattle.search.proofs.all_slots.Reads as reads
-use Rattle.search.proofs.all_slots.Lts as lts
-use Rattle.card.proofs.load.Reads as load-reads
-use Rattle.search.proofs.one_slot.Reads as one-slot-reads
-use Rattle.search.proofs.start_column.Reads as start-column-reads
 
 abbrev Inv-loop : tie.InvT-loop
 Inv-loop card counts column₀ work₀ price top slots width t₀ column work t = SlotLoop (instanceOf card) counts work₀ column work t
@@ -18,33 +13,32 @@ Inv-loop card counts column₀ work₀ price top slots width t₀ column work t 
 abbrev μ-loop : tie.MeasureT-loop
 μ-loop card counts column₀ work₀ price top slots width t₀ column work t = slots - t
 
+-- the start of the function, from its loop
+abbrev start : tie.At-loop Inv-loop μ-loop → tie.Start Inv-loop μ-loop
+start c = c .before .before .before .before .before .before .before .before .before .before
+
 add-price : tie.Need-add-price Inv-loop μ-loop
-add-price c = let p = c .before .before .before .before .before .pre in omega (arith, up-small p, down-small p)
+add-price c = omega (arith, price-most (c .before .before .before .before .before .pre))
 
 start-column-requires : tie.Need-start-column-requires Inv-loop μ-loop
 start-column-requires c κs =
     let p = c .before .before .before .before .before .before .pre in
-    start-priced p (omega (arith, up-small p, down-small p))
+    start-priced p (omega (arith, price-most p))
 
 loop-holds : tie.Need-loop-holds Inv-loop μ-loop
 loop-holds c =
-    let p = c .before .before .before .before .before .before .before .before .before .pre in
-    slots-start _ _ _ (price-is p) (c .before .before .start-column .ensures)
+    let called = c .before .before in
+    let p = called .before .before .before .before .before .before .before .pre in
+    slots-start _ _ _ (price-is p) (called .start-column .ensures)
 
 load-requires : tie.Need-load-requires Inv-loop μ-loop
-load-requires c κs =
-    let p = c .before .before .before .before .before .before .before .before .before .before .before .pre in
-    load-there p (c .loop-test .taken)
+load-requires c κs = load-there (start (c .before) .pre) (c .loop-test .taken)
 
 mul-row : tie.Need-mul-row Inv-loop μ-loop
-mul-row c =
-    let p = c .before .before .before .before .before .before .before .before .before .before .before .before .pre in
-    record { fits = omega (arith, row-small p (c .before .loop-test .taken)) }
+mul-row c = let test = c .before in record { fits = omega (arith, row-small (start (test .before) .pre) (test .loop-test .taken)) }
 
 add-end : tie.Need-add-end Inv-loop μ-loop
-add-end c =
-    let p = c .before .before .before .before .before .before .before .before .before .before .before .before .pre in
-    record { fits = omega (arith, row-small p (c .before .loop-test .taken)) }
+add-end c = let test = c .before in record { fits = omega (arith, row-small (start (test .before) .pre) (test .loop-test .taken)) }
 
 sub-one-slot : tie.Need-sub-one-slot Inv-loop μ-loop
 sub-one-slot c = omega arith
@@ -54,13 +48,14 @@ part-one-slot-start c = omega arith
 
 part-one-slot-end : tie.Need-part-one-slot-end Inv-loop μ-loop
 part-one-slot-end c =
-    let p = c .before .before .before .before .before .before .before .before .before .before .before .before .before .pre in
-    row-room p (c .before .before .before .loop .inv) (c .before .before .loop-test .taken)
+    let test = c .before .before in
+    row-room (start (test .before) .pre) (test .before .loop .inv) (test .loop-test .taken)
 
 one-slot-requires : tie.Need-one-slot-requires Inv-loop μ-loop
 one-slot-requires c κs =
-    let p = c .before .before .before .before .before .before .before .before .before .before .before .before .before .before .pre in
-    slot-ready p (c .before .before .before .before .loop .inv) refl (c .before .before .before .loop-test .taken) (c .before .before .load .ensures .is) refl refl
+    let read = c .before .before in
+    let test = read .before in
+    slot-ready (start (test .before) .pre) (test .before .loop .inv) refl (test .loop-test .taken) (read .load .ensures .is) refl refl
 
 add-t : tie.Need-add-t Inv-loop μ-loop
 add-t c = omega arith
@@ -70,50 +65,23 @@ loop-less c = omega arith
 
 loop-again : tie.Need-loop-again Inv-loop μ-loop
 loop-again c =
-    let p = c .before .before .before .before .before .before .before .before .before .before .before .before .before .before .before .before .before .before .before .pre in
-    slots-turn
-    (c .before .before .before .before .before .before .before .before .before .loop .inv)
-    (omega (arith, p .allowed .two))
-    (slot-inside p (c .before .before .before .before .before .before .before .before .loop-test .taken))
-    (c .before .before .before .before .before .before .before .load .ensures .is)
-    refl
-    refl
-    (c .before .before .before .before .one-slot .ensures)
+    let called = c .before .before .before .before in
+    let read = called .before .before .before in
+    let test = read .before in
+    let p = start (test .before) .pre in
+    slots-turn (test .before .loop .inv) (omega arith) (slot-inside p (test .loop-test .taken))
+    (read .load .ensures .is) refl refl (called .one-slot .ensures)
 
 same-length : tie.Need-same-length Inv-loop μ-loop
-same-length c =
-    let p = c .before .before .before .before .before .before .before .before .before .before .before .pre in
-    column-kept p (c .before .loop .inv)
+same-length c = column-kept (start (c .before) .pre) (c .before .loop .inv)
 
 same-length-2 : tie.Need-same-length-2 Inv-loop μ-loop
-same-length-2 c =
-    let p = c .before .before .before .before .before .before .before .before .before .before .before .pre in
-    work-long p (c .before .loop .inv)
+same-length-2 c = work-long (start (c .before) .pre) (c .before .loop .inv)
 
 returns : tie.Need-returns Inv-loop μ-loop
-returns c =
-    let p = c .before .before .before .before .before .before .before .before .before .before .before .pre in
-    slots-end (c .before .loop .inv) (rw (p .ready .header .slots-is) at (c .loop-test .left))
+returns c = slots-end (c .before .loop .inv) (rw (start (c .before) .pre .ready .header .slots-is) at (c .loop-test .left))
 
 pub all-slots-spec : {M : Type 1} → statement M
 all-slots-spec =
-    tie.close
-    (tie.spec
-    Inv-loop
-    μ-loop
-    add-price
-    start-column-requires
-    loop-holds
-    load-requires
-    mul-row
-    add-end
-    sub-one-slot
-    part-one-slot-start
-    part-one-slot-end
-    one-slot-requires
-    add-t
-    loop-less
-    loop-again
-    same-length
-    same-length-2
-    returns)
+    tie.close (tie.spec Inv-loop μ-loop add-price start-column-requires loop-holds load-requires mul-row add-end sub-one-slot
+    part-one-slot-start part-one-slot-end one-slot-requires add-t loop-less loop-again same-length same-length-2 returns)

@@ -7,10 +7,6 @@ use Rattle.search.proofs.Downward.{DownLoop, down-starts, down-turns, d
 use Rattle.search.proofs.Allowed.{full-served}
 use Rattle.search.proofs.down_pass.Statement.{statement}
 use Rattle.search.proofs.down_pass.Tie as tie
-use Rattle.search.proofs.down_pass.Reads as reads
-use Rattle.search.proofs.down_pass.Lts as lts
-use Rattle.search.proofs.own.Reads as own-reads
-use Rattle.search.proofs.own_or_above.Reads as own-or-above-reads
 
 abbrev Inv-loop : tie.InvT-loop
 Inv-loop card top counts l column₀ places₀ last j₀ best₀ column places j best =
@@ -18,6 +14,10 @@ Inv-loop card top counts l column₀ places₀ last j₀ best₀ column places j
 
 abbrev μ-loop : tie.MeasureT-loop
 μ-loop card top counts l column₀ places₀ last j₀ best₀ column places j best = j
+
+-- the start of the function, from its loop
+abbrev start : tie.At-loop Inv-loop μ-loop → tie.Start Inv-loop μ-loop
+start c = c .before .before .before .before .before .before .before .before
 
 sub-last : tie.Need-sub-last Inv-loop μ-loop
 sub-last c = omega arith
@@ -74,16 +74,16 @@ cast-own-or-above c = omega arith
 
 own-or-above-requires : tie.Need-own-or-above-requires Inv-loop μ-loop
 own-or-above-requires c κs =
-    let p = c .before .before .before .before .before .before .before .before .before .before .before .pre in
-    below-in-rack p (c .before .before .before .loop .inv) _ (c .before .before .loop-test .taken)
+    let test = c .before .before in
+    below-in-rack (start (test .before) .pre) (test .before .loop .inv) _ (test .loop-test .taken)
 
 loop-less : tie.Need-loop-less Inv-loop μ-loop
 loop-less c = omega arith
 
 loop-again : tie.Need-loop-again Inv-loop μ-loop
 loop-again c =
-    let p = c .before .before .before .before .before .before .before .before .before .before .before .before .pre in
-    down-turns p (c .before .before .before .before .loop .inv) (c .before .before .before .loop-test .taken) (c .own-or-above .ensures)
+    let test = c .before .before .before in
+    down-turns (start (test .before) .pre) (test .before .loop .inv) (test .loop-test .taken) (c .own-or-above .ensures)
 
 slice-write-column-2 : tie.Need-slice-write-column-2 Inv-loop μ-loop
 slice-write-column-2 c = omega arith
@@ -98,38 +98,11 @@ same-length-2 : tie.Need-same-length-2 Inv-loop μ-loop
 same-length-2 c = simp length-set (c .before .loop .inv .at-places .size)
 
 returns : tie.Need-returns Inv-loop μ-loop
-returns c =
-    let p = c .before .before .before .before .before .before .before .before .before .pre in
-    down-ends p (c .before .loop .inv) (c .loop-test .left)
+returns c = down-ends (start (c .before) .pre) (c .before .loop .inv) (c .loop-test .left)
 
 pub down-pass-spec : {M : Type 1} → statement M
 down-pass-spec =
-    tie.close
-    (tie.spec
-    Inv-loop
-    μ-loop
-    sub-last
-    mul-own
-    shared-slice-read-own
-    mul-own-2
-    slice-read-own
-    cast-own
-    own-requires
-    loop-holds
-    mul-column
-    slice-write-column
-    slice-write-places
-    sub-j
-    mul-own-or-above
-    shared-slice-read-own-or-above
-    mul-own-or-above-2
-    slice-read-own-or-above
-    cast-own-or-above
-    own-or-above-requires
-    loop-less
-    loop-again
-    slice-write-column-2
-    slice-write-places-2
-    same-length
-    same-length-2
-    returns)
+    tie.close (tie.spec Inv-loop μ-loop sub-last mul-own shared-slice-read-own mul-own-2 slice-read-own cast-own own-requires loop-holds
+    mul-column slice-write-column slice-write-places sub-j mul-own-or-above shared-slice-read-own-or-above mul-own-or-above-2
+    slice-read-own-or-above cast-own-or-above own-or-above-requires loop-less loop-again slice-write-column-2 slice-write-places-2
+    same-length same-length-2 returns)

@@ -1,21 +1,17 @@
 use native.Mathlib.Omega.{arith}
 use Rattle.counts.proofs.Division.{running-most}
-use Rattle.search.proofs.Candidates.{served-at}
 use borrow.Author.Needs.{needs}
 use Rattle.search.proofs.own.Statement.{statement}
 use Rattle.search.proofs.own.Tie as tie
-use Rattle.search.proofs.own.Reads as reads
-use Rattle.search.proofs.own.Lts as lts
-use Rattle.counts.proofs.operating_cost.Reads as operating-cost-reads
 
 operating-cost-requires : tie.Need-operating-cost-requires
 operating-cost-requires c κs = search needs
 
 add-cost : tie.Need-add-cost
-add-cost c = omega (arith, c .before .before .pre .1, c .operating-cost .ensures, running-most (c .before .before .pre .0))
+add-cost c = omega (arith, running-most (c .before .before .pre .0))
 
 returns : tie.Need-returns
-returns c = served-at _ _ _ _ _ (c .operating-cost .ensures)
+returns c = rw (c .operating-cost .ensures)
 
 pub own-spec : {M : Type 1} → statement M
 own-spec = tie.close (tie.spec operating-cost-requires add-cost returns)

@@ -3,10 +3,6 @@ use Rattle.search.proofs.Candidates.{product-small, can-serve, passed-o
 use borrow.Author.Needs.{needs}
 use Rattle.search.proofs.own_or_above.Statement.{statement}
 use Rattle.search.proofs.own_or_above.Tie as tie
-use Rattle.search.proofs.own_or_above.Reads as reads
-use Rattle.search.proofs.own_or_above.Lts as lts
-use Rattle.search.proofs.cheaper_of.Reads as cheaper-of-reads
-use Rattle.search.proofs.own.Reads as own-reads
 
 mul-if1 : tie.Need-mul-if1
 mul-if1 c = record { fits = omega (arith, product-small (c .before .pre)) }

@@ -8,8 +8,6 @@ use Rattle.search.specs.Written.{priceList}
 use Rattle.search.proofs.Bounds.{price-small}
 use Rattle.search.proofs.start_column.Statement.{statement}
 use Rattle.search.proofs.start_column.Tie as tie
-use Rattle.search.proofs.start_column.Reads as reads
-use Rattle.search.proofs.start_column.Lts as lts
 
 abbrev Inv-loop : tie.InvT-loop
 Inv-loop price counts column₀ j₀ column j = Upto (λ k. price * countAtPlace counts k) j column₀ column
@@ -28,9 +26,9 @@ shared-slice-read-column c = omega arith
 
 mul-column-2 : tie.Need-mul-column-2 Inv-loop μ-loop
 mul-column-2 c =
-    let p = c .before .before .before .pre in
-    let n = countAtPlace (c .before .before .before .args .counts .now) (c .before .before .loop .j) in
-    record { fits = omega (arith, price-small p n (p .counts-range .each (c .before .before .loop .j))) }
+    let loop = c .before .before in
+    let p = loop .before .pre in
+    record { fits = omega (arith, price-small p _ (p .counts-range .each (loop .loop .j))) }
 
 mul-column-3 : tie.Need-mul-column-3 Inv-loop μ-loop
 mul-column-3 c = omega arith
@@ -45,33 +43,16 @@ loop-less : tie.Need-loop-less Inv-loop μ-loop
 loop-less c = omega arith
 
 loop-again : tie.Need-loop-again Inv-loop μ-loop
-loop-again c =
-    let size = c .before .before .before .pre .column-size in
-    upto-more (c .before .before .loop .inv) (omega (arith, c .before .loop-test .taken)) refl
+loop-again c = upto-more (c .before .before .loop .inv) (omega arith) refl
 
 same-length : tie.Need-same-length Inv-loop μ-loop
 same-length c = c .before .loop .inv .size
 
 returns : tie.Need-returns Inv-loop μ-loop
 unfolding priceList
-returns c =
-    let size = c .before .before .pre .column-size in
-    rw (← size) (upto-all (c .before .loop .inv) (omega (arith, c .loop-test .left)))
+returns c = rw (← (c .before .before .pre .column-size)) (upto-all (c .before .loop .inv) (omega arith))
 
 pub start-column-spec : {M : Type 1} → statement M
 start-column-spec =
-    tie.close
-    (tie.spec
-    Inv-loop
-    μ-loop
-    loop-holds
-    mul-column
-    shared-slice-read-column
-    mul-column-2
-    mul-column-3
-    slice-write-column
-    add-j
-    loop-less
-    loop-again
-    same-length
-    returns)
+    tie.close (tie.spec Inv-loop μ-loop loop-holds mul-column shared-slice-read-column mul-column-2 mul-column-3 slice-write-column add-j
+    loop-less loop-again same-length returns)

@@ -7,11 +7,6 @@ use Rattle.sheets.proofs.Bytes.{active-step, cost-stopped, cost-started
 use borrow.Author.Needs.{needs}
 use Rattle.sheets.proofs.byte_cost.Statement.{statement}
 use Rattle.sheets.proofs.byte_cost.Tie as tie
-use Rattle.sheets.proofs.byte_cost.Reads as reads
-use Rattle.sheets.proofs.byte_cost.Lts as lts
-use Rattle.card.proofs.entry.Reads as entry-reads
-use Rattle.sheets.proofs.stop_cost.Reads as stop-cost-reads
-use Rattle.sheets.proofs.wide.Reads as wide-reads
 
 stop-cost-requires : tie.Need-stop-cost-requires
 stop-cost-requires c κs = search needs
@@ -30,7 +25,7 @@ entry-requires c κs =
 add-result : tie.Need-add-result
 add-result c =
     let p = c .before .before .before .before .before .before .pre .ready in
-    record { fits = omega (arith, p .header .up-is, up-range _ (p .accepted), c .before .before .entry .ensures .bound) }
+    record { fits = omega (arith, up-range _ (p .accepted)) }
 
 returns-2 : tie.Need-returns-2
 returns-2 c =
@@ -47,13 +42,4 @@ returns-3 c =
     cost-kept _ _ _ (c .before .before .before .if1 .left) step (c .if2 .left)
 
 pub byte-cost-spec : {M : Type 1} → statement M
-byte-cost-spec =
-    tie.close
-    (tie.spec
-    stop-cost-requires
-    returns
-    wide-requires
-    entry-requires
-    add-result
-    returns-2
-    returns-3)
+byte-cost-spec = tie.close (tie.spec stop-cost-requires returns wide-requires entry-requires add-result returns-2 returns-3)

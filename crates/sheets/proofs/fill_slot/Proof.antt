@@ -1,4 +1,5 @@
 use mathlib.Core.Path.{sym}
+use Prim.Native.Nat.{_/_, _%_, _≤_, _<_}
 use native.Mathlib.Omega.{arith}
 use lib.Seq.{length-take-le}
 use borrow.Author.Needs.{needs}
@@ -6,9 +7,13 @@ use Rattle.counts.proofs.Division.{rest-below, step-within}
 use Rattle.sheets.proofs.Row.{row-off, row-filled}
 use Rattle.sheets.proofs.fill_slot.Statement.{statement}
 use Rattle.sheets.proofs.fill_slot.Tie as tie
-use Rattle.sheets.proofs.fill_slot.Reads as reads
-use Rattle.sheets.proofs.fill_slot.Lts as lts
-use Rattle.buffers.proofs.fill.Reads as fill-reads
+
+-- where modules are active: the rest is below their number, and the step is at most 200
+rest : (c : tie.Else1) → let a = c .before .before .args in a .l % a .n < a .n
+rest c = let a = c .before .before .args in rest-below (a .n) (a .l) (c .if1 .left)
+
+step : (c : tie.Else1) → let a = c .before .before .args in a .l / a .n ≤ 200
+step c = let s = c .before .before in step-within (s .args .n) (s .args .l) (c .if1 .left) 200 (s .pre .serves)
 
 fill-requires : tie.Need-fill-requires
 fill-requires c κs = search needs
@@ -28,43 +33,25 @@ div-step : tie.Need-div-step
 div-step c = search needs
 
 cast-step : tie.Need-cast-step
-cast-step c =
-    let s = c .before .before in
-    let some = c .if1 .left in
-    record { fits = omega (arith, step-within (s .args .n) (s .args .l) some 200 (s .pre .serves)) }
+cast-step c = record { fits = omega (arith, step c) }
 
 add-next : tie.Need-add-next
-add-next c =
-    let s = c .before .before in
-    let some = c .if1 .left in
-    record { fits = omega (arith, step-within (s .args .n) (s .args .l) some 200 (s .pre .serves)) }
+add-next c = record { fits = omega (arith, step c) }
 
 slice-relend-prefix-fill : tie.Need-slice-relend-prefix-fill
-slice-relend-prefix-fill c =
-    let s = c .before .before in
-    let some = c .if1 .left in
-    omega (arith, rest-below (s .args .n) (s .args .l) some, s .pre .in-row)
+slice-relend-prefix-fill c = omega (arith, rest c)
 
 slice-aggregate-fill : tie.Need-slice-aggregate-fill
-slice-aggregate-fill c =
-    let s = c .before .before .before in
-    let some = c .before .if1 .left in
-    sym (length-take-le _ _ (omega (arith, rest-below (s .args .n) (s .args .l) some, s .pre .in-row)))
+slice-aggregate-fill c = sym (length-take-le _ _ (omega (arith, rest (c .before))))
 
 fill-requires-2 : tie.Need-fill-requires-2
 fill-requires-2 c κs = search needs
 
 sub-fill : tie.Need-sub-fill
-sub-fill c =
-    let s = c .before .before .before .before .before .before in
-    let some = c .before .before .before .before .if1 .left in
-    omega (arith, rest-below (s .args .n) (s .args .l) some)
+sub-fill c = omega (arith, rest (c .before .before .before .before))
 
 part-fill-start : tie.Need-part-fill-start
-part-fill-start c =
-    let s = c .before .before .before .before .before .before in
-    let some = c .before .before .before .before .if1 .left in
-    omega (arith, rest-below (s .args .n) (s .args .l) some)
+part-fill-start c = omega (arith, rest (c .before .before .before .before))
 
 part-fill-end : tie.Need-part-fill-end
 part-fill-end c = search needs
@@ -89,33 +76,14 @@ same-length-2 c = search needs
 
 returns-2 : tie.Need-returns-2
 returns-2 c =
-    let s = c .before .before .before .before .before .before .before .before .before .before .before .before .before .before in
-    let some = c .before .before .before .before .before .before .before .before .before .before .before .before .if1 .left in
-    let first = c .before .before .before .before .before .before .before .before .before .before .fill2 .ensures in
-    let active = c .before .before .before .before .before .before .fill3 .ensures in
-    row-filled _ _ some _ (s .pre .in-row) first active (c .before .before .fill4 .ensures)
+    let active = c .before .before .before .before .before .before in
+    let first = active .before .before .before .before in
+    let some = first .before .before in
+    row-filled _ _ (some .if1 .left) _ (some .before .before .pre .in-row) (first .fill2 .ensures) (active .fill3 .ensures)
+    (c .before .before .fill4 .ensures)
 
 pub fill-slot-spec : {M : Type 1} → statement M
 fill-slot-spec =
-    tie.close
-    (tie.spec
-    fill-requires
-    same-length
-    returns
-    rem-rest
-    div-step
-    cast-step
-    add-next
-    slice-relend-prefix-fill
-    slice-aggregate-fill
-    fill-requires-2
-    sub-fill
-    part-fill-start
-    part-fill-end
-    fill-requires-3
-    sub-fill-2
-    part-fill-start-2
-    part-fill-end-2
-    fill-requires-4
-    same-length-2
-    returns-2)
+    tie.close (tie.spec fill-requires same-length returns rem-rest div-step cast-step add-next slice-relend-prefix-fill slice-aggregate-fill
+    fill-requires-2 sub-fill part-fill-start part-fill-end fill-requires-3 sub-fill-2 part-fill-start-2 part-fill-end-2 fill-requires-4
+    same-length-2 returns-2)

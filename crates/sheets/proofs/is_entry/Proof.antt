@@ -2,9 +2,6 @@ use Rattle.sheets.proofs.Bytes.{off-entry, active-entry}
 use borrow.Author.Needs.{needs}
 use Rattle.sheets.proofs.is_entry.Statement.{statement}
 use Rattle.sheets.proofs.is_entry.Tie as tie
-use Rattle.sheets.proofs.is_entry.Reads as reads
-use Rattle.sheets.proofs.is_entry.Lts as lts
-use Rattle.sheets.proofs.wide.Reads as wide-reads
 
 returns : tie.Need-returns
 returns c = off-entry (c .if1 .taken) (c .before .args .top)

@@ -8,9 +8,6 @@ use Rattle.lists.specs.Tests.{Passed, passed-none, passed-more, passed-all, pas
 use Rattle.sheets.specs.Marks.{countsUpTo}
 use Rattle.sheets.proofs.plan_in_rack.Statement.{statement}
 use Rattle.sheets.proofs.plan_in_rack.Tie as tie
-use Rattle.sheets.proofs.plan_in_rack.Reads as reads
-use Rattle.sheets.proofs.plan_in_rack.Lts as lts
-use Rattle.sheets.proofs.wide.Reads as wide-reads
 
 abbrev Inv-loop : tie.InvT-loop
 Inv-loop plan modules t₀ t = Passed (length plan) (λ u. leb (getD plan u 0) modules) t
@@ -30,7 +27,8 @@ wide-requires c κs = search needs
 returns : tie.Need-returns Inv-loop μ-loop
 unfolding countsUpTo
 returns c =
-    passed-not (c .before .before .before .before .loop .inv) (c .before .before .before .loop-test .taken)
+    let test = c .before .before .before in
+    passed-not (test .before .loop .inv) (test .loop-test .taken)
     (rw (← (c .before .wide .ensures)) (lt-leb _ _ (c .if1 .taken)))
 
 add-t : tie.Need-add-t Inv-loop μ-loop
@@ -41,7 +39,8 @@ loop-less c = omega arith
 
 loop-again : tie.Need-loop-again Inv-loop μ-loop
 loop-again c =
-    passed-more (c .before .before .before .before .loop .inv) (c .before .before .before .loop-test .taken)
+    let test = c .before .before .before in
+    passed-more (test .before .loop .inv) (test .loop-test .taken)
     (rw (← (c .before .wide .ensures)) (le-leb _ _ (c .if1 .left)))
 
 returns-2 : tie.Need-returns-2 Inv-loop μ-loop
@@ -50,15 +49,4 @@ returns-2 c = passed-all (c .before .loop .inv) (c .loop-test .left)
 
 pub plan-in-rack-spec : {M : Type 1} → statement M
 plan-in-rack-spec =
-    tie.close
-    (tie.spec
-    Inv-loop
-    μ-loop
-    loop-holds
-    shared-slice-read-wide
-    wide-requires
-    returns
-    add-t
-    loop-less
-    loop-again
-    returns-2)
+    tie.close (tie.spec Inv-loop μ-loop loop-holds shared-slice-read-wide wide-requires returns add-t loop-less loop-again returns-2)

@@ -1,4 +1,4 @@
-use Prim.Native.Nat.{_-_}
+use Prim.Native.Nat.{_-_, _≤_}
 use native.Mathlib.Nat.{mul-le-mul}
 use native.Mathlib.Omega.{arith}
 use lib.ListN.{length, getD}
@@ -7,20 +7,19 @@ use Rattle.lists.specs.Tests.{Passed, passed-none, passed-more, passed-all, pas
 use Rattle.model.specs.Instance.{instanceOf}
 use Rattle.model.specs.Counts.{canServe}
 use Rattle.model.specs.Plans.{planServes}
-use Rattle.sheets.proofs.Bytes.{byte-small}
 use Rattle.sheets.proofs.Loads.{in-slots, no-more-slots, load-there, serve-failed, serve-passed}
 use Rattle.sheets.proofs.plan_serves.Statement.{statement}
 use Rattle.sheets.proofs.plan_serves.Tie as tie
-use Rattle.sheets.proofs.plan_serves.Reads as reads
-use Rattle.sheets.proofs.plan_serves.Lts as lts
-use Rattle.card.proofs.load.Reads as load-reads
-use Rattle.sheets.proofs.wide.Reads as wide-reads
 
 abbrev Inv-loop : tie.InvT-loop
 Inv-loop card plan top t₀ t = Passed (instanceOf card .slots) (λ u. canServe (instanceOf card) (getD plan u 0) (instanceOf card .load u)) t
 
 abbrev μ-loop : tie.MeasureT-loop
 μ-loop card plan top t₀ t = length plan - t
+
+-- the start of the function, from its loop
+abbrev start : tie.At-loop Inv-loop μ-loop → tie.Start Inv-loop μ-loop
+start c = c .before .before .before
 
 loop-holds : tie.Need-loop-holds Inv-loop μ-loop
 loop-holds c = passed-none _ _
@@ -33,19 +32,22 @@ wide-requires c κs = search needs
 
 mul-most : tie.Need-mul-most Inv-loop μ-loop
 mul-most c =
-    let n = byte-small (c .before .shared-slice-known3 .given (c .before .before .before .loop .t)) (c .wide .ensures) in
-    record { fits = omega (arith, mul-le-mul n (c .before .before .before .before .before .before .pre .ready .header .top-bound)) }
+    let loop = c .before .before .before in
+    let n : c .wide .result ≤ 255 = omega (arith, c .before .shared-slice-known3 .given (loop .loop .t)) in
+    record { fits = omega (arith, mul-le-mul n (start loop .pre .ready .header .top-bound)) }
 
 load-requires : tie.Need-load-requires Inv-loop μ-loop
 load-requires c κs =
-    let p = c .before .before .before .before .before .before .pre in
-    (load-there (p .ready) (in-slots p (c .before .before .loop-test .taken)), p .ready .header .top-is)
+    let test = c .before .before in
+    let p = start (test .before) .pre in
+    (load-there (p .ready) (in-slots p (test .loop-test .taken)), p .ready .header .top-is)
 
 returns : tie.Need-returns Inv-loop μ-loop
 unfolding planServes
 returns c =
-    let p = c .before .before .before .before .before .before .before .before .pre in
-    passed-not (c .before .before .before .before .before .loop .inv) (in-slots p (c .before .before .before .before .loop-test .taken))
+    let test = c .before .before .before .before in
+    let p = start (test .before) .pre in
+    passed-not (test .before .loop .inv) (in-slots p (test .loop-test .taken))
     (serve-failed _ _ _ (c .before .before .wide .ensures) (c .before .load .ensures .is) (p .ready .header .top-is) (c .if1 .taken))
 
 add-t : tie.Need-add-t Inv-loop μ-loop
@@ -56,27 +58,16 @@ loop-less c = omega arith
 
 loop-again : tie.Need-loop-again Inv-loop μ-loop
 loop-again c =
-    let p = c .before .before .before .before .before .before .before .before .pre in
-    passed-more (c .before .before .before .before .before .loop .inv) (in-slots p (c .before .before .before .before .loop-test .taken))
+    let test = c .before .before .before .before in
+    let p = start (test .before) .pre in
+    passed-more (test .before .loop .inv) (in-slots p (test .loop-test .taken))
     (serve-passed _ _ _ (c .before .before .wide .ensures) (c .before .load .ensures .is) (p .ready .header .top-is) (c .if1 .left))
 
 returns-2 : tie.Need-returns-2 Inv-loop μ-loop
 unfolding planServes
-returns-2 c = passed-all (c .before .loop .inv) (no-more-slots (c .before .before .before .before .pre) (c .loop-test .left))
+returns-2 c = passed-all (c .before .loop .inv) (no-more-slots (start (c .before) .pre) (c .loop-test .left))
 
 pub plan-serves-spec : {M : Type 1} → statement M
 plan-serves-spec =
-    tie.close
-    (tie.spec
-    Inv-loop
-    μ-loop
-    loop-holds
-    shared-slice-read-wide
-    wide-requires
-    mul-most
-    load-requires
-    returns
-    add-t
-    loop-less
-    loop-again
-    returns-2)
+    tie.close (tie.spec Inv-loop μ-loop loop-holds shared-slice-read-wide wide-requires mul-most load-requires returns add-t loop-less
+    loop-again returns-2)

@@ -7,15 +7,16 @@ use Rattle.sheets.specs.Marks.{byteCost, bytesCost, allOff}
 use Rattle.sheets.proofs.Bytes.{byte-ready, bytes-each}
 use Rattle.sheets.proofs.row_start_cost.Statement.{statement}
 use Rattle.sheets.proofs.row_start_cost.Tie as tie
-use Rattle.sheets.proofs.row_start_cost.Reads as reads
-use Rattle.sheets.proofs.row_start_cost.Lts as lts
-use Rattle.sheets.proofs.byte_cost.Reads as byte-cost-reads
 
 abbrev Inv-loop : tie.InvT-loop
 Inv-loop card h row cost₀ k₀ cost k = Summed (length row) (λ j. byteCost (instanceOf card) (allOff j) (getD row j 0)) k cost
 
 abbrev μ-loop : tie.MeasureT-loop
 μ-loop card h row cost₀ k₀ cost k = length row - k
+
+-- the start of the function, from its loop
+abbrev start : tie.At-loop Inv-loop μ-loop → tie.Start Inv-loop μ-loop
+start c = c .before .before .before
 
 loop-holds : tie.Need-loop-holds Inv-loop μ-loop
 loop-holds c = summed-none _ _
@@ -24,14 +25,14 @@ shared-slice-read-byte-cost : tie.Need-shared-slice-read-byte-cost Inv-loop μ-l
 shared-slice-read-byte-cost c = omega arith
 
 byte-cost-requires : tie.Need-byte-cost-requires Inv-loop μ-loop
-byte-cost-requires c κs = byte-ready _ (c .before .before .before .before .before .pre) (c .before .loop-test .taken)
+byte-cost-requires c κs = byte-ready _ (start (c .before .before) .pre) (c .before .loop-test .taken)
 
 add-cost : tie.Need-add-cost Inv-loop μ-loop
 add-cost c =
-    let p = c .before .before .before .before .before .before .pre in
-    let l = c .before .before .before .loop .inv in
-    let room = summed-room l (c .before .before .loop-test .taken) (c .byte-cost .ensures) (bytes-each p allOff) in
-    record { fits = omega (arith, room, p .few) }
+    let test = c .before .before in
+    let p = start (test .before) .pre in
+    let room = summed-room (test .before .loop .inv) (test .loop-test .taken) (c .byte-cost .ensures) (bytes-each p allOff) in
+    record { fits = omega (arith, room) }
 
 add-k : tie.Need-add-k Inv-loop μ-loop
 add-k c = omega arith
@@ -40,7 +41,7 @@ loop-less : tie.Need-loop-less Inv-loop μ-loop
 loop-less c = omega arith
 
 loop-again : tie.Need-loop-again Inv-loop μ-loop
-loop-again c = summed-more (c .before .before .before .loop .inv) (c .before .before .loop-test .taken) (c .byte-cost .ensures)
+loop-again c = let test = c .before .before in summed-more (test .before .loop .inv) (test .loop-test .taken) (c .byte-cost .ensures)
 
 returns : tie.Need-returns Inv-loop μ-loop
 unfolding bytesCost
@@ -48,15 +49,5 @@ returns c = summed-all (c .before .loop .inv) (c .loop-test .left)
 
 pub row-start-cost-spec : {M : Type 1} → statement M
 row-start-cost-spec =
-    tie.close
-    (tie.spec
-    Inv-loop
-    μ-loop
-    loop-holds
-    shared-slice-read-byte-cost
-    byte-cost-requires
-    add-cost
-    add-k
-    loop-less
-    loop-again
+    tie.close (tie.spec Inv-loop μ-loop loop-holds shared-slice-read-byte-cost byte-cost-requires add-cost add-k loop-less loop-again
     returns)

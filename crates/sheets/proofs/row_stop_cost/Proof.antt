@@ -7,9 +7,6 @@ use Rattle.sheets.specs.Marks.{stopCost, rowStopCost}
 use Rattle.sheets.proofs.Bytes.{stop-each}
 use Rattle.sheets.proofs.row_stop_cost.Statement.{statement}
 use Rattle.sheets.proofs.row_stop_cost.Tie as tie
-use Rattle.sheets.proofs.row_stop_cost.Reads as reads
-use Rattle.sheets.proofs.row_stop_cost.Lts as lts
-use Rattle.sheets.proofs.stop_cost.Reads as stop-cost-reads
 
 abbrev Inv-loop : tie.InvT-loop
 Inv-loop down row cost₀ k₀ cost k = Summed (length row) (λ j. stopCost down (getD row j 0)) k cost
@@ -28,10 +25,11 @@ stop-cost-requires c κs = search needs
 
 add-cost : tie.Need-add-cost Inv-loop μ-loop
 add-cost c =
-    let s = c .before .before .before .before .before in
-    let l = c .before .before .before .loop .inv in
-    let room = summed-room l (c .before .before .loop-test .taken) (c .stop-cost .ensures) (stop-each (s .args .row .now) (s .pre .priced)) in
-    record { fits = omega (arith, room, s .pre .short) }
+    let test = c .before .before in
+    let start = test .before .before .before in
+    let each = stop-each (start .args .row .now) (start .pre .priced) in
+    let room = summed-room (test .before .loop .inv) (test .loop-test .taken) (c .stop-cost .ensures) each in
+    record { fits = omega (arith, room) }
 
 add-k : tie.Need-add-k Inv-loop μ-loop
 add-k c = omega arith
@@ -40,7 +38,7 @@ loop-less : tie.Need-loop-less Inv-loop μ-loop
 loop-less c = omega arith
 
 loop-again : tie.Need-loop-again Inv-loop μ-loop
-loop-again c = summed-more (c .before .before .before .loop .inv) (c .before .before .loop-test .taken) (c .stop-cost .ensures)
+loop-again c = let test = c .before .before in summed-more (test .before .loop .inv) (test .loop-test .taken) (c .stop-cost .ensures)
 
 returns : tie.Need-returns Inv-loop μ-loop
 unfolding rowStopCost
@@ -48,15 +46,5 @@ returns c = summed-all (c .before .loop .inv) (c .loop-test .left)
 
 pub row-stop-cost-spec : {M : Type 1} → statement M
 row-stop-cost-spec =
-    tie.close
-    (tie.spec
-    Inv-loop
-    μ-loop
-    loop-holds
-    shared-slice-read-stop-cost
-    stop-cost-requires
-    add-cost
-    add-k
-    loop-less
-    loop-again
+    tie.close (tie.spec Inv-loop μ-loop loop-holds shared-slice-read-stop-cost stop-cost-requires add-cost add-k loop-less loop-again
     returns)

@@ -7,9 +7,6 @@ use Rattle.sheets.specs.Marks.{byteCost, bytesCost, byteAt}
 use Rattle.sheets.proofs.Bytes.{byte-ready, bytes-each}
 use Rattle.sheets.proofs.rows_cost.Statement.{statement}
 use Rattle.sheets.proofs.rows_cost.Tie as tie
-use Rattle.sheets.proofs.rows_cost.Reads as reads
-use Rattle.sheets.proofs.rows_cost.Lts as lts
-use Rattle.sheets.proofs.byte_cost.Reads as byte-cost-reads
 
 abbrev Inv-loop : tie.InvT-loop
 Inv-loop card h earlier later cost₀ x₀ cost x =
@@ -17,6 +14,10 @@ Inv-loop card h earlier later cost₀ x₀ cost x =
 
 abbrev μ-loop : tie.MeasureT-loop
 μ-loop card h earlier later cost₀ x₀ cost x = length later - x
+
+-- the start of the function, from its loop
+abbrev start : tie.At-loop Inv-loop μ-loop → tie.Start Inv-loop μ-loop
+start c = c .before .before .before .before
 
 loop-holds : tie.Need-loop-holds Inv-loop μ-loop
 loop-holds c = summed-none _ _
@@ -28,16 +29,15 @@ shared-slice-read-byte-cost-2 : tie.Need-shared-slice-read-byte-cost-2 Inv-loop 
 shared-slice-read-byte-cost-2 c = omega arith
 
 byte-cost-requires : tie.Need-byte-cost-requires Inv-loop μ-loop
-byte-cost-requires c κs =
-    let s = c .before .before .before .before .before .before .before in
-    byte-ready _ (s .pre .0) (c .before .before .loop-test .taken)
+byte-cost-requires c κs = let test = c .before .before in byte-ready _ (start (test .before) .pre .0) (test .loop-test .taken)
 
 add-cost : tie.Need-add-cost Inv-loop μ-loop
 add-cost c =
-    let s = c .before .before .before .before .before .before .before .before in
-    let l = c .before .before .before .before .loop .inv in
-    let bound = bytes-each (s .pre .0) (byteAt (s .args .earlier .now)) in
-    record { fits = omega (arith, summed-room l (c .before .before .before .loop-test .taken) (c .byte-cost .ensures) bound, s .pre .0 .few) }
+    let test = c .before .before .before in
+    let s = start (test .before) in
+    let each = bytes-each (s .pre .0) (byteAt (s .args .earlier .now)) in
+    let room = summed-room (test .before .loop .inv) (test .loop-test .taken) (c .byte-cost .ensures) each in
+    record { fits = omega (arith, room) }
 
 add-x : tie.Need-add-x Inv-loop μ-loop
 add-x c = omega arith
@@ -47,7 +47,8 @@ loop-less c = omega arith
 
 loop-again : tie.Need-loop-again Inv-loop μ-loop
 loop-again c =
-    summed-more (c .before .before .before .before .loop .inv) (c .before .before .before .loop-test .taken) (c .byte-cost .ensures)
+    let test = c .before .before .before in
+    summed-more (test .before .loop .inv) (test .loop-test .taken) (c .byte-cost .ensures)
 
 returns : tie.Need-returns Inv-loop μ-loop
 unfolding bytesCost
@@ -55,16 +56,5 @@ returns c = summed-all (c .before .loop .inv) (c .loop-test .left)
 
 pub rows-cost-spec : {M : Type 1} → statement M
 rows-cost-spec =
-    tie.close
-    (tie.spec
-    Inv-loop
-    μ-loop
-    loop-holds
-    shared-slice-read-byte-cost
-    shared-slice-read-byte-cost-2
-    byte-cost-requires
-    add-cost
-    add-x
-    loop-less
-    loop-again
-    returns)
+    tie.close (tie.spec Inv-loop μ-loop loop-holds shared-slice-read-byte-cost shared-slice-read-byte-cost-2 byte-cost-requires add-cost
+    add-x loop-less loop-again returns)

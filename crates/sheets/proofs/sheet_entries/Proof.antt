@@ -8,9 +8,6 @@ use Rattle.sheets.specs.Marks.{isEntry, entriesUpTo}
 use Rattle.sheets.proofs.Bytes.{entry-read}
 use Rattle.sheets.proofs.sheet_entries.Statement.{statement}
 use Rattle.sheets.proofs.sheet_entries.Tie as tie
-use Rattle.sheets.proofs.sheet_entries.Reads as reads
-use Rattle.sheets.proofs.sheet_entries.Lts as lts
-use Rattle.sheets.proofs.is_entry.Reads as is-entry-reads
 
 abbrev Inv-loop : tie.InvT-loop
 Inv-loop top sheet x₀ x = Passed (length sheet) (λ y. isEntry top (getD sheet y off)) x
@@ -30,10 +27,11 @@ is-entry-requires c κs = search needs
 returns : tie.Need-returns Inv-loop μ-loop
 unfolding entriesUpTo
 returns c =
-    let a = c .before .before .before .before .before .before .args in
-    let h = c .before .before .before .loop-test .taken in
-    let failed = test-failed (c .before .is-entry .ensures) (c .if1 .taken) in
-    passed-not (c .before .before .before .before .loop .inv) h (entry-read (a .top) (a .sheet .now) h failed)
+    let test = c .before .before .before in
+    let inside = test .loop-test .taken in
+    let a = test .before .before .before .args in
+    passed-not (test .before .loop .inv) inside
+    (entry-read (a .top) (a .sheet .now) inside (test-failed (c .before .is-entry .ensures) (c .if1 .taken)))
 
 add-x : tie.Need-add-x Inv-loop μ-loop
 add-x c = omega arith
@@ -43,10 +41,11 @@ loop-less c = omega arith
 
 loop-again : tie.Need-loop-again Inv-loop μ-loop
 loop-again c =
-    let a = c .before .before .before .before .before .before .args in
-    let h = c .before .before .before .loop-test .taken in
-    let passed = test-passed (c .before .is-entry .ensures) (c .if1 .left) in
-    passed-more (c .before .before .before .before .loop .inv) h (entry-read (a .top) (a .sheet .now) h passed)
+    let test = c .before .before .before in
+    let inside = test .loop-test .taken in
+    let a = test .before .before .before .args in
+    passed-more (test .before .loop .inv) inside
+    (entry-read (a .top) (a .sheet .now) inside (test-passed (c .before .is-entry .ensures) (c .if1 .left)))
 
 returns-2 : tie.Need-returns-2 Inv-loop μ-loop
 unfolding entriesUpTo
@@ -54,15 +53,5 @@ returns-2 c = passed-all (c .before .loop .inv) (c .loop-test .left)
 
 pub sheet-entries-spec : {M : Type 1} → statement M
 sheet-entries-spec =
-    tie.close
-    (tie.spec
-    Inv-loop
-    μ-loop
-    loop-holds
-    shared-slice-read-is-entry
-    is-entry-requires
-    returns
-    add-x
-    loop-less
-    loop-again
+    tie.close (tie.spec Inv-loop μ-loop loop-holds shared-slice-read-is-entry is-entry-requires returns add-x loop-less loop-again
     returns-2)

@@ -5,9 +5,6 @@ use Rattle.sheets.proofs.Slots.{switching-most, slot-kept, slot-raised}
 use borrow.Author.Needs.{needs}
 use Rattle.sheets.proofs.slot_cost.Statement.{statement}
 use Rattle.sheets.proofs.slot_cost.Tie as tie
-use Rattle.sheets.proofs.slot_cost.Reads as reads
-use Rattle.sheets.proofs.slot_cost.Lts as lts
-use Rattle.counts.proofs.operating_cost.Reads as operating-cost-reads
 
 operating-cost-requires : tie.Need-operating-cost-requires
 operating-cost-requires c κs = search needs
@@ -18,7 +15,7 @@ returns c = slot-kept _ _ _ _ (c .before .operating-cost .ensures) (c .if1 .take
 add-price : tie.Need-add-price
 add-price c =
     let p = c .before .before .before .before .pre .ready in
-    record { fits = omega (arith, p .header .up-is, p .header .down-is, up-range _ (p .accepted), down-range _ (p .accepted)) }
+    record { fits = omega (arith, up-range _ (p .accepted), down-range _ (p .accepted)) }
 
 sub-result : tie.Need-sub-result
 sub-result c = search needs
@@ -35,7 +32,7 @@ add-result c =
     let p = s .pre .ready .header in
     let run = running-most (s .pre .served) in
     let switching = switching-most (s .pre .served) (s .args .prev) (p .up-is) (p .down-is) in
-    record { fits = omega (arith, c .before .before .operating-cost .ensures, run, switching) }
+    record { fits = omega (arith, run, switching) }
 
 returns-2 : tie.Need-returns-2
 returns-2 c =
@@ -43,6 +40,4 @@ returns-2 c =
     slot-raised _ _ _ _ (c .before .before .operating-cost .ensures) (p .up-is) (p .down-is)
 
 pub slot-cost-spec : {M : Type 1} → statement M
-slot-cost-spec =
-    tie.close
-    (tie.spec operating-cost-requires returns add-price sub-result mul-result add-result returns-2)
+slot-cost-spec = tie.close (tie.spec operating-cost-requires returns add-price sub-result mul-result add-result returns-2)

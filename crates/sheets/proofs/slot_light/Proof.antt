@@ -8,9 +8,6 @@ use Rattle.sheets.specs.Marks.{rowLight}
 use Rattle.sheets.proofs.Bytes.{step-each}
 use Rattle.sheets.proofs.slot_light.Statement.{statement}
 use Rattle.sheets.proofs.slot_light.Tie as tie
-use Rattle.sheets.proofs.slot_light.Reads as reads
-use Rattle.sheets.proofs.slot_light.Lts as lts
-use Rattle.sheets.proofs.step_of.Reads as step-of-reads
 
 abbrev Inv-loop : tie.InvT-loop
 Inv-loop row light₀ k₀ light k = Summed (length row) (λ j. stepOf (getD row j 0)) k light
@@ -29,9 +26,11 @@ step-of-requires c κs = search needs
 
 add-light : tie.Need-add-light Inv-loop μ-loop
 add-light c =
-    let each = step-each (c .before .before .before .before .before .args .row .now) (c .before .shared-slice-known2 .given) in
-    let room = summed-room (c .before .before .before .loop .inv) (c .before .before .loop-test .taken) (c .step-of .ensures) each in
-    record { fits = omega (arith, room, c .before .before .before .before .before .pre .short) }
+    let test = c .before .before in
+    let start = test .before .before .before in
+    let each = step-each (start .args .row .now) (c .before .shared-slice-known2 .given) in
+    let room = summed-room (test .before .loop .inv) (test .loop-test .taken) (c .step-of .ensures) each in
+    record { fits = omega (arith, room) }
 
 add-k : tie.Need-add-k Inv-loop μ-loop
 add-k c = omega arith
@@ -40,12 +39,13 @@ loop-less : tie.Need-loop-less Inv-loop μ-loop
 loop-less c = omega arith
 
 loop-again : tie.Need-loop-again Inv-loop μ-loop
-loop-again c = summed-more (c .before .before .before .loop .inv) (c .before .before .loop-test .taken) (c .step-of .ensures)
+loop-again c = let test = c .before .before in summed-more (test .before .loop .inv) (test .loop-test .taken) (c .step-of .ensures)
 
 cast-result : tie.Need-cast-result Inv-loop μ-loop
 cast-result c =
-    let each = step-each (c .before .before .before .args .row .now) (c .before .before .shared-slice-known .given) in
-    record { fits = omega (arith, summed-most (c .before .loop .inv) each, c .before .before .before .pre .short) }
+    let start = c .before .before .before in
+    let each = step-each (start .args .row .now) (c .before .before .shared-slice-known .given) in
+    record { fits = omega (arith, summed-most (c .before .loop .inv) each) }
 
 returns : tie.Need-returns Inv-loop μ-loop
 unfolding rowLight
@@ -53,16 +53,5 @@ returns c = summed-all (c .before .loop .inv) (c .loop-test .left)
 
 pub slot-light-spec : {M : Type 1} → statement M
 slot-light-spec =
-    tie.close
-    (tie.spec
-    Inv-loop
-    μ-loop
-    loop-holds
-    shared-slice-read-step-of
-    step-of-requires
-    add-light
-    add-k
-    loop-less
-    loop-again
-    cast-result
-    returns)
+    tie.close (tie.spec Inv-loop μ-loop loop-holds shared-slice-read-step-of step-of-requires add-light add-k loop-less loop-again
+    cast-result returns)

@@ -1,8 +1,6 @@
 use Rattle.sheets.proofs.Bytes.{off-none, active-all}
 use Rattle.sheets.proofs.step_of.Statement.{statement}
 use Rattle.sheets.proofs.step_of.Tie as tie
-use Rattle.sheets.proofs.step_of.Reads as reads
-use Rattle.sheets.proofs.step_of.Lts as lts
 
 returns : tie.Need-returns
 returns c = off-none (c .if1 .taken) (c .before .args .b)

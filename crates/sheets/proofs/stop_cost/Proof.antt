@@ -1,8 +1,6 @@
 use Rattle.sheets.proofs.Bytes.{off-none, active-all}
 use Rattle.sheets.proofs.stop_cost.Statement.{statement}
 use Rattle.sheets.proofs.stop_cost.Tie as tie
-use Rattle.sheets.proofs.stop_cost.Reads as reads
-use Rattle.sheets.proofs.stop_cost.Lts as lts
 
 returns : tie.Need-returns
 returns c = off-none (c .if1 .taken) (c .before .args .down)

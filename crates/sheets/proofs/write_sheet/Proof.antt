@@ -7,17 +7,16 @@ use Rattle.sheets.proofs.Loads.{in-slots, no-more-slots, load-there, ro
 use Rattle.sheets.proofs.Filled.{Filled, filled-none, filled-size, filled-room, filled-more, filled-all}
 use Rattle.sheets.proofs.write_sheet.Statement.{statement}
 use Rattle.sheets.proofs.write_sheet.Tie as tie
-use Rattle.sheets.proofs.write_sheet.Reads as reads
-use Rattle.sheets.proofs.write_sheet.Lts as lts
-use Rattle.card.proofs.load.Reads as load-reads
-use Rattle.sheets.proofs.fill_slot.Reads as fill-slot-reads
-use Rattle.sheets.proofs.wide.Reads as wide-reads
 
 abbrev Inv-loop : tie.InvT-loop
 Inv-loop card plan sheet₀ modules top t₀ sheet t = Filled (instanceOf card) plan sheet₀ t sheet
 
 abbrev μ-loop : tie.MeasureT-loop
 μ-loop card plan sheet₀ modules top t₀ sheet t = length plan - t
+
+-- the start of the function, from its loop
+abbrev start : tie.At-loop Inv-loop μ-loop → tie.Start Inv-loop μ-loop
+start c = c .before .before .before .before
 
 loop-holds : tie.Need-loop-holds Inv-loop μ-loop
 loop-holds c = filled-none _ _ _
@@ -30,18 +29,21 @@ wide-requires c κs = search needs
 
 load-requires : tie.Need-load-requires Inv-loop μ-loop
 load-requires c κs =
-    let p = c .before .before .before .before .before .before .before .pre .0 .sized in
-    (load-there (p .ready) (in-slots p (c .before .before .loop-test .taken)), p .ready .header .top-is)
+    let test = c .before .before in
+    let p = start (test .before) .pre .0 .sized in
+    (load-there (p .ready) (in-slots p (test .loop-test .taken)), p .ready .header .top-is)
 
 mul-start : tie.Need-mul-start Inv-loop μ-loop
 mul-start c =
-    let p = c .before .before .before .before .before .before .before .before .pre .0 .sized in
-    record { fits = omega (arith, row-small (p .ready) (in-slots p (c .before .before .before .loop-test .taken))) }
+    let test = c .before .before .before in
+    let p = start (test .before) .pre .0 .sized in
+    record { fits = omega (arith, row-small (p .ready) (in-slots p (test .loop-test .taken))) }
 
 add-end : tie.Need-add-end Inv-loop μ-loop
 add-end c =
-    let p = c .before .before .before .before .before .before .before .before .pre .0 .sized in
-    record { fits = omega (arith, row-small (p .ready) (in-slots p (c .before .before .before .loop-test .taken))) }
+    let test = c .before .before .before in
+    let p = start (test .before) .pre .0 .sized in
+    record { fits = omega (arith, row-small (p .ready) (in-slots p (test .loop-test .taken))) }
 
 sub-fill-slot : tie.Need-sub-fill-slot Inv-loop μ-loop
 sub-fill-slot c = omega arith
@@ -51,17 +53,18 @@ part-fill-slot-start c = omega arith
 
 part-fill-slot-end : tie.Need-part-fill-slot-end Inv-loop μ-loop
 part-fill-slot-end c =
-    let s = c .before .before .before .before .before .before .before .before in
-    let below = in-slots (s .pre .0 .sized) (c .before .before .before .loop-test .taken) in
-    row-there (s .pre .0 .sized .ready) below (filled-room (c .before .before .before .before .loop .inv) (s .pre .1 .room))
+    let test = c .before .before .before in
+    let p = start (test .before) .pre in
+    let below = in-slots (p .0 .sized) (test .loop-test .taken) in
+    row-there (p .0 .sized .ready) below (filled-room (test .before .loop .inv) (p .1 .room))
 
 fill-slot-requires : tie.Need-fill-slot-requires Inv-loop μ-loop
 fill-slot-requires c κs =
-    let s = c .before .before .before .before .before .before .before .before .before in
-    let p = s .pre .0 in
-    let below = in-slots (p .sized) (c .before .before .before .before .loop-test .taken) in
-    let inside = row-there (p .sized .ready) below (filled-room (c .before .before .before .before .before .loop .inv) (s .pre .1 .room)) in
-    row-fits _ _ p below inside (c .before .before .wide .ensures) (c .before .load .ensures .is)
+    let test = c .before .before .before .before in
+    let p = start (test .before) .pre in
+    let below = in-slots (p .0 .sized) (test .loop-test .taken) in
+    let inside = row-there (p .0 .sized .ready) below (filled-room (test .before .loop .inv) (p .1 .room)) in
+    row-fits _ _ (p .0) below inside (c .before .before .wide .ensures) (c .before .load .ensures .is)
 
 add-t : tie.Need-add-t Inv-loop μ-loop
 add-t c = omega arith
@@ -71,40 +74,22 @@ loop-less c = omega arith
 
 loop-again : tie.Need-loop-again Inv-loop μ-loop
 loop-again c =
-    let s = c .before .before .before .before .before .before .before .before .before .before .before .before in
-    let p = s .pre .0 .sized in
-    let below = in-slots p (c .before .before .before .before .before .before .before .loop-test .taken) in
-    let n = c .before .before .before .before .before .wide .ensures in
-    let load = c .before .before .before .before .load .ensures .is in
-    let l = c .before .before .before .before .before .before .before .before .loop .inv in
-    filled-more l (s .pre .1 .room) below (p .ready .header .modules-is) n load (c .before .before .fill-slot .ensures)
+    let read = c .before .before .before .before in
+    let test = read .before .before .before in
+    let p = start (test .before) .pre in
+    let sized = p .0 .sized in
+    filled-more (test .before .loop .inv) (p .1 .room) (in-slots sized (test .loop-test .taken)) (sized .ready .header .modules-is)
+    (read .before .wide .ensures) (read .load .ensures .is) (c .before .before .fill-slot .ensures)
 
 same-length : tie.Need-same-length Inv-loop μ-loop
-same-length c = filled-size (c .before .loop .inv) (c .before .before .before .before .before .pre .1 .room)
+same-length c = filled-size (c .before .loop .inv) (start (c .before) .pre .1 .room)
 
 returns : tie.Need-returns Inv-loop μ-loop
 returns c =
-    let s = c .before .before .before .before .before in
-    filled-all (c .before .loop .inv) (s .pre .1 .room) (no-more-slots (s .pre .0 .sized) (c .loop-test .left))
+    let p = start (c .before) .pre in
+    filled-all (c .before .loop .inv) (p .1 .room) (no-more-slots (p .0 .sized) (c .loop-test .left))
 
 pub write-sheet-spec : {M : Type 1} → statement M
 write-sheet-spec =
-    tie.close
-    (tie.spec
-    Inv-loop
-    μ-loop
-    loop-holds
-    shared-slice-read-wide
-    wide-requires
-    load-requires
-    mul-start
-    add-end
-    sub-fill-slot
-    part-fill-slot-start
-    part-fill-slot-end
-    fill-slot-requires
-    add-t
-    loop-less
-    loop-again
-    same-length
-    returns)
+    tie.close (tie.spec Inv-loop μ-loop loop-holds shared-slice-read-wide wide-requires load-requires mul-start add-end sub-fill-slot
+    part-fill-slot-start part-fill-slot-end fill-slot-requires add-t loop-less loop-again same-length returns)

@@ -1,4 +1,5 @@
--- Laws of a slot's choices and of the columns: bounds, places, and that only a column's entries matter.
+-- Laws of the definitions in Column: what choices and columns cost at most, that choices are places, and that of a column only the
+-- entries at places matter.
 use Prim.Native.Nat.{ℕ, zero, suc, _+_, _-_, _*_, _≤_, _<_}
 use mathlib.Core.Path.{_≡_, refl}
 use mathlib.Core.Bool.{Bool, true, false, cond}
@@ -43,7 +44,7 @@ module _ (i : Instance) (counts : List ℕ) (l : ℕ) (before : ℕ → ℕ) whe
   unfolding downward
   downward-bound j = top-bound (lastPlace counts - j)
 
-  pub upward-bound : (j : ℕ) → AtMostFull (upward i counts l before j)
+  upward-bound : (j : ℕ) → AtMostFull (upward i counts l before j)
   unfolding upward
   upward-bound zero = downward-bound 0
   upward-bound (suc j) =
@@ -88,18 +89,20 @@ module _
   upward-same zero = top-same (lastPlace counts - 0)
   upward-same (suc j) = rw (upward-same j, top-same (lastPlace counts - suc j))
 
--- after t slots, each served by the full rack at a cost of at most b
-pub column-bound :
-    (i : Instance) (counts : List ℕ) (m b slots : ℕ) → ((j : ℕ) → countAtPlace counts j ≤ m) →
-    ((t : ℕ) → t < slots → operatingCost i (countAtPlace counts (lastPlace counts)) (i .load t) ≤ b) →
-    (t : ℕ) → t ≤ slots → (j : ℕ) → column i counts 0 t j ≤ switchingPrice i * m + t * b
-unfolding column
-column-bound i counts m b slots fits full zero h j =
-    omega (arith, mul-le-mul-left {m = countAtPlace counts j - 0} {n = m} (switchingPrice i) (omega (arith, fits j)))
-column-bound i counts m b slots fits full (suc t) h j =
-    omega (
-      arith,
-      upward-bound i counts (i .load t) (column i counts 0 t) j,
-      full t (omega arith),
-      column-bound i counts m b slots fits full t (omega arith) (lastPlace counts),
-    )
+-- after t slots, where no count exceeds m and the full rack serves each slot at a cost of at most b
+module _
+    (i : Instance) (counts : List ℕ) (start m b : ℕ) (some : 1 ≤ length counts)
+    (fits : (j : ℕ) → j < length counts → countAtPlace counts j ≤ m)
+    (full : (t : ℕ) → t < i .slots → operatingCost i (countAtPlace counts (lastPlace counts)) (i .load t) ≤ b) where
+  pub column-bound : (t j : ℕ) → t ≤ i .slots → j < length counts → column i counts start t j ≤ switchingPrice i * m + t * b
+  unfolding column
+  column-bound zero j h inside =
+      let less : countAtPlace counts j - start ≤ m = omega (arith, fits j inside) in
+      omega (arith, mul-le-mul-left (switchingPrice i) less)
+  column-bound (suc t) j h inside =
+      omega (
+        arith,
+        upward-bound i counts (i .load t) (column i counts start t) j,
+        full t h,
+        column-bound t (lastPlace counts) (omega arith) (omega arith),
+      )

@@ -1,0 +1,48 @@
+-- Rows of m entries each, one after the other at the front of a list.
+use Prim.Native.Nat.{ℕ, suc, _+_, _*_, _/_, _%_, _≤_, _<_}
+use mathlib.Core.Path.{_≡_, sym, ap, _∙_}
+use mathlib.Core.List.{List, _++_, append-assoc}
+use mathlib.Core.Logic.{⊎-elim}
+use native.Mathlib.Nat.{mul-le-mul-left, eq-zero-or-pos, mod-lt, div-add-mod', div-lt-iff-lt-mul}
+use native.Mathlib.Numerals.{add-one}
+use native.Mathlib.Omega.{arith}
+use lib.Arith.{digits-lt}
+use lib.ListN.{length, getD, take, drop, length-append, length-drop, List·getD-append}
+use lib.Seq.{take-at, drop-at, drop-drop}
+use borrow.Rule.Slice.PartMut.{putMid}
+use Rattle.lists.specs.Lists.{rows, length-rows, getD-rows}
+
+-- row t of n rows lies inside
+pub row-within : (m : ℕ) {n t size : ℕ} → t < n → m * n ≤ size → t * m + m ≤ size
+row-within m h g = omega (arith, mul-le-mul-left m h)
+
+module _ (m : ℕ) (f : ℕ → List ℕ) (sized : (t : ℕ) → length (f t) ≡ m) where
+  -- entry k of row t
+  pub front-row : (n t k d : ℕ) (rest : List ℕ) → t < n → k < m → getD (rows n f ++ rest) (t * m + k) d ≡ getD (f t) k d
+  front-row n t k d rest h g =
+      List·getD-append (rows n f) rest d (t * m + k) (omega (arith, length-rows m n f sized, digits-lt h g)) ∙
+      getD-rows m n f sized t k d h g
+
+  -- each entry stands in its row
+  pub front-entry : (n k d : ℕ) (rest : List ℕ) → k < n * m → getD (rows n f ++ rest) k d ≡ getD (f (k / m)) (k % m) d
+  front-entry n k d rest h =
+      ⊎-elim
+      (λ (none : m ≡ 0). absurd (omega (arith, ap (λ (x : ℕ). n * x) none)))
+      (λ (some : 0 < m). rw (div-add-mod' k m) at (front-row n (k / m) (k % m) d rest (div-lt-iff-lt-mul some .1 h) (mod-lt k some)))
+      (eq-zero-or-pos m)
+
+  -- Filling row by row: the first n rows are written, the rest is as it was.
+  pub rows-size : (n : ℕ) (old : List ℕ) → n * m ≤ length old → length (rows n f ++ drop (n * m) old) ≡ length old
+  rows-size n old h = omega (arith, length-append (rows n f) (drop (n * m) old), length-rows m n f sized, length-drop (n * m) old)
+
+  -- the next row, put in the place of the k entries from a on
+  pub next-row :
+      (n : ℕ) (old : List ℕ) {a k : ℕ} {area : List ℕ} → a ≡ n * m → k ≡ m → area ≡ rows n f ++ drop (n * m) old →
+      putMid a k area (f n) ≡ rows (n + 1) f ++ drop ((n + 1) * m) old
+  unfolding rows
+  next-row n old {a} {k} {area} a-is k-is e =
+      let long : length (rows n f) ≡ n * m = length-rows m n f sized in
+      let front : take a area ≡ rows n f = rw (a-is, e) (take-at (rows n f) (drop (n * m) old) (n * m) long) in
+      let after : drop a area ≡ drop (n * m) old = rw (a-is, e) (drop-at (rows n f) (drop (n * m) old) (n * m) long) in
+      let end : n * m + m ≡ (n + 1) * m = omega arith in
+      rw (front, after, k-is, drop-drop m (n * m) old, end, add-one n) (sym (append-assoc (rows n f) (f n) (drop (suc n * m) old)))
