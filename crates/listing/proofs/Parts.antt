@@ -4,7 +4,7 @@ use mathlib.Core.Path.{_≡_}
 use mathlib.Core.List.{List}
 use native.Mathlib.Omega.{arith}
 use lib.ListN.{length, take, drop}
-use Rattle.lists.specs.Parts.{row-within}
+use Rattle.lists.specs.Rows.{row-within}
 use Rattle.model.specs.Listing.{slotLine}
 use Rattle.listing.specs.Texts.{InRows, sheetLine}
 
