@@ -1,7 +1,8 @@
 -- The search over a list of allowed counts (thesis 4.2, 5.1), slot by slot. A place is an index of the list; a column gives each
 -- place j the least cost of serving the slots so far and then holding the count at j. No definition of `model` and no public
 -- contract cites this.
-use Prim.Native.Nat.{ℕ, zero, suc, _+_, _-_, _*_}
+use Prim.Native.Nat.{ℕ, zero, suc, _+_, _-_, _*_, _≤_, _<_}
+use mathlib.Core.Path.{_≡_}
 use mathlib.Core.Bool.{cond}
 use mathlib.Core.List.{List, [], _∷_, _++_}
 use lib.ListN.{length, getD}
@@ -17,6 +18,13 @@ countAtPlace counts j = getD counts j 0
 -- the last place
 abbrev pub lastPlace : List ℕ → ℕ
 lastPlace counts = length counts - 1
+
+-- A list of allowed counts: strictly ascending from 0 to m, with at least one count after 0.
+pub record Ascending (counts : List ℕ) (m : ℕ) : Type 0 where
+  pub two : 2 ≤ length counts
+  pub first : countAtPlace counts 0 ≡ 0
+  pub last : countAtPlace counts (lastPlace counts) ≡ m
+  pub rises : (j : ℕ) → j + 1 < length counts → countAtPlace counts j < countAtPlace counts (j + 1)
 
 -- a cost, and the place that it comes from
 pub record Choice : Type 0 where

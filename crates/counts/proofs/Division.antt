@@ -1,9 +1,8 @@
 -- A load shared by n modules: quotient and remainder stay in the table, and the cost is the definition's.
 use Prim.Native.Nat.{ℕ, _+_, _-_, _*_, _/_, _%_, _^_, _≤_, _<_}
-use mathlib.Core.Path.{_≡_, refl}
+use mathlib.Core.Path.{_≡_}
 use mathlib.Core.List.{List}
-use mathlib.Core.Logic.{⊎-elim}
-use native.Mathlib.Nat.{sub-zero, pos-of-ne-zero, mod-lt, div-le-of-le-mul, mul-le-mul, mul-le-mul-left, le-of-lt, eq-zero-or-pos}
+use native.Mathlib.Nat.{sub-zero, pos-of-ne-zero, mod-lt, div-le-of-le-mul, mul-le-mul}
 use native.Mathlib.Omega.{arith}
 use mir.Syntax.{w64}
 use mir.Val.{Fits}
@@ -12,6 +11,7 @@ use Rattle.lists.specs.Division.{quotient-lt}
 use Rattle.model.specs.Instance.{Instance, instanceOf}
 use Rattle.model.specs.Counts.{operatingCost}
 use Rattle.laws.specs.Acceptance.{modules-range, top-range, table-range}
+use Rattle.laws.specs.Running.{running-bound}
 use Rattle.counts.specs.Serving.{Served}
 
 module _ (n l : ℕ) (some : n ≡ 0 → ⊥) where
@@ -57,29 +57,11 @@ pub sum-fits : {a b : ℕ} → a ≤ 200 * 256 ^ 4 → b ≤ 200 * 256 ^ 4 → F
 sum-fits h g = record { fits = omega arith }
 
 -- A count runs at most 200 modules at 1,000,000 each.
-module _ {s : List ℕ} {n l : ℕ} (given : Served s n l) where
-  shared : (r x y : ℕ) → r ≤ n → x ≤ 1000000 → y ≤ 1000000 → (n - r) * x + r * y ≤ n * 1000000
-  shared r x y h f g =
-      let low = mul-le-mul-left (n - r) f in
-      let high = mul-le-mul-left r g in
-      omega arith
-
-  some-most : (n ≡ 0 → ⊥) → operatingCost (instanceOf s) n l ≤ n * 1000000
-  some-most some =
-      let step = step-within n l some _ (given .serves) in
-      let at-step = table-range s (given .accepted) (l / n) step in
-      ⊎-elim
-      (λ (e : l % n ≡ 0). rw (← cost-even (instanceOf s) n l some refl e) (mul-le-mul-left n at-step))
-      (λ (p : 0 < l % n).
-      let rest : l % n ≡ 0 → ⊥ = omega arith in
-      let next = table-range s (given .accepted) (l / n + 1) (next-within n l some _ (given .serves) rest) in
-      rw (← cost-uneven (instanceOf s) n l some refl rest refl) (shared _ _ _ (le-of-lt (rest-below n l some)) at-step next))
-      (eq-zero-or-pos (l % n))
-
-  pub running-most : operatingCost (instanceOf s) n l ≤ 200 * 1000000
-  running-most =
-      let rack = given .in-rack in
-      ⊎-elim
-      (λ (e : n ≡ 0). rw (← cost-none (instanceOf s) n l e) (omega arith))
-      (λ (p : 0 < n). omega (arith, some-most (omega arith), modules-range s (given .accepted) .1))
-      (eq-zero-or-pos n)
+pub running-most : {s : List ℕ} {n l : ℕ} → Served s n l → operatingCost (instanceOf s) n l ≤ 200 * 1000000
+running-most {s} {n} {l} given =
+    omega (
+      arith,
+      running-bound (instanceOf s) 1000000 (table-range s (given .accepted)) n l (given .serves),
+      given .in-rack,
+      modules-range s (given .accepted) .1,
+    )

@@ -22,7 +22,7 @@ use Rattle.model.specs.Calls.{answer, requestOf, refusals, applies, anyShort, l
 use Rattle.model.specs.Calls.{exactPlanAtExit, exactWorkAtExit, coarsePlanAtExit, coarseWorkAtExit}
 use Rattle.laws.specs.Acceptance.{modules-range, card-size}
 use Rattle.laws.specs.OnCard.{on-card-passed}
-use Rattle.theory.specs.Setting.{Ascending}
+use Rattle.columns.specs.Column.{Ascending}
 use Rattle.theory.specs.Lists.{all-ascending, coarse-ascending}
 use Rattle.theory.specs.Condition3.{accepted-plannable, least-plan-fits}
 use Rattle.card.specs.declared.Header.{Header}

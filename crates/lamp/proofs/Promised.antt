@@ -19,7 +19,8 @@ use Rattle.model.specs.Promises.{OwnSheet, AtMostTimes}
 use Rattle.laws.specs.Acceptance.{modules-range}
 use Rattle.laws.specs.Lowest.{lowest-passed}
 use Rattle.laws.specs.OnCard.{on-card-passed}
-use Rattle.theory.specs.Setting.{Ascending, NeverFalls}
+use Rattle.columns.specs.Column.{Ascending}
+use Rattle.theory.specs.Setting.{NeverFalls}
 use Rattle.theory.specs.Lists.{all-ascending, coarse-ascending}
 use Rattle.theory.specs.Refusals.{succeeded}
 use Rattle.theory.specs.Condition3.{accepted-plannable, least-sheet, exact-least, coarse-twice, monotone-never-falls}

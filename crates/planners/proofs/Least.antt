@@ -1,5 +1,5 @@
 -- The search's plan over an ascending list of allowed counts is the least plan.
-use Prim.Native.Nat.{ℕ, _+_, _≤_}
+use Prim.Native.Nat.{ℕ, _+_}
 use mathlib.Core.Path.{_≡_, _∙_, ap}
 use mathlib.Core.List.{List, _++_}
 use native.Mathlib.Nat.{mul-le-mul-right, le-trans}
@@ -11,7 +11,6 @@ use Rattle.model.specs.Counts.{allCounts, coarseCounts}
 use Rattle.model.specs.Plans.{planCost, leastPlan}
 use Rattle.laws.specs.Acceptance.{modules-range}
 use Rattle.columns.specs.Column.{searchedPlan, searchedCost}
-use Rattle.theory.specs.Setting.{Ascending}
 use Rattle.theory.specs.Lists.{all-ascending, coarse-ascending}
 use Rattle.theory.specs.Condition3.{accepted-plannable, searched-plan}
 use Rattle.card.specs.declared.Header.{Header}
@@ -19,14 +18,8 @@ use Rattle.card.specs.Checking.{Ready}
 use Rattle.counts.specs.AllowedCounts.{AllRoom, CoarseRoom}
 use Rattle.counts.proofs.Fronts.{front-is}
 use Rattle.counts.proofs.Writing.{coarse-ten}
-use Rattle.search.specs.Asked.{CountsUpTo, Searchable}
+use Rattle.search.specs.Asked.{Searchable}
 use Rattle.planners.specs.Asked.{PlanOver, RackRoom, ExactBuffers, CoarseBuffers, CoarseNumbers}
-
-up-to : {counts : List ℕ} {m : ℕ} → Ascending counts m → length counts ≤ 256 → CountsUpTo counts m
-up-to a short = record { two = a .two; bytes = short; first = a .first; last = a .last; rises = a .rises }
-
-ascending : {counts : List ℕ} {m : ℕ} → CountsUpTo counts m → Ascending counts m
-ascending a = record { two = a .two; first = a .first; last = a .last; rises = a .rises }
 
 -- what a plan, its cost and the work bytes are after a search over counts
 abbrev pub Planned : Instance → List ℕ → ℕ → List ℕ → List ℕ → List ℕ → Type 0
@@ -45,7 +38,7 @@ module _ {s : List ℕ} {h : Header} {counts plan work : List ℕ} (p : PlanOver
       {cost : ℕ} {made cleared cleared′ : List ℕ} → cost ≡ searchedCost (instanceOf s) counts 0 →
       made ≡ searchedPlan (instanceOf s) counts 0 → cleared ≡ cleared′ → Planned (instanceOf s) counts cost made cleared cleared′
   planned c m z =
-      let best = searched-plan (accepted-plannable s (p .buffers .ready .accepted)) counts (ascending (p .allowed)) in
+      let best = searched-plan (accepted-plannable s (p .buffers .ready .accepted)) counts (p .allowed .ascending) in
       (c ∙ best .1, (m ∙ best .0, z))
 
 -- Both planners: the counts at the front of the room, filled in by the header's rack, are those of the card's rack.
@@ -76,7 +69,7 @@ over-all {s} {h} {plan} {work} b =
     let size : length (allCounts m) ≡ m + 1 = length-tabulate (m + 1) (λ n. n) in
     record {
       buffers = record { ready = b .ready; plan-size = b .plan-size; work-room = rw size (b .work-room) };
-      allowed = up-to (all-ascending m (range .0)) (omega (arith, range .1));
+      allowed = record { ascending = all-ascending m (range .0); bytes = omega (arith, range .1) };
       short = omega (arith, range .1);
     }
 
@@ -94,7 +87,7 @@ over-coarse {s} {h} {plan} {work} b =
             plan-size = b .plan-size;
             work-room = le-trans (mul-le-mul-right (instanceOf s .slots) ten) (b .work-room);
           };
-      allowed = up-to (coarse-ascending (instanceOf s .modules) (range .0)) (omega arith);
+      allowed = record { ascending = coarse-ascending (instanceOf s .modules) (range .0); bytes = omega arith };
       short = omega arith;
     }
 

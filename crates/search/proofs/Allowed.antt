@@ -1,29 +1,26 @@
 -- What a list of allowed counts is known to hold.
-use Prim.Native.Nat.{ℕ, _*_, _≤_, _<_}
+use Prim.Native.Nat.{ℕ, _*_, _≤_}
 use mathlib.Core.Path.{_≡_}
 use mathlib.Core.List.{List}
 use mathlib.Core.Logic.{⊎-elim}
-use native.Mathlib.Nat.{le-of-lt, le-refl}
 use native.Mathlib.Omega.{arith}
 use lib.ListN.{length, List·getD-eq-default}
 use Rattle.lists.specs.Numbers.{le-or-lt}
-use Rattle.lists.specs.Rising.{rises-to}
 use Rattle.model.specs.declared.Answer.the-variants.{Cost}
 use Rattle.model.specs.Instance.{instanceOf}
 use Rattle.model.specs.Calls.{checkCard, answer}
 use Rattle.laws.specs.Acceptance.{modules-range}
 use Rattle.counts.specs.Serving.{Served}
 use Rattle.columns.specs.Column.{countAtPlace, lastPlace}
+use Rattle.columns.specs.Places.{count-fits}
 use Rattle.search.specs.Asked.{CountsUpTo, AtMost}
 
 -- no count exceeds the rack
 pub counts-fit : {counts : List ℕ} {m : ℕ} → CountsUpTo counts m → (j : ℕ) → countAtPlace counts j ≤ m
 counts-fit {counts} a j =
-    let last = lastPlace counts in
-    let rise = rises-to (countAtPlace counts) last (λ k g. le-of-lt (a .rises k (omega arith))) j last in
     ⊎-elim
     (λ (h : length counts ≤ j). omega (arith, List·getD-eq-default counts 0 h))
-    (λ (h : j < length counts). omega (arith, rise (omega arith) (le-refl last)))
+    (count-fits (a .ascending) j)
     (le-or-lt (length counts) j)
 
 -- on an accepted card
@@ -33,4 +30,4 @@ module _ (s : List ℕ) {counts : List ℕ} (accepted : answer (checkCard s) ≡
 
   -- the last place is the full rack, which serves
   pub full-served : {l : ℕ} → l ≤ instanceOf s .modules * instanceOf s .topStep → Served s (countAtPlace counts (lastPlace counts)) l
-  full-served h = record { accepted = accepted; in-rack = counts-fit a (lastPlace counts); serves = rw (a .last) h }
+  full-served h = record { accepted = accepted; in-rack = counts-fit a (lastPlace counts); serves = rw (a .ascending .last) h }

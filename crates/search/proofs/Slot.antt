@@ -39,7 +39,7 @@ module _
                 column-size = rw (first .costs-are) (length-tabulate (length counts) _);
               };
           some = omega arith;
-          rises = λ j h. le-of-lt (q .allowed .rises j h);
+          rises = λ j h. le-of-lt (q .allowed .ascending .rises j h);
           places-size = rw (first .places-are) (length-tabulate (length counts) _);
           small =
               rw (first .costs-are)

@@ -9,13 +9,12 @@ use lib.ListN.{length, drop}
 use borrow.Rule.Slice.PartMut.{midOf, putMid, mid-len}
 use Rattle.lists.specs.Lists.{rows, length-tabulate, getD-tabulate, tabulate-same}
 use Rattle.lists.specs.Rows.{row-within, rows-size, next-row}
-use Rattle.model.specs.Instance.{Instance, instanceOf, loadPlace}
+use Rattle.model.specs.Instance.{Instance, instanceOf}
 use Rattle.model.specs.Counts.{operatingCost}
 use Rattle.model.specs.Thesis.{switchingPrice}
 use Rattle.laws.specs.Acceptance.{modules-range, up-range, down-range, slots-range, load-range}
 use Rattle.card.specs.declared.Header.{Header}
-use Rattle.card.specs.Reading.{Within}
-use Rattle.card.proofs.Room.{load-within}
+use Rattle.card.proofs.Room.{in-header}
 use Rattle.columns.specs.Column.{countAtPlace, lastPlace, upward, column, selection}
 use Rattle.columns.specs.Laws.{upward-same, column-bound}
 use Rattle.search.specs.Written.{costIn, Holds, priceList, columnList, lastColumn, selectionRow, selectionRows, selectionsIn}
@@ -83,16 +82,8 @@ module _ {s : List ℕ} {h : Header} {counts costs₀ work₀ : List ℕ} (p : S
   pub price-is : h .up + h .down ≡ switchingPrice (instanceOf s)
   price-is = omega arith
 
-  pub slot-inside : {t : ℕ} → t < h .slots → t < instanceOf s .slots
-  slot-inside g = rw (p .ready .header .slots-is) at g
-
   pub row-small : {t : ℕ} → t < h .slots → t * length counts + length counts ≤ 262144
   row-small g = row-within (length counts) {n = 1024} (omega (arith, slots-range s (p .ready .accepted))) (omega arith)
-
-  pub load-there : {t : ℕ} → t < h .slots → Within s (loadPlace (h .top) t) 2 × (h .top ≡ instanceOf s .topStep)
-  load-there {t} g =
-      let top-is = p .ready .header .top-is in
-      (rw top-is (load-within s (p .ready .accepted) t (slot-inside g)), top-is)
 
   pub price-most : h .up + h .down ≤ 1000000000
   price-most = omega (arith, up-range s (p .ready .accepted), down-range s (p .ready .accepted))
@@ -131,7 +122,7 @@ module _ {s : List ℕ} {h : Header} {counts costs₀ work₀ : List ℕ} (p : S
     column-kept = ap length (f .column-is) ∙ column-long (instanceOf s) counts t ∙ sym (p .column-size)
 
     pub row-room : t < h .slots → t * length counts + length counts ≤ length work
-    row-room g = row-within (length counts) (slot-inside g) (omega (arith, work-long))
+    row-room g = row-within (length counts) (in-header (p .ready) g) (omega (arith, work-long))
 
     costs-small : AtMost mostCost costs
     unfolding columnList
@@ -149,7 +140,7 @@ module _ {s : List ℕ} {h : Header} {counts costs₀ work₀ : List ℕ} (p : S
                 accepted = p .ready .accepted;
                 top-is = top-is ∙ p .ready .header .top-is;
                 allowed = p .allowed;
-                load-fits = rw l-is (load-range s (p .ready .accepted) t (slot-inside g));
+                load-fits = rw l-is (load-range s (p .ready .accepted) t (in-header (p .ready) g));
                 column-size = ap length (f .column-is) ∙ column-long (instanceOf s) counts t;
                 places-size = mid-len a e work (omega (arith, row-room g)) ∙ omega arith;
                 small = costs-small;

@@ -9,15 +9,12 @@ use Rattle.model.specs.Calls.{checkCard, answer}
 use Rattle.model.specs.Thesis.{switchingPrice}
 use Rattle.card.specs.declared.Header.{Header}
 use Rattle.card.specs.Checking.{Ready}
-use Rattle.columns.specs.Column.{countAtPlace, lastPlace}
+use Rattle.columns.specs.Column.{countAtPlace, Ascending}
 
--- a list of allowed counts: strictly ascending from 0 to m, with places that fit in a byte
+-- a list of allowed counts, with places that fit in a byte
 pub record CountsUpTo (counts : List ℕ) (m : ℕ) : Type 0 where
-  pub two : 2 ≤ length counts
+  pub ascending : Ascending counts m
   pub bytes : length counts ≤ 256
-  pub first : countAtPlace counts 0 ≡ 0
-  pub last : countAtPlace counts (lastPlace counts) ≡ m
-  pub rises : (j : ℕ) → j + 1 < length counts → countAtPlace counts j < countAtPlace counts (j + 1)
 
 -- the largest cost of a column that the passes take
 abbrev pub mostCost : ℕ

@@ -6,19 +6,16 @@ use native.Mathlib.Nat.{mul-le-mul-left, zero-mul}
 use native.Mathlib.Omega.{arith}
 use lib.ListN.{length, getD, drop}
 use borrow.Rule.Slice.PartMut.{midOf, putMid}
-use Rattle.lists.specs.Lists.{tabulate, length-tabulate, rows, length-rows}
+use Rattle.lists.specs.Lists.{tabulate, rows, length-rows}
 use Rattle.lists.specs.Parts.{part-length}
 use Rattle.lists.specs.Rows.{row-within, rows-size, next-row}
 use Rattle.model.specs.Instance.{Instance}
 use Rattle.model.specs.Plans.{moduleByte, slotRow, sheetOf}
+use Rattle.laws.specs.Running.{slot-row-length}
 
 -- the row of slot t by a plan
 abbrev planRow : Instance → List ℕ → ℕ → List ℕ
 planRow i p t = slotRow i (getD p t 0) (i .load t)
-
-row-length : (i : Instance) (p : List ℕ) (t : ℕ) → length (planRow i p t) ≡ i .modules
-unfolding slotRow
-row-length i p t = length-tabulate (i .modules) _
 
 -- the rows of the first t slots are the plan's, the rest is as it was
 pub record Filled (i : Instance) (p old : List ℕ) (t : ℕ) (new : List ℕ) : Type 0 where
@@ -33,7 +30,7 @@ module _ {i : Instance} {p old l : List ℕ} {t : ℕ} (given : Filled i p old t
   pub filled-size : length l ≡ length old
   filled-size =
       let rows-fit = mul-le-mul-left (i .modules) (given .within) in
-      ap length (given .so-far) ∙ rows-size (i .modules) (planRow i p) (row-length i p) t old (omega arith)
+      ap length (given .so-far) ∙ rows-size (i .modules) (planRow i p) (λ t. slot-row-length i _ _) t old (omega arith)
 
   pub filled-room : i .modules * i .slots ≤ length l
   filled-room = omega (arith, filled-size)
@@ -49,7 +46,7 @@ module _ {i : Instance} {p old l : List ℕ} {t : ℕ} (given : Filled i p old t
       let width : t * m + m - t * m ≡ i .modules = omega arith in
       record {
         within = omega arith;
-        so-far = rw whole (next-row (i .modules) (planRow i p) (row-length i p) t old start width (given .so-far));
+        so-far = rw whole (next-row (i .modules) (planRow i p) (λ t. slot-row-length i _ _) t old start width (given .so-far));
       }
     where
       long : t * m + m ≤ length l
@@ -62,5 +59,5 @@ module _ {i : Instance} {p old l : List ℕ} {t : ℕ} (given : Filled i p old t
   unfolding sheetOf
   filled-all h =
       let same : t ≡ i .slots = omega arith in
-      let count = length-rows (i .modules) (i .slots) (planRow i p) (row-length i p) in
+      let count = length-rows (i .modules) (i .slots) (planRow i p) (λ t. slot-row-length i _ _) in
       rw count (rw same at (given .so-far))

@@ -12,14 +12,12 @@ use borrow.Rule.Slice.PartMut.{midOf}
 use Rattle.lists.specs.Tests.{every-at}
 use Rattle.lists.specs.Parts.{part-length}
 use Rattle.lists.specs.Rows.{row-within}
-use Rattle.model.specs.Instance.{Instance, instanceOf, loadPlace}
+use Rattle.model.specs.Instance.{Instance, instanceOf}
 use Rattle.model.specs.Counts.{canServe}
 use Rattle.model.specs.Plans.{planServes}
 use Rattle.model.specs.Thesis.{countAt, stepUp}
 use Rattle.card.specs.declared.Header.{Header}
-use Rattle.card.specs.Reading.{Within}
 use Rattle.card.specs.Checking.{Ready}
-use Rattle.card.proofs.Room.{load-within}
 use Rattle.laws.specs.Acceptance.{modules-range, top-range}
 use Rattle.counts.specs.Serving.{Served}
 use Rattle.sheets.specs.Asked.{RowFits, PlanSized, PlanReady, SlotReady, RowShort}
@@ -33,12 +31,6 @@ in-slots given below = omega arith
 pub no-more-slots : {s : List ℕ} {h : Header} {p : List ℕ} {t : ℕ} → PlanSized s h p → length p ≤ t → instanceOf s .slots ≤ t
 no-more-slots given past = omega arith
 
-pub in-header : {s : List ℕ} {h : Header} {t : ℕ} → Ready s h → t < h .slots → t < instanceOf s .slots
-in-header given below = omega arith
-
-pub past-header : {s : List ℕ} {h : Header} {t : ℕ} → Ready s h → h .slots ≤ t → instanceOf s .slots ≤ t
-past-header given past = omega arith
-
 -- the row of slot t lies inside an area of m × T bytes, which are at most 200 × 1,024
 pub row-there : {s : List ℕ} {h : Header} {t size : ℕ} → Ready s h → t < instanceOf s .slots →
     instanceOf s .modules * instanceOf s .slots ≤ size → t * h .modules + h .modules ≤ size
@@ -51,9 +43,6 @@ pub row-short :
     {s : List ℕ} {h : Header} (l : List ℕ) (a : ℕ) → Ready s h → a + h .modules ≤ length l → RowShort (midOf a (a + h .modules - a) l)
 row-short {s} {h} l a given inside =
     record { short = omega (arith, part-length a (h .modules) l inside, modules-range s (given .accepted) .1) }
-
-pub load-there : {s : List ℕ} {h : Header} {t : ℕ} → Ready s h → t < instanceOf s .slots → Within s (loadPlace (h .top) t) 2
-load-there {s} {h} {t} given below = rw (given .header .top-is) (load-within s (given .accepted) t below)
 
 -- the test of a count against a load
 module _ (i : Instance) (n l : ℕ) {x y top : ℕ} (x-is : x ≡ n) (y-is : y ≡ l) (top-is : top ≡ i .topStep) where

@@ -11,7 +11,7 @@ use Rattle.lists.specs.Rising.{rises-to}
 use Rattle.model.specs.Instance.{Instance}
 use Rattle.model.specs.Counts.{operatingCost}
 use Rattle.theory.specs.Setting.{NeverFalls}
-use Rattle.theory.specs.Running.{running-some}
+use Rattle.laws.specs.Running.{running-some}
 
 -- A load over n modules: `high` of them at step + 1, and the others, at least one, at `step`.
 record Shares (n l : ℕ) : Type 0 where

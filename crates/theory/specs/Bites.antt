@@ -15,8 +15,8 @@ use Rattle.model.specs.Counts.{canServe, operatingCost, allCounts, powerOfTwo, 
 use Rattle.model.specs.Sheets.{off, stateAt, sheetLength, sheetEntries, lightAt, sheetLight, serves, stepCost, changeCost, sheetCost}
 use Rattle.model.specs.Thesis.{countAt, stepUp, countsCost}
 use Rattle.model.specs.Plans.{moduleByte, slotRow, sheetOf, planCost, planServes, plansInOrder, cheapest, cheapestOf, leastPlan}
-use Rattle.columns.specs.Column.{countAtPlace}
-use Rattle.theory.specs.Setting.{NeverFalls, Plannable, Entry, activeIn, lightIn, rowCost, Ascending}
+use Rattle.columns.specs.Column.{countAtPlace, Ascending}
+use Rattle.theory.specs.Setting.{NeverFalls, Plannable, Entry, activeIn, lightIn, rowCost}
 use Rattle.theory.specs.Sheets.{countsOf, sheet-at-least}
 use Rattle.theory.specs.Condition3.{exact-least, list-ratio, coarse-twice}
 

@@ -16,11 +16,11 @@ use Rattle.model.specs.Thesis.{countsCost}
 use Rattle.model.specs.Plans.{Allowed, LeastPlan, sheetOf, planCost, leastPlan}
 use Rattle.model.specs.Calls.{checkCard, planCoarse, requestOf, applies, answer}
 use Rattle.laws.specs.Acceptance.{modules-range, top-range, load-range, table-convex}
-use Rattle.columns.specs.Column.{countAtPlace, searchedPlan, searchedCost}
-use Rattle.theory.specs.Setting.{NeverFalls, PlanFits, Plannable, Ascending, LeastByCounts}
+use Rattle.columns.specs.Column.{countAtPlace, searchedPlan, searchedCost, Ascending}
+use Rattle.theory.specs.Setting.{NeverFalls, PlanFits, Plannable, LeastByCounts}
 use Rattle.theory.specs.Tables.{convex-test, never-falls-test}
 use Rattle.theory.specs.Sheets.{countsOf, sheet-counts-fit, sheet-at-least, plan-sheet-serves, plan-cost-counts}
-use Rattle.theory.specs.Places.{count-fits}
+use Rattle.columns.specs.Places.{count-fits}
 use Rattle.theory.specs.Least.{searched-least, searched-cost}
 use Rattle.theory.specs.Enumeration.{least-plan, least-plan-unique}
 use Rattle.theory.specs.Ratio.{ratio}

@@ -11,9 +11,10 @@ use Rattle.lists.specs.Members.{snoc-before, snoc-length}
 use Rattle.model.specs.Instance.{Instance}
 use Rattle.model.specs.Plans.{Allowed}
 use Rattle.model.specs.Thesis.{switchingPrice, countAt, stepUp, countsCost}
-use Rattle.columns.specs.Column.{countAtPlace, column, selection, wayBack, searchedPlan, searchedCost}
-use Rattle.theory.specs.Setting.{Ascending, LoadsFit, costOfFirst, LeastByCounts}
-use Rattle.theory.specs.Places.{count-rises, place-below, Placed, placed-snoc, placed-of, allowed-of}
+use Rattle.columns.specs.Column.{countAtPlace, column, selection, wayBack, searchedPlan, searchedCost, Ascending}
+use Rattle.theory.specs.Setting.{LoadsFit, costOfFirst, LeastByCounts}
+use Rattle.columns.specs.Places.{count-rises, place-below}
+use Rattle.theory.specs.Places.{Placed, placed-snoc, placed-of, allowed-of}
 use Rattle.theory.specs.Steps.{column-step}
 use Rattle.theory.specs.Ties.{NotAfterIn, not-after-suc, not-after-same}
 

@@ -15,8 +15,7 @@ use Rattle.lists.specs.Lists.{keep, length-tabulate, getD-tabulate, head-is-fir
 use Rattle.lists.specs.Members.{InOrder, member-at, place-of, to-keep, from-keep, rising-in-order, in-order-at, in-order-le, in-order-keep}
 use Rattle.model.specs.Counts.{allCounts, powerOfTwo, coarseCounts, roundedCount}
 use Rattle.model.specs.Plans.{Member}
-use Rattle.columns.specs.Column.{countAtPlace, lastPlace}
-use Rattle.theory.specs.Setting.{Ascending}
+use Rattle.columns.specs.Column.{countAtPlace, lastPlace, Ascending}
 
 -- what is kept of a list
 kept-member : (f : ℕ → Bool) (l : List ℕ) (n : ℕ) → Member n (keep f l) ↔ (Member n l × (f n ≡ true))

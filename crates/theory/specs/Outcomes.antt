@@ -26,7 +26,8 @@ use Rattle.laws.specs.Answers.{number-zero}
 use Rattle.laws.specs.Lowest.{lowest-passed}
 use Rattle.laws.specs.OnCard.{on-card-refused, on-card-passed, on-card-accepted}
 use Rattle.laws.specs.Acceptance.{modules-range}
-use Rattle.theory.specs.Setting.{PlanFits, Ascending}
+use Rattle.columns.specs.Column.{Ascending}
+use Rattle.theory.specs.Setting.{PlanFits}
 use Rattle.theory.specs.Sheets.{serves-parts, sheet-length, plan-sheet-serves}
 use Rattle.theory.specs.Lists.{all-ascending, coarse-ascending}
 use Rattle.theory.specs.Condition3.{least-plan-fits, accepted-plannable}

@@ -9,9 +9,8 @@ use lib.ListN.{length}
 use Rattle.lists.specs.Numbers.{le-or-lt}
 use Rattle.lists.specs.Products.{line-moved}
 use Rattle.lists.specs.Rising.{between}
-use Rattle.columns.specs.Column.{countAtPlace, lastPlace}
-use Rattle.theory.specs.Setting.{Ascending}
-use Rattle.theory.specs.Places.{count-rises}
+use Rattle.columns.specs.Column.{countAtPlace, lastPlace, Ascending}
+use Rattle.columns.specs.Places.{count-rises}
 
 -- a column that rises with the places, by at most the price a module
 pub record Gradual (price : ℕ) (counts : List ℕ) (f : ℕ → ℕ) : Type 0 where

@@ -3,46 +3,21 @@ use Prim.Native.Nat.{ℕ, zero, suc, _+_, _-_, _*_, _/_, _%_, _≤_, _<_}
 use mathlib.Core.Path.{_≡_, refl, ap, sym, _∙_}
 use mathlib.Core.Bool.{Bool, true, false, cond, or-true, or-false}
 use mathlib.Core.Logic.{_⊎_, inl, inr, ⊎-elim}
-use lib.Dec.{leb, eqb, eqb·suc-zero}
-use borrow.Author.Tests.{leb-true, le-leb, lt-ltb, le-ltb, ne-eqb}
-use native.Mathlib.Nat.{zero-mul, add-sub-of-le, mod-zero, mod-lt, div-add-mod, div-le-of-le-mul}
+use lib.Dec.{leb}
+use borrow.Author.Tests.{leb-true, le-leb, ne-eqb}
+use native.Mathlib.Nat.{add-sub-of-le, mod-lt, div-add-mod, div-le-of-le-mul}
 use native.Mathlib.Nat.{le-of-lt, eq-or-lt-of-le, eq-zero-or-pos, mul-le-mul-left, mul-le-mul-right}
 use native.Mathlib.Omega.{arith}
 use Rattle.lists.specs.Numbers.{le-or-lt, true-or-false}
-use Rattle.lists.specs.Products.{mul-le-mul-some}
 use Rattle.lists.specs.Division.{remainder-le, quotient-lt, part-and-rest}
 use Rattle.lists.specs.Sums.{sum, sum-const, sum-from, sum-at-most}
 use Rattle.model.specs.Instance.{Instance}
 use Rattle.model.specs.Counts.{operatingCost}
 use Rattle.model.specs.Sheets.{off, isOff, stepOf, stepCost}
 use Rattle.model.specs.Plans.{moduleByte}
+use Rattle.laws.specs.Running.{running-formula, byte-above, byte-at, byte-off}
 use Rattle.theory.specs.Setting.{Convex, Entry, activeIn, lightIn, rowCost}
 use Rattle.theory.specs.Tables.{supporting-line}
-
--- The three cases of the running cost are one formula,
-pub running-some : (i : Instance) (n l : ℕ) → 0 < n →
-    operatingCost i n l ≡ (n - l % n) * i .table (l / n) + l % n * i .table (l / n + 1)
-unfolding operatingCost
-running-some i n l some = rw (ne-eqb n 0 (omega arith), second-term (l % n) (i .table (l / n + 1)))
-  where
-    second-term : (r x : ℕ) → cond (eqb r 0) 0 (r * x) ≡ r * x
-    second-term zero x = sym (zero-mul x)
-    second-term (suc r) x = rw (eqb·suc-zero r)
-
--- also for no module, which serves no load but 0.
-running-formula : (i : Instance) (n l : ℕ) → l ≤ n * i .topStep →
-    operatingCost i n l ≡ (n - l % n) * i .table (l / n) + l % n * i .table (l / n + 1)
-unfolding operatingCost
-running-formula i zero l h = let none : l % 0 ≡ 0 = omega (arith, mod-zero l) in rw none (omega arith)
-running-formula i (suc n) l h = running-some i (suc n) l (omega arith)
-
--- Where no entry of the table exceeds f, n modules cost at most n times f.
-pub running-bound : (i : Instance) (f : ℕ) → ((k : ℕ) → k ≤ i .topStep → i .table k ≤ f) → (n l : ℕ) → l ≤ n * i .topStep →
-    operatingCost i n l ≤ n * f
-running-bound i f table n l h =
-    let low = mul-le-mul-left (n - l % n) (table (l / n) (div-le-of-le-mul n h)) in
-    let high = mul-le-mul-some (l % n) (λ some. table (l / n + 1) (omega (arith, quotient-lt n l (i .topStep) h some))) in
-    omega (arith, running-formula i n l h, part-and-rest n (l % n) f (remainder-le n l (i .topStep) h))
 
 -- 'the thesis's n·f(L/n) with straight lines between table entries' (01): for n modules the running cost is n times the line from
 -- F(q) to F(q + 1), taken at l / n; stated without division.
@@ -143,20 +118,7 @@ module _ (i : Instance) where
       operatingCost i (activeIn m b) (lightIn m b) ≤ rowCost i m b
   row-at-least c m b e = above-lines i (activeIn m b) (lightIn m b) (rowCost i m b) (row-fits m b e) (row-above-line m b e) c
 
--- The row of a plan: the first l % n modules at the step above, the others up to n at the step, the rest off.
-module _ (n l : ℕ) where
-  byte-above : (k : ℕ) → k < l % n → k < n → moduleByte n l k ≡ l / n + 1
-  unfolding moduleByte
-  byte-above k g h = rw (lt-ltb k n h, lt-ltb k (l % n) g)
-
-  byte-at : (k : ℕ) → l % n ≤ k → k < n → moduleByte n l k ≡ l / n
-  unfolding moduleByte
-  byte-at k g h = rw (lt-ltb k n h, le-ltb k (l % n) g)
-
-  pub byte-off : (k : ℕ) → n ≤ k → moduleByte n l k ≡ off
-  unfolding moduleByte
-  byte-off k h = rw (le-ltb k n h)
-
+-- The row of a plan.
 step-active : (b : ℕ) → b < off → isOff b ≡ false
 step-active b h = ne-eqb b off (λ e. omega arith)
 

@@ -11,7 +11,7 @@ use Rattle.model.specs.Counts.{canServe, operatingCost}
 use Rattle.model.specs.Sheets.{isOff, stepOf, stepCost, off}
 use Rattle.model.specs.Thesis.{switchingPrice, countAt, stepUp, countsCost}
 use Rattle.model.specs.Plans.{Allowed, NotAfter, planServes}
-use Rattle.columns.specs.Column.{countAtPlace, lastPlace}
+use Rattle.columns.specs.Column.{countAtPlace}
 
 -- Tables with the entries f 0 to f q: no entry lies above the middle of its neighbours;
 abbrev pub Convex : ℕ → (ℕ → ℕ) → Type 0
@@ -52,13 +52,6 @@ pub record PlanFits (i : Instance) (p : List ℕ) : Type 0 where
   pub slotwise : length p ≡ i .slots
   pub in-rack : (t : ℕ) → t < i .slots → getD p t 0 ≤ i .modules
   pub served : planServes i p ≡ true
-
--- A list of allowed counts: strictly ascending from 0 to m, with at least one count after 0.
-pub record Ascending (counts : List ℕ) (m : ℕ) : Type 0 where
-  pub two : 2 ≤ length counts
-  pub first : countAtPlace counts 0 ≡ 0
-  pub last : countAtPlace counts (lastPlace counts) ≡ m
-  pub rises : (j : ℕ) → j + 1 < length counts → countAtPlace counts j < countAtPlace counts (j + 1)
 
 -- What one slot with load l makes of a column: the least over all places that serve, and the smallest place that attains it.
 pub record SlotStep (i : Instance) (counts : List ℕ) (l : ℕ) (before after chosen : ℕ → ℕ) : Type 0 where

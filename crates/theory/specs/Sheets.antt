@@ -20,8 +20,9 @@ use Rattle.model.specs.Sheets.{off, isOff, stepOf, stateAt, sheetLength, sheetE
 use Rattle.model.specs.Sheets.{stepCost, changeCost, sheetCost}
 use Rattle.model.specs.Thesis.{switchingPrice, scheduleCost, scheduleOf, Feasible, countAt, stepUp, countsCost}
 use Rattle.model.specs.Plans.{moduleByte, slotRow, sheetOf, planCost, planServes}
+use Rattle.laws.specs.Running.{byte-off, slot-row-length}
 use Rattle.theory.specs.Setting.{Convex, Entry, activeIn, lightIn, rowCost, PlanFits}
-use Rattle.theory.specs.Running.{active-le, row-fits, row-at-least, byte-off, plan-row-entry, plan-row-light, plan-row-cost}
+use Rattle.theory.specs.Running.{active-le, row-fits, row-at-least, plan-row-entry, plan-row-light, plan-row-cost}
 use Rattle.theory.specs.Switching.{started, startedIn, stoppedIn, change-cost, switches-balance}
 use Rattle.theory.specs.Switching.{started-at-least, started-at-most, plan-started}
 
@@ -196,19 +197,15 @@ loadAt i (suc t) = i .load t
 
 -- The sheet of a plan.
 module _ (i : Instance) (p : List ℕ) where
-  row-length : (t : ℕ) → length (slotRow i (getD p t 0) (i .load t)) ≡ i .modules
-  unfolding slotRow
-  row-length t = length-tabulate (i .modules) _
-
   pub sheet-length : length (sheetOf i p) ≡ i .modules * i .slots
   unfolding sheetOf
-  sheet-length = length-rows (i .modules) (i .slots) _ row-length ∙ mul-comm (i .slots) (i .modules)
+  sheet-length = length-rows (i .modules) (i .slots) _ (λ t. slot-row-length i _ _) ∙ mul-comm (i .slots) (i .modules)
 
   -- its byte for slot t and module k
   sheet-entry : (t k : ℕ) → t < i .slots → k < i .modules →
       getD (sheetOf i p) (t * i .modules + k) off ≡ moduleByte (getD p t 0) (i .load t) k
   unfolding sheetOf slotRow
-  sheet-entry t k h g = getD-rows (i .modules) (i .slots) _ row-length t k off h g ∙ getD-tabulate (i .modules) _ k off g
+  sheet-entry t k h g = getD-rows (i .modules) (i .slots) _ (λ t. slot-row-length i _ _) t k off h g ∙ getD-tabulate (i .modules) _ k off g
 
   -- a place in it is that of a slot and a module
   place-slot : (j : ℕ) → j < length (sheetOf i p) → (j / i .modules < i .slots) × (j % i .modules < i .modules)

@@ -9,12 +9,12 @@ use lib.ListN.{length}
 use Rattle.model.specs.Instance.{Instance}
 use Rattle.model.specs.Counts.{canServe, operatingCost}
 use Rattle.model.specs.Thesis.{switchingPrice}
-use Rattle.columns.specs.Column.{countAtPlace, lastPlace, Choice, cheaper, own, fromTop, downward, upward, column, selection}
+use Rattle.columns.specs.Column.{countAtPlace, lastPlace, Choice, cheaper, own, fromTop, downward, upward, column, selection, Ascending}
 use Rattle.columns.specs.Laws as laws
-use Rattle.theory.specs.Setting.{Ascending, LoadsFit, SlotStep}
-use Rattle.theory.specs.Running.{running-bound}
+use Rattle.theory.specs.Setting.{LoadsFit, SlotStep}
+use Rattle.laws.specs.Running.{running-bound}
 use Rattle.theory.specs.Choices.{Best, best-own, best-skip, best-raised}
-use Rattle.theory.specs.Places.{count-rises, count-fits, last-inside, last-serves}
+use Rattle.columns.specs.Places.{count-rises, count-fits, last-inside, last-serves}
 
 module _ (i : Instance) (counts : List ℕ) (asc : Ascending counts (i .modules)) where
   -- the price of switching on from place k up to place j

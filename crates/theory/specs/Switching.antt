@@ -10,8 +10,9 @@ use Rattle.lists.specs.Sums.{sum, sum-mono, sum-const}
 use Rattle.model.specs.Instance.{Instance}
 use Rattle.model.specs.Sheets.{off, isOff, changeCost}
 use Rattle.model.specs.Plans.{moduleByte}
+use Rattle.laws.specs.Running.{byte-off}
 use Rattle.theory.specs.Setting.{activeIn}
-use Rattle.theory.specs.Running.{byte-off, byte-active, plan-row-active}
+use Rattle.theory.specs.Running.{byte-active, plan-row-active}
 
 -- 1 for a module that was off and is not, else 0
 abbrev pub started : (wasOff nowOff : Bool) → ℕ

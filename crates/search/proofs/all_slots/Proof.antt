@@ -3,7 +3,8 @@ use Prim.Native.Nat.{_-_}
 use native.Mathlib.Omega.{arith}
 use Rattle.model.specs.Instance.{instanceOf}
 use Rattle.search.proofs.Slots.{SlotLoop, slots-start, slots-turn, slots-end, price-is, price-most, start-priced}
-use Rattle.search.proofs.Slots.{slot-inside, load-there, column-kept, work-long, row-small, row-room, slot-ready}
+use Rattle.card.proofs.Room.{in-header, load-there}
+use Rattle.search.proofs.Slots.{column-kept, work-long, row-small, row-room, slot-ready}
 use Rattle.search.proofs.all_slots.Statement.{statement}
 use Rattle.search.proofs.all_slots.Tie as tie
 
@@ -32,7 +33,9 @@ loop-holds c =
     slots-start _ _ _ (price-is p) (called .start-column .ensures)
 
 load-requires : tie.Need-load-requires Inv-loop μ-loop
-load-requires c κs = load-there (start (c .before) .pre) (c .loop-test .taken)
+load-requires c κs =
+    let ready = start (c .before) .pre .ready in
+    load-there ready (in-header ready (c .loop-test .taken))
 
 mul-row : tie.Need-mul-row Inv-loop μ-loop
 mul-row c = let test = c .before in record { fits = omega (arith, row-small (start (test .before) .pre) (test .loop-test .taken)) }
@@ -69,7 +72,7 @@ loop-again c =
     let read = called .before .before .before in
     let test = read .before in
     let p = start (test .before) .pre in
-    slots-turn (test .before .loop .inv) (omega arith) (slot-inside p (test .loop-test .taken))
+    slots-turn (test .before .loop .inv) (omega arith) (in-header (p .ready) (test .loop-test .taken))
     (read .load .ensures .is) refl refl (called .one-slot .ensures)
 
 same-length : tie.Need-same-length Inv-loop μ-loop

@@ -7,7 +7,8 @@ use Rattle.lists.specs.Summing.{Summed, summed-none, summed-more, summed-all, s
 use Rattle.model.specs.Instance.{instanceOf}
 use Rattle.model.specs.Thesis.{countAt, countsCost}
 use Rattle.laws.specs.Acceptance.{slots-range}
-use Rattle.sheets.proofs.Loads.{in-slots, no-more-slots, load-there, slotAt, slot-ready, slot-at-most, slot-is, count-next}
+use Rattle.card.proofs.Room.{load-there}
+use Rattle.sheets.proofs.Loads.{in-slots, no-more-slots, slotAt, slot-ready, slot-at-most, slot-is, count-next}
 use Rattle.sheets.proofs.plan_cost.Statement.{statement}
 use Rattle.sheets.proofs.plan_cost.Tie as tie
 
@@ -36,7 +37,7 @@ load-requires : tie.Need-load-requires Inv-loop μ-loop
 load-requires c κs =
     let test = c .before .before in
     let p = start (test .before) .pre .sized in
-    (load-there (p .ready) (in-slots p (test .loop-test .taken)), p .ready .header .top-is)
+    load-there (p .ready) (in-slots p (test .loop-test .taken))
 
 slot-cost-requires : tie.Need-slot-cost-requires Inv-loop μ-loop
 slot-cost-requires c κs =

@@ -7,7 +7,8 @@ use Rattle.lists.specs.Tests.{Passed, passed-none, passed-more, passed-all, pas
 use Rattle.model.specs.Instance.{instanceOf}
 use Rattle.model.specs.Counts.{canServe}
 use Rattle.model.specs.Plans.{planServes}
-use Rattle.sheets.proofs.Loads.{in-slots, no-more-slots, load-there, serve-failed, serve-passed}
+use Rattle.card.proofs.Room.{load-there}
+use Rattle.sheets.proofs.Loads.{in-slots, no-more-slots, serve-failed, serve-passed}
 use Rattle.sheets.proofs.plan_serves.Statement.{statement}
 use Rattle.sheets.proofs.plan_serves.Tie as tie
 
@@ -40,7 +41,7 @@ load-requires : tie.Need-load-requires Inv-loop μ-loop
 load-requires c κs =
     let test = c .before .before in
     let p = start (test .before) .pre in
-    (load-there (p .ready) (in-slots p (test .loop-test .taken)), p .ready .header .top-is)
+    load-there (p .ready) (in-slots p (test .loop-test .taken))
 
 returns : tie.Need-returns Inv-loop μ-loop
 unfolding planServes

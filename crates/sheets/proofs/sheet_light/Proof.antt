@@ -4,7 +4,8 @@ use lib.Dec.{eqb}
 use Rattle.lists.specs.Tests.{Passed, passed-none, passed-more, passed-all, passed-not}
 use Rattle.model.specs.Instance.{instanceOf}
 use Rattle.model.specs.Sheets.{lightAt, sheetLight}
-use Rattle.sheets.proofs.Loads.{in-header, past-header, load-there, row-there, row-small, row-short}
+use Rattle.card.proofs.Room.{in-header, past-header, load-there}
+use Rattle.sheets.proofs.Loads.{row-there, row-small, row-short}
 use Rattle.sheets.proofs.States.{light-failed, light-passed}
 use Rattle.sheets.proofs.sheet_light.Statement.{statement}
 use Rattle.sheets.proofs.sheet_light.Tie as tie
@@ -54,7 +55,7 @@ load-requires : tie.Need-load-requires Inv-loop μ-loop
 load-requires c κs =
     let test = c .before .before in
     let p = start (test .before) .pre .ready in
-    (load-there p (in-header p (test .loop-test .taken)), p .header .top-is)
+    load-there p (in-header p (test .loop-test .taken))
 
 returns : tie.Need-returns Inv-loop μ-loop
 unfolding sheetLight

@@ -3,7 +3,8 @@ use native.Mathlib.Omega.{arith}
 use lib.ListN.{length}
 use borrow.Author.Needs.{needs}
 use Rattle.model.specs.Instance.{instanceOf}
-use Rattle.sheets.proofs.Loads.{in-slots, no-more-slots, load-there, row-there, row-small, row-fits}
+use Rattle.card.proofs.Room.{load-there}
+use Rattle.sheets.proofs.Loads.{in-slots, no-more-slots, row-there, row-small, row-fits}
 use Rattle.sheets.proofs.Filled.{Filled, filled-none, filled-size, filled-room, filled-more, filled-all}
 use Rattle.sheets.proofs.write_sheet.Statement.{statement}
 use Rattle.sheets.proofs.write_sheet.Tie as tie
@@ -31,7 +32,7 @@ load-requires : tie.Need-load-requires Inv-loop μ-loop
 load-requires c κs =
     let test = c .before .before in
     let p = start (test .before) .pre .0 .sized in
-    (load-there (p .ready) (in-slots p (test .loop-test .taken)), p .ready .header .top-is)
+    load-there (p .ready) (in-slots p (test .loop-test .taken))
 
 mul-start : tie.Need-mul-start Inv-loop μ-loop
 mul-start c =

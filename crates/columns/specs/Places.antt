@@ -1,0 +1,40 @@
+-- The places of an ascending list of allowed counts.
+use Prim.Native.Nat.{ℕ, _*_, _≤_, _<_}
+use mathlib.Core.Path.{_≡_}
+use mathlib.Core.Bool.{true}
+use mathlib.Core.Logic.{⊎-elim}
+use mathlib.Core.List.{List}
+use native.Mathlib.Omega.{arith}
+use lib.ListN.{length}
+use borrow.Author.Tests.{le-leb}
+use Rattle.lists.specs.Numbers.{le-or-lt}
+use Rattle.lists.specs.Members.{InOrder, rising-in-order, in-order-at, in-order-le}
+use Rattle.model.specs.Instance.{Instance}
+use Rattle.model.specs.Counts.{canServe}
+use Rattle.columns.specs.Column.{countAtPlace, lastPlace, Ascending}
+
+module _ {counts : List ℕ} {m : ℕ} (asc : Ascending counts m) where
+  in-order : InOrder _<_ counts
+  in-order = rising-in-order counts (asc .rises)
+
+  -- a higher place has no lower count
+  pub count-rises : (j k : ℕ) → j ≤ k → k < length counts → countAtPlace counts j ≤ countAtPlace counts k
+  count-rises = in-order-le in-order
+
+  -- of two counts the lower stands at the lower place
+  pub place-below : (j k : ℕ) → j < length counts → countAtPlace counts j ≤ countAtPlace counts k → j ≤ k
+  place-below j k inside h =
+      ⊎-elim (λ (g : j ≤ k). g) (λ (g : k < j). omega (arith, in-order-at in-order 0 k j g inside)) (le-or-lt j k)
+
+  pub last-inside : lastPlace counts < length counts
+  last-inside = omega (arith, asc .two)
+
+  -- the last place is the full rack, which serves
+  pub last-serves :
+      (i : Instance) (l : ℕ) → l ≤ m * i .topStep → canServe i (countAtPlace counts (lastPlace counts)) l ≡ true
+  unfolding canServe
+  last-serves i l fits = rw (asc .last) (le-leb l (m * i .topStep) fits)
+
+  -- no count exceeds the rack
+  pub count-fits : (j : ℕ) → j < length counts → countAtPlace counts j ≤ m
+  count-fits j inside = omega (arith, asc .last, count-rises j (lastPlace counts) (omega arith) last-inside)
