@@ -15,7 +15,7 @@ module _ (s : List ℕ) (given : answer (checkCard s) ≡ Cost 0) where
   pub entry-within : (k : ℕ) → k ≤ instanceOf s .topStep → Within s (entryPlace k) 4
   entry-within k h = record { within = omega (arith, card-size s given) }
 
-  pub load-within : (t : ℕ) → t < instanceOf s .slots → Within s (loadPlace (instanceOf s .topStep) t) 2
+  load-within : (t : ℕ) → t < instanceOf s .slots → Within s (loadPlace (instanceOf s .topStep) t) 2
   load-within t h = record { within = omega (arith, card-size s given) }
 
 -- By the header of an accepted card: its slots are the card's, and what reading their loads asks for is there.

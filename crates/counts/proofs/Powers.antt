@@ -63,19 +63,19 @@ next-tests : every 200 next-test ≡ true
 unfolding every next-test sameList zeroAndPowers firstPowers leadingZeros keep powerOfTwo tabulate
 next-tests = refl
 
--- the list as it is written: m joins the powers up to m unless the last of these is m
-unfoldable pub written : ℕ → ℕ → List ℕ
-written p m = cond (eqb (2 ^ (p - 1)) m) (zeroAndPowers p) (zeroAndPowers p ++ (m ∷ []))
+-- m joins the powers up to m unless the last of these is m
+unfoldable pub joined : ℕ → ℕ → List ℕ
+joined p m = cond (eqb (2 ^ (p - 1)) m) (zeroAndPowers p) (zeroAndPowers p ++ (m ∷ []))
 
--- The second: the smaller counts with m are the list as it is written, with one to eight powers.
-written-test : ℕ → Bool
-written-test k =
-    sameList (zeroAndPowers (powersUpTo k) ++ (suc k ∷ [])) (written (powersUpTo (suc k)) (suc k)) &&
+-- The second: the smaller counts with m are that list, with one to eight powers.
+joined-test : ℕ → Bool
+joined-test k =
+    sameList (zeroAndPowers (powersUpTo k) ++ (suc k ∷ [])) (joined (powersUpTo (suc k)) (suc k)) &&
     (leb 1 (powersUpTo (suc k)) && leb (powersUpTo (suc k)) 8)
 
-written-tests : every 200 written-test ≡ true
-unfolding every written-test written sameList zeroAndPowers firstPowers leadingZeros tabulate
-written-tests = refl
+joined-tests : every 200 joined-test ≡ true
+unfolding every joined-test joined sameList zeroAndPowers firstPowers leadingZeros tabulate
+joined-tests = refl
 
 smaller-first : smaller 1 ≡ zeroAndPowers (powersUpTo 0)
 unfolding smaller zeroAndPowers firstPowers leadingZeros keep tabulate
@@ -91,15 +91,15 @@ smaller-is (suc k) h =
 pub record Coarse (m : ℕ) : Type 0 where
   pub low : 1 ≤ powersUpTo m
   pub high : powersUpTo m ≤ 8
-  pub list : coarseCounts m ≡ written (powersUpTo m) m
+  pub list : coarseCounts m ≡ joined (powersUpTo m) m
 
 pub coarse-known : (m : ℕ) → 1 ≤ m → m ≤ 200 → Coarse m
-unfolding written-test
+unfolding joined-test
 coarse-known zero some most = absurd (omega arith)
 coarse-known (suc k) some most =
     let p = powersUpTo (suc k) in
-    let t = every-at 200 written-test written-tests k most in
-    let found = sameList (zeroAndPowers (powersUpTo k) ++ (suc k ∷ [])) (written p (suc k)) in
+    let t = every-at 200 joined-test joined-tests k most in
+    let found = sameList (zeroAndPowers (powersUpTo k) ++ (suc k ∷ [])) (joined p (suc k)) in
     let range = and-right found (leb 1 p && leb p 8) t in
     record {
       low = leb-true 1 p (and-left (leb 1 p) (leb p 8) range);

@@ -14,7 +14,7 @@ use borrow.Rule.Slice.PartMut.{putMid, midOf, mid-len, post-is}
 use Rattle.lists.specs.Lists.{tabulate, length-tabulate, getD-tabulate}
 use Rattle.model.specs.Counts.{allCounts, coarseCounts}
 use Rattle.counts.specs.AllowedCounts.{CoarseRoom, numbersBelow, firstPowers}
-use Rattle.counts.proofs.Powers.{powersUpTo, zeroAndPowers, written, Coarse, coarse-known}
+use Rattle.counts.proofs.Powers.{powersUpTo, zeroAndPowers, joined, Coarse, coarse-known}
 
 -- all counts from 0 to m
 pub all-written :
@@ -38,7 +38,7 @@ last-power (suc q) h =
 
 -- there are at most ten coarse counts
 pub coarse-ten : (m : ℕ) → 1 ≤ m → m ≤ 200 → length (coarseCounts m) ≤ 10
-unfolding written
+unfolding joined
 coarse-ten m some most = rw (known .list) (sized (eqb (2 ^ (powersUpTo m - 1)) m))
   where
     known : Coarse m
@@ -87,7 +87,7 @@ module _ (xs : List ℕ) (m : ℕ) (asked : CoarseRoom xs m) where
     -- m is a power: the list is complete as it stands
     module _ (equal : getD after (powersUpTo m) 0 ≡ m) where
       power-list : coarseCounts m ≡ zeroAndPowers (powersUpTo m)
-      unfolding written
+      unfolding joined
       power-list = known .list ∙ rw (eq-eqb (2 ^ (powersUpTo m - 1)) m (sym at-last ∙ equal))
 
       power-length : powersUpTo m + 1 ≡ length (coarseCounts m)
@@ -99,7 +99,7 @@ module _ (xs : List ℕ) (m : ℕ) (asked : CoarseRoom xs m) where
     -- m is none: it is joined
     module _ (other : getD after (powersUpTo m) 0 ≡ m → ⊥) where
       other-list : coarseCounts m ≡ zeroAndPowers (powersUpTo m) ++ (m ∷ [])
-      unfolding written
+      unfolding joined
       other-list = known .list ∙ rw (ne-eqb (2 ^ (powersUpTo m - 1)) m (λ e. other (at-last ∙ e)))
 
       other-length : powersUpTo m + 1 + 1 ≡ length (coarseCounts m)

@@ -27,18 +27,18 @@ use Rattle.theory.specs.Condition3.{accepted-plannable, least-sheet, exact-leas
 use Rattle.theory.specs.Outcomes.{written-taken, best-fits, exact-on, coarse-on}
 
 -- the card is accepted, and the answer is the cost of a plan
-abbrev Planned : List ℕ → List ℕ → Answer → Type 0
-Planned c best a = (answer (checkCard c) ≡ Cost 0) × (a ≡ Cost (planCost (instanceOf c) best))
+abbrev Succeeds : List ℕ → List ℕ → Answer → Type 0
+Succeeds c best a = (answer (checkCard c) ≡ Cost 0) × (a ≡ Cost (planCost (instanceOf c) best))
 
 -- One argument for both planners: an answer with number 0 is that of the least plan over the counts.
 module _
     (counts : ℕ → List ℕ) (asc : (m : ℕ) → 1 ≤ m → Ascending (counts m) m) (c : List ℕ) (a : Answer)
-    (planned : numberOf a ≡ 0 → Planned c (leastPlan (instanceOf c) (counts (instanceOf c .modules))) a) {number cost : ℕ}
+    (planned : numberOf a ≡ 0 → Succeeds c (leastPlan (instanceOf c) (counts (instanceOf c .modules))) a) {number cost : ℕ}
     (gives : Gives a number cost) where
   abbrev best : List ℕ
   best = leastPlan (instanceOf c) (counts (instanceOf c .modules))
 
-  success : number ≡ 0 → Planned c best a
+  success : number ≡ 0 → Succeeds c best a
   success e = planned (sym (gives .number-is) ∙ e)
 
   cost-of : number ≡ 0 → cost ≡ planCost (instanceOf c) best
@@ -71,7 +71,7 @@ module _
 
 -- The exact planner.
 module _ (c p w : List ℕ) where
-  exact-planned : numberOf (answer (planExact c p w)) ≡ 0 → Planned c (exactPlan (instanceOf c)) (answer (planExact c p w))
+  exact-planned : numberOf (answer (planExact c p w)) ≡ 0 → Succeeds c (exactPlan (instanceOf c)) (answer (planExact c p w))
   unfolding successCost
   exact-planned e = let success = succeeded (planExact c p w) e in (exact-on c p w success, success)
 
@@ -87,7 +87,7 @@ module _ (c p w : List ℕ) where
 
 -- The coarse planner.
 module _ (c p w : List ℕ) where
-  coarse-planned : numberOf (answer (planCoarse c p w)) ≡ 0 → Planned c (coarsePlan (instanceOf c)) (answer (planCoarse c p w))
+  coarse-planned : numberOf (answer (planCoarse c p w)) ≡ 0 → Succeeds c (coarsePlan (instanceOf c)) (answer (planCoarse c p w))
   unfolding successCost
   coarse-planned e = let success = succeeded (planCoarse c p w) e in (coarse-on c p w success, success)
 

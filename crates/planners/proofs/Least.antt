@@ -22,8 +22,8 @@ use Rattle.search.specs.Asked.{Searchable}
 use Rattle.planners.specs.Asked.{PlanOver, RackRoom, ExactBuffers, CoarseBuffers, CoarseNumbers}
 
 -- what a plan, its cost and the work bytes are after a search over counts
-abbrev pub Planned : Instance → List ℕ → ℕ → List ℕ → List ℕ → List ℕ → Type 0
-Planned i counts cost plan work cleared = (cost ≡ planCost i (leastPlan i counts)) × ((plan ≡ leastPlan i counts) × (work ≡ cleared))
+abbrev pub Found : Instance → List ℕ → ℕ → List ℕ → List ℕ → List ℕ → Type 0
+Found i counts cost plan work cleared = (cost ≡ planCost i (leastPlan i counts)) × ((plan ≡ leastPlan i counts) × (work ≡ cleared))
 
 module _ {s : List ℕ} {h : Header} {counts plan work : List ℕ} (p : PlanOver s h counts plan work) where
   pub searchable : {column : List ℕ} → length column ≡ length counts → Searchable s h counts column plan work
@@ -36,7 +36,7 @@ module _ {s : List ℕ} {h : Header} {counts plan work : List ℕ} (p : PlanOver
   -- the search's results are the least plan's
   pub planned :
       {cost : ℕ} {made cleared cleared′ : List ℕ} → cost ≡ searchedCost (instanceOf s) counts 0 →
-      made ≡ searchedPlan (instanceOf s) counts 0 → cleared ≡ cleared′ → Planned (instanceOf s) counts cost made cleared cleared′
+      made ≡ searchedPlan (instanceOf s) counts 0 → cleared ≡ cleared′ → Found (instanceOf s) counts cost made cleared cleared′
   planned c m z =
       let best = searched-plan (accepted-plannable s (p .buffers .ready .accepted)) counts (p .allowed .ascending) in
       (c ∙ best .1, (m ∙ best .0, z))
@@ -55,8 +55,8 @@ module _
   over-front p = rw front-own p
 
   pub planned-front :
-      {cost : ℕ} {plan work cleared : List ℕ} → Planned (instanceOf s) (take n new) cost plan work cleared →
-      Planned (instanceOf s) own cost plan work cleared
+      {cost : ℕ} {plan work cleared : List ℕ} → Found (instanceOf s) (take n new) cost plan work cleared →
+      Found (instanceOf s) own cost plan work cleared
   planned-front p = rw (← front-own) p
 
 -- over all counts
