@@ -8,7 +8,7 @@ use Rattle.model.specs.declared.Refusal.{Refusal}
 use Rattle.model.specs.declared.Refusal.the-variants.{NotACard, Version, RackSize, SlotCount, CardLength, PriceRange, NotConvex, LoadRange}
 use Rattle.model.specs.declared.Answer.{Answer}
 use Rattle.model.specs.declared.Answer.the-variants.{Cost, Refused}
-use Rattle.model.specs.Instance.{instanceOf}
+use Rattle.model.specs.Instance.{instanceOf, loadPlace}
 use Rattle.model.specs.Calls.{checkCard, answer, applies, requestOf, lowest, rackNumber}
 use Rattle.card.specs.declared.Header.{Header}
 use Rattle.card.specs.declared.Checked.{Checked}
@@ -27,6 +27,11 @@ pub record SlotLoad (s : List ℕ) (t value : ℕ) : Type 0 where
 -- the table up to F(q) is there
 pub record TableWithin (s : List ℕ) (q : ℕ) : Type 0 where
   pub room : 17 + 4 * (q + 1) ≤ length s
+
+-- the load of slot t is there, and top is the card's top step
+pub record LoadWithin (s : List ℕ) (top t : ℕ) : Type 0 where
+  pub room : loadPlace top t + 2 ≤ length s
+  pub top-is : top ≡ instanceOf s .topStep
 
 -- the header of a card
 abbrev pub headerOf : List ℕ → Header

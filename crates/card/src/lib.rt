@@ -5,9 +5,9 @@ ghost use mathlib.Core.Path.{_≡_};
 ghost use Prim.Native.Nat.{_+_, _≤_};
 ghost use lib.ListN.{length};
 ghost use Rattle.lists.specs.Lists.{sameList};
-ghost use Rattle.model.specs.Instance.{instanceOf, entryPlace, loadPlace, markOf, cardMark, versionOf, bendsUp, convex, neverFalls, tableInRange, loadsInRange};
+ghost use Rattle.model.specs.Instance.{instanceOf, entryPlace, markOf, cardMark, versionOf, bendsUp, convex, neverFalls, tableInRange, loadsInRange};
 ghost use Rattle.card.specs.Reading.{Within, ReadAt};
-ghost use Rattle.card.specs.Checking.{TableEntry, SlotLoad, TableWithin, HeaderOf, Sized, rackInRange, found, frontRefusals, sizeRefusals, bodyRefusals, checkedOf};
+ghost use Rattle.card.specs.Checking.{TableEntry, SlotLoad, TableWithin, LoadWithin, HeaderOf, Sized, rackInRange, found, frontRefusals, sizeRefusals, bodyRefusals, checkedOf};
 
 // A place in a card.
 pub struct Cursor {
@@ -99,8 +99,7 @@ pub fn entry(card: &[u8], k: u64) -> u64
 
 // The load of slot t, where the top step is top.
 pub fn load(card: &[u8], top: u64, t: u64) -> u64
-    requires { ⌜ Within (now card) (loadPlace top t) 2 ⌝ }
-    requires { ⌜ top ≡ instanceOf (now card) .topStep ⌝ }
+    requires { ⌜ LoadWithin (now card) top t ⌝ }
     ensures { λ r. ⌜ SlotLoad (now (card .entry)) t r ⌝ }
 {
     let place = Cursor {

@@ -126,11 +126,11 @@ module _ (s p x : List ℕ) where
                 rw (le-ltb _ _ room, eq-eqb _ _ (plan-sized .slotwise), sym entries-as ∙ entries, served)
                 (ap Cost (plan-cost-counts (instanceOf s) p fit ∙ sym e)))
 
-    -- what an accepted plan and area are known to be
-    pub made-plan : {n : ℕ} → answer (makeSheet s p x) ≡ Cost n → PlanReady s h p
-    made-plan e =
+    -- what an accepted plan and buffer are known to be
+    pub made-ready : {n : ℕ} → answer (makeSheet s p x) ≡ Cost n → SheetRoom s h p x
+    made-ready e =
         let fit = made-fits s p x (r .accepted) e in
-        record { sized = record { ready = r; slotwise = fit .slotwise }; in-rack = fit .in-rack; served = fit .served }
-
-    pub made-area : {n : ℕ} → answer (makeSheet s p x) ≡ Cost n → SheetRoom s x
-    made-area e = record { room = made-room s p x (r .accepted) e }
+        record {
+          plan = record { sized = record { ready = r; slotwise = fit .slotwise }; in-rack = fit .in-rack; served = fit .served };
+          room = made-room s p x (r .accepted) e;
+        }

@@ -33,8 +33,9 @@ pub record PlanReady (s : List ℕ) (h : Header) (p : List ℕ) : Type 0 where
   pub in-rack : (t : ℕ) → t < instanceOf s .slots → getD p t 0 ≤ instanceOf s .modules
   pub served : planServes (instanceOf s) p ≡ true
 
--- a sheet buffer of at least m × T bytes
-pub record SheetRoom (s sheet : List ℕ) : Type 0 where
+-- such a plan, and a sheet buffer of at least m × T bytes
+pub record SheetRoom (s : List ℕ) (h : Header) (p sheet : List ℕ) : Type 0 where
+  pub plan : PlanReady s h p
   pub room : instanceOf s .modules * instanceOf s .slots ≤ length sheet
 
 -- an accepted card with its header, and a byte that is 0 to Q or 255

@@ -38,8 +38,7 @@ fn fill_slot(row: &mut [u8], n: u64, l: u64)
 
 // Writes the sheet of a plan. Each slot's part is lent to the slot filler, which sees that slot alone.
 pub fn write_sheet(card: &[u8], h: Header, plan: &[u8], sheet: &mut [u8])
-    requires { ⌜ PlanReady (now card) h (now plan) ⌝ }
-    requires { ⌜ SheetRoom (now card) (now sheet) ⌝ }
+    requires { ⌜ SheetRoom (now card) h (now plan) (now sheet) ⌝ }
     ensures { λ _. ⌜ now (sheet .exit) ≡ written (sheetOf (instanceOf (now (card .entry))) (now (plan .entry))) (now (sheet .entry)) ⌝ }
 {
     let modules = h.modules as usize;

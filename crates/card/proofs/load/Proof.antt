@@ -23,7 +23,7 @@ two-requires c κs = search needs
 
 returns : tie.Need-returns
 unfolding instanceOf
-returns c = record { is = rw (← (c .before .before .pre .1)) (c .two .ensures .number); bound = c .two .ensures .bound }
+returns c = record { is = rw (← (c .before .before .pre .top-is)) (c .two .ensures .number); bound = c .two .ensures .bound }
 
 pub load-spec : {M : Type 1} → statement M
 load-spec = tie.close (tie.spec add-t6 mul-t7 add-t8 mul-t9 add-t10 two-requires returns)

@@ -23,7 +23,7 @@ loop-holds : tie.Need-loop-holds Inv-loop μ-loop
 loop-holds c = passed-none _ _
 
 load-requires : tie.Need-load-requires Inv-loop μ-loop
-load-requires c κs = (omega arith, c .before .before .before .before .pre .header .top-is)
+load-requires c κs = record { room = omega arith; top-is = c .before .before .before .before .pre .header .top-is }
 
 returns : tie.Need-returns Inv-loop μ-loop
 unfolding loadsInRange

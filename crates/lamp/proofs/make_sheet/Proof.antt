@@ -1,6 +1,6 @@
 use mathlib.Core.Path.{refl, sym, _∙_}
 use Rattle.lamp.proofs.Answering.{gives-as, gives-cost}
-use Rattle.lamp.proofs.Making.{made-plan, made-area, sheet-written, sheet-kept}
+use Rattle.lamp.proofs.Making.{made-ready, sheet-written, sheet-kept}
 use borrow.Author.Needs.{needs}
 use Rattle.lamp.proofs.make_sheet.Statement.{statement}
 use Rattle.lamp.proofs.make_sheet.Tie as tie
@@ -15,8 +15,7 @@ write-sheet-requires : tie.Need-write-sheet-requires
 write-sheet-requires c κs =
     let check-plan = c .before .before .before .before .check-plan in
     let start = c .before .before .before .before .before .before .before .before .before in
-    let e = sym (check-plan .ensures) ∙ c .before .before .found .given .1 in
-    (made-plan _ _ _ _ (start .pre) e, made-area _ _ _ _ (start .pre) e)
+    made-ready _ _ _ _ (start .pre) (sym (check-plan .ensures) ∙ c .before .before .found .given .1)
 
 enum-known-found-2 : tie.Need-enum-known-found-2
 enum-known-found-2 c = search needs

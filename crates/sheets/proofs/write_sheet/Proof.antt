@@ -31,19 +31,19 @@ wide-requires c κs = search needs
 load-requires : tie.Need-load-requires Inv-loop μ-loop
 load-requires c κs =
     let test = c .before .before in
-    let p = start (test .before) .pre .0 .sized in
+    let p = start (test .before) .pre .plan .sized in
     load-there (p .ready) (in-slots p (test .loop-test .taken))
 
 mul-start : tie.Need-mul-start Inv-loop μ-loop
 mul-start c =
     let test = c .before .before .before in
-    let p = start (test .before) .pre .0 .sized in
+    let p = start (test .before) .pre .plan .sized in
     record { fits = omega (arith, row-small (p .ready) (in-slots p (test .loop-test .taken))) }
 
 add-end : tie.Need-add-end Inv-loop μ-loop
 add-end c =
     let test = c .before .before .before in
-    let p = start (test .before) .pre .0 .sized in
+    let p = start (test .before) .pre .plan .sized in
     record { fits = omega (arith, row-small (p .ready) (in-slots p (test .loop-test .taken))) }
 
 sub-fill-slot : tie.Need-sub-fill-slot Inv-loop μ-loop
@@ -56,16 +56,16 @@ part-fill-slot-end : tie.Need-part-fill-slot-end Inv-loop μ-loop
 part-fill-slot-end c =
     let test = c .before .before .before in
     let p = start (test .before) .pre in
-    let below = in-slots (p .0 .sized) (test .loop-test .taken) in
-    row-there (p .0 .sized .ready) below (filled-room (test .before .loop .inv) (p .1 .room))
+    let below = in-slots (p .plan .sized) (test .loop-test .taken) in
+    row-there (p .plan .sized .ready) below (filled-room (test .before .loop .inv) (p .room))
 
 fill-slot-requires : tie.Need-fill-slot-requires Inv-loop μ-loop
 fill-slot-requires c κs =
     let test = c .before .before .before .before in
     let p = start (test .before) .pre in
-    let below = in-slots (p .0 .sized) (test .loop-test .taken) in
-    let inside = row-there (p .0 .sized .ready) below (filled-room (test .before .loop .inv) (p .1 .room)) in
-    row-fits _ _ (p .0) below inside (c .before .before .wide .ensures) (c .before .load .ensures .is)
+    let below = in-slots (p .plan .sized) (test .loop-test .taken) in
+    let inside = row-there (p .plan .sized .ready) below (filled-room (test .before .loop .inv) (p .room)) in
+    row-fits _ _ (p .plan) below inside (c .before .before .wide .ensures) (c .before .load .ensures .is)
 
 add-t : tie.Need-add-t Inv-loop μ-loop
 add-t c = omega arith
@@ -78,17 +78,17 @@ loop-again c =
     let read = c .before .before .before .before in
     let test = read .before .before .before in
     let p = start (test .before) .pre in
-    let sized = p .0 .sized in
-    filled-more (test .before .loop .inv) (p .1 .room) (in-slots sized (test .loop-test .taken)) (sized .ready .header .modules-is)
+    let sized = p .plan .sized in
+    filled-more (test .before .loop .inv) (p .room) (in-slots sized (test .loop-test .taken)) (sized .ready .header .modules-is)
     (read .before .wide .ensures) (read .load .ensures .is) (c .before .before .fill-slot .ensures)
 
 same-length : tie.Need-same-length Inv-loop μ-loop
-same-length c = filled-size (c .before .loop .inv) (start (c .before) .pre .1 .room)
+same-length c = filled-size (c .before .loop .inv) (start (c .before) .pre .room)
 
 returns : tie.Need-returns Inv-loop μ-loop
 returns c =
     let p = start (c .before) .pre in
-    filled-all (c .before .loop .inv) (p .1 .room) (no-more-slots (p .0 .sized) (c .loop-test .left))
+    filled-all (c .before .loop .inv) (p .room) (no-more-slots (p .plan .sized) (c .loop-test .left))
 
 pub write-sheet-spec : {M : Type 1} → statement M
 write-sheet-spec =
