@@ -1,4 +1,4 @@
--- A test at every index below a bound.
+-- A test at every index below a bound, or at one.
 use Prim.Native.Nat.{ℕ, zero, suc, _+_, _≤_, _<_}
 use mathlib.Core.Path.{_≡_, refl, sym, _∙_}
 use mathlib.Core.Bool.{Bool, true, false, not, _&&_, _||_, true≢false}
@@ -13,6 +13,10 @@ use Rattle.lists.specs.Numbers.{le-or-lt, true-or-false}
 unfoldable pub every : ℕ → (ℕ → Bool) → Bool
 every zero f = true
 every (suc n) f = every n f && f n
+
+-- f holds at one of 0 to n - 1
+abbrev pub any : ℕ → (ℕ → Bool) → Bool
+any n f = not (every n (λ k. not (f k)))
 
 pub and-left : (a b : Bool) → (a && b) ≡ true → a ≡ true
 and-left true b e = refl

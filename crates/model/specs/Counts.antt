@@ -1,9 +1,9 @@
 -- Counts of active modules: their running cost, and which counts are allowed (document 01, 'Running cost of a count', 'The plans').
 use Prim.Native.Nat.{ℕ, _+_, _-_, _*_, _/_, _%_, _^_}
-use mathlib.Core.Bool.{Bool, cond, not, _||_}
+use mathlib.Core.Bool.{Bool, cond, _||_}
 use mathlib.Core.List.{List, headD}
 use lib.Dec.{leb, eqb}
-use Rattle.lists.specs.Tests.{every}
+use Rattle.lists.specs.Tests.{any}
 use Rattle.lists.specs.Lists.{tabulate, keep}
 use Rattle.model.specs.Instance.{Instance}
 
@@ -24,7 +24,7 @@ allCounts m = tabulate (m + 1) (λ n. n)
 
 -- n is 2 to some power; that power is below n
 unfoldable pub powerOfTwo : ℕ → Bool
-powerOfTwo n = not (every n (λ j. not (eqb n (2 ^ j))))
+powerOfTwo n = any n (λ j. eqb n (2 ^ j))
 
 -- 'Coarse: the allowed counts 0, each power of two up to m, and m', ascending
 abbrev pub isCoarse : ℕ → ℕ → Bool

@@ -1,7 +1,7 @@
 -- The two lists of allowed counts: what is in them, that they rise from 0 to m, and that the coarse one at most about doubles.
 use Prim.Native.Nat.{ℕ, zero, suc, _+_, _*_, _^_, _≤_, _<_}
 use mathlib.Core.Path.{_≡_, refl}
-use mathlib.Core.Bool.{Bool, true, false, not, _||_, or-true}
+use mathlib.Core.Bool.{Bool, true, false, not, or-true}
 use mathlib.Core.List.{List}
 use mathlib.Core.Logic.{_↔_, _⊎_, inl, inr, ⊎-elim, ⊎-map}
 use native.Mathlib.Nat.{le-refl, le-trans}
@@ -13,7 +13,7 @@ use Rattle.lists.specs.Numbers.{le-or-lt}
 use Rattle.lists.specs.Tests.{every-fails, every-not, or-cases}
 use Rattle.lists.specs.Lists.{keep, length-tabulate, getD-tabulate, head-is-first}
 use Rattle.lists.specs.Members.{InOrder, member-at, place-of, to-keep, from-keep, rising-in-order, in-order-at, in-order-le, in-order-keep}
-use Rattle.model.specs.Counts.{allCounts, powerOfTwo, coarseCounts, roundedCount}
+use Rattle.model.specs.Counts.{allCounts, powerOfTwo, isCoarse, coarseCounts, roundedCount}
 use Rattle.model.specs.Plans.{Member}
 use Rattle.columns.specs.Column.{countAtPlace, lastPlace, Ascending}
 
@@ -67,10 +67,10 @@ coarse-member m n =
       λ (h, c). kept .1 (all-member m n .0 h, from c),
     )
   where
-    to : (eqb n 0 || (eqb n m || powerOfTwo n)) ≡ true → (n ≡ 0) ⊎ ((n ≡ m) ⊎ ((e : ℕ) × (n ≡ 2 ^ e)))
+    to : isCoarse m n ≡ true → (n ≡ 0) ⊎ ((n ≡ m) ⊎ ((e : ℕ) × (n ≡ 2 ^ e)))
     to t = ⊎-map (eqb-true n 0) (λ u. ⊎-map (eqb-true n m) (power-iff n .0) (or-cases _ _ u)) (or-cases _ _ t)
 
-    from : (n ≡ 0) ⊎ ((n ≡ m) ⊎ ((e : ℕ) × (n ≡ 2 ^ e))) → (eqb n 0 || (eqb n m || powerOfTwo n)) ≡ true
+    from : (n ≡ 0) ⊎ ((n ≡ m) ⊎ ((e : ℕ) × (n ≡ 2 ^ e))) → isCoarse m n ≡ true
     from (inl e) = rw (eq-eqb n 0 e)
     from (inr (inl e)) = rw (eq-eqb n m e) (or-true (eqb n 0))
     from (inr (inr p)) = rw (power-iff n .1 p, or-true) (or-true (eqb n 0))
