@@ -198,14 +198,14 @@ fn plan_exact(card: &[u8], h: Header, plan: &mut [u8], work: &mut [u8]) -> LampA
     ensures { λ r. ⌜ now (work .exit) ≡ exactWorkAtExit (now (card .entry)) (now (plan .entry)) (now (work .entry)) ⌝ }
 {
     let slots = h.slots as usize;
-    let asked = ((h.modules + 1) * h.slots) as usize;
+    let exact_work = ((h.modules + 1) * h.slots) as usize;
     if plan.len() < slots {
         return refused(Refusal::BufferTooShort);
     }
-    if work.len() < asked {
+    if work.len() < exact_work {
         return refused(Refusal::BufferTooShort);
     }
-    let least = planners::exact(card, h, &mut plan[..slots], &mut work[..asked]);
+    let least = planners::exact(card, h, &mut plan[..slots], &mut work[..exact_work]);
     LampAnswer {
         number: 0,
         cost: least,
@@ -235,17 +235,17 @@ fn plan_coarse(card: &[u8], h: Header, plan: &mut [u8], work: &mut [u8]) -> Lamp
     ensures { λ r. ⌜ now (work .exit) ≡ coarseWorkAtExit (now (card .entry)) (now (plan .entry)) (now (work .entry)) ⌝ }
 {
     let slots = h.slots as usize;
-    let room = (10 * h.slots) as usize;
+    let coarse_work = (10 * h.slots) as usize;
     if !card::never_falls(card, h.top) {
         return refused(Refusal::NotMonotone);
     }
     if plan.len() < slots {
         return refused(Refusal::BufferTooShort);
     }
-    if work.len() < room {
+    if work.len() < coarse_work {
         return refused(Refusal::BufferTooShort);
     }
-    let cost = planners::coarse(card, h, &mut plan[..slots], &mut work[..room]);
+    let cost = planners::coarse(card, h, &mut plan[..slots], &mut work[..coarse_work]);
     LampAnswer { number: 0, cost }
 }
 

@@ -7,8 +7,8 @@ use borrow.Author.Needs.{needs}
 use Rattle.lamp.proofs.plan_coarse.Statement.{statement}
 use Rattle.lamp.proofs.plan_coarse.Tie as tie
 
-mul-room : tie.Need-mul-room
-mul-room c = search needs
+mul-coarse-work : tie.Need-mul-coarse-work
+mul-coarse-work c = search needs
 
 never-falls-requires : tie.Need-never-falls-requires
 never-falls-requires c κs = table-there (c .before .before .before .before .pre)
@@ -87,7 +87,7 @@ pub plan-coarse-spec : {M : Type 1} → statement M
 plan-coarse-spec =
     tie.close
     (tie.spec
-    mul-room
+    mul-coarse-work
     never-falls-requires
     refused-requires
     returns

@@ -6,11 +6,11 @@ use borrow.Author.Needs.{needs}
 use Rattle.lamp.proofs.plan_exact.Statement.{statement}
 use Rattle.lamp.proofs.plan_exact.Tie as tie
 
-add-asked : tie.Need-add-asked
-add-asked c = search needs
+add-exact-work : tie.Need-add-exact-work
+add-exact-work c = search needs
 
-mul-asked : tie.Need-mul-asked
-mul-asked c =
+mul-exact-work : tie.Need-mul-exact-work
+mul-exact-work c =
     let start = c .before .before .before .before .before in
     exact-asked-fits (start .pre)
 
@@ -69,8 +69,8 @@ pub plan-exact-spec : {M : Type 1} → statement M
 plan-exact-spec =
     tie.close
     (tie.spec
-    add-asked
-    mul-asked
+    add-exact-work
+    mul-exact-work
     refused-requires
     returns
     refused-requires-2
