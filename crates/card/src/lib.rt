@@ -5,9 +5,11 @@ ghost use mathlib.Core.Path.{_≡_};
 ghost use Prim.Native.Nat.{_+_, _≤_};
 ghost use lib.ListN.{length};
 ghost use Rattle.lists.specs.Lists.{sameList};
-ghost use Rattle.model.specs.Instance.{instanceOf, entryPlace, markOf, cardMark, versionOf, bendsUp, convex, neverFalls, tableInRange, loadsInRange};
+ghost use Rattle.model.specs.Instance.{instanceOf, entryPlace, markOf, cardMark, versionOf};
+ghost use Rattle.model.specs.Instance.{bendsUp, convex, neverFalls, tableInRange, loadsInRange};
 ghost use Rattle.card.specs.Reading.{Within, ReadAt};
-ghost use Rattle.card.specs.Checking.{TableEntry, SlotLoad, TableWithin, LoadWithin, HeaderOf, Sized, rackInRange, found, frontRefusals, sizeRefusals, bodyRefusals, checkedOf};
+ghost use Rattle.card.specs.Checking.{TableEntry, SlotLoad, TableWithin, LoadWithin, HeaderOf, Sized};
+ghost use Rattle.card.specs.Checking.{rackInRange, found, frontRefusals, sizeRefusals, bodyRefusals, checkedOf};
 
 // A place in a card.
 pub struct Cursor {

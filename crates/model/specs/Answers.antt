@@ -1,8 +1,8 @@
 -- The number and the cost of an answer (document 01, 'Refused').
 use Prim.Native.Nat.{ℕ}
 use Rattle.model.specs.declared.Refusal.{Refusal}
-use Rattle.model.specs.declared.Refusal.the-variants.{NotACard, Version, RackSize, SlotCount, CardLength, PriceRange, NotConvex, LoadRange}
-use Rattle.model.specs.declared.Refusal.the-variants.{NotMonotone, BufferTooShort, WrongLength, EntryRange, LoadNotServed}
+use Rattle.model.specs.declared.Refusal.the-variants.{NotACard, Version, RackSize, SlotCount, CardLength, PriceRange, NotConvex}
+use Rattle.model.specs.declared.Refusal.the-variants.{LoadRange, NotMonotone, BufferTooShort, WrongLength, EntryRange, LoadNotServed}
 use Rattle.model.specs.declared.Answer.{Answer}
 use Rattle.model.specs.declared.Answer.the-variants.{Cost, Refused}
 

@@ -30,10 +30,9 @@ bytesOf (suc w) n = (n % 256) ∷ bytesOf w (n / 256)
 -- a card's bytes: modules, top step, prices, table, loads
 abbrev cardOf : ℕ → ℕ → ℕ → ℕ → List ℕ → List ℕ → List ℕ
 cardOf m q up down f loads =
-    cardMark ++
-    (bytesOf 2 1 ++
-    (bytesOf 1 m ++
-    (bytesOf 1 q ++ (bytesOf 2 (length loads) ++ (bytesOf 4 up ++ (bytesOf 4 down ++ (flatMap (bytesOf 4) f ++ flatMap (bytesOf 2) loads)))))))
+    let size = bytesOf 1 m ++ (bytesOf 1 q ++ bytesOf 2 (length loads)) in
+    let prices = bytesOf 4 up ++ bytesOf 4 down in
+    cardMark ++ (bytesOf 2 1 ++ (size ++ (prices ++ (flatMap (bytesOf 4) f ++ flatMap (bytesOf 2) loads))))
 
 -- card A, as document 01 prints it
 abbrev cardA : List ℕ

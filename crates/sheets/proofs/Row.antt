@@ -28,7 +28,8 @@ module _ (n l : ℕ) (some : n ≡ 0 → ⊥) where
       putMid n (length active - n) active rest ≡ tabulate (length row) (moduleByte n l)
   row-filled row {next} {step} {rest} h e f g =
       let r = rest-below n l some in
-      let first : Upto (moduleByte n l) (l % n) row (next ++ drop (l % n) row) = upto-front (omega arith) e (λ k g. byte-above n l k g (omega arith)) in
+      let first : Upto (moduleByte n l) (l % n) row (next ++ drop (l % n) row) =
+      upto-front (omega arith) e (λ k g. byte-above n l k g (omega arith)) in
       let active : Upto (moduleByte n l) n row (putMid (l % n) (n - l % n) (next ++ drop (l % n) row) step) =
       upto-part first (omega arith) h f (byte-at n l) in
       upto-all (upto-part active (omega arith) (omega arith) g (λ k i j. byte-off n l k i))
