@@ -73,7 +73,7 @@ expect("cut to 34", a[:34], refused(5))
 expect("one byte more", a + b"\0", refused(5))
 expect("a price", card(up=500000001), refused(6))
 expect("an entry", card(table=(1, 2, 1000001)), refused(6))
-expect("a bent table", card(table=(0, 2, 3)), refused(7))
+expect("a table that is not convex", card(table=(0, 2, 3)), refused(7))
 expect("a load", card(loads=(7,)), refused(8))
 
 flat = [0] * 201

@@ -124,9 +124,9 @@ module _ (s : List ℕ) where
           prices : applies (requestOf req) PriceRange ≡ false
           prices = price-applies (le-leb _ _ up-ok) (le-leb _ _ down-ok) table-ok
 
-          pub body-bent : convex (h .top) (instanceOf s .table) ≡ false → Refused NotConvex ≡ found s bodyRefusals
+          pub body-not-convex : convex (h .top) (instanceOf s .table) ≡ false → Refused NotConvex ≡ found s bodyRefusals
           unfolding found lowest
-          body-bent e = rw (prices, convex-applies e)
+          body-not-convex e = rw (prices, convex-applies e)
 
           module _ (convex-ok : convex (h .top) (instanceOf s .table) ≡ true) where
             pub body-load : loadsInRange (instanceOf s) ≡ false → Refused LoadRange ≡ found s bodyRefusals

@@ -6,7 +6,7 @@ ghost use Prim.Native.Nat.{_+_, _≤_};
 ghost use lib.ListN.{length};
 ghost use Rattle.lists.specs.Lists.{sameList};
 ghost use Rattle.model.specs.Instance.{instanceOf, entryPlace, markOf, cardMark, versionOf};
-ghost use Rattle.model.specs.Instance.{bendsUp, convex, neverFalls, tableInRange, loadsInRange};
+ghost use Rattle.model.specs.Instance.{convexAt, convex, neverFalls, tableInRange, loadsInRange};
 ghost use Rattle.card.specs.Reading.{Within, ReadAt};
 ghost use Rattle.card.specs.Checking.{TableEntry, SlotLoad, TableWithin, LoadWithin, HeaderOf, Sized};
 ghost use Rattle.card.specs.Checking.{rackInRange, found, frontRefusals, sizeRefusals, bodyRefusals, checkedOf};
@@ -229,9 +229,9 @@ fn table_in_range(card: &[u8], top: u64) -> bool
 }
 
 // F(k) + F(k + 2) is at least 2F(k + 1).
-fn bends_up(card: &[u8], k: u64) -> bool
+fn convex_at(card: &[u8], k: u64) -> bool
     requires { ⌜ TableWithin (now card) (k + 2) ⌝ }
-    ensures { λ r. ⌜ r ≡ bendsUp (instanceOf (now (card .entry)) .table) k ⌝ }
+    ensures { λ r. ⌜ r ≡ convexAt (instanceOf (now (card .entry)) .table) k ⌝ }
 {
     let low = entry(card, k);
     let middle = entry(card, k + 1);
@@ -245,7 +245,7 @@ fn is_convex(card: &[u8], top: u64) -> bool
 {
     let mut k: u64 = 0;
     while k + 1 < top {
-        if !bends_up(card, k) {
+        if !convex_at(card, k) {
             return false;
         }
         k += 1;

@@ -11,7 +11,7 @@ use Rattle.lists.specs.Sums.{sum}
 use Rattle.lists.specs.Lists.{tabulate, rows, keep, sameList, sameLists, same-selves, same-lists-equal}
 use Rattle.lists.specs.Bytes.{littleEndian}
 use Rattle.model.specs.Answers.{numberOf, costOf}
-use Rattle.model.specs.Instance.{instanceOf, cardMark, cardLength, bendsUp, convex, neverFalls, tableInRange, pricesInRange}
+use Rattle.model.specs.Instance.{instanceOf, cardMark, cardLength, convexAt, convex, neverFalls, tableInRange, pricesInRange}
 use Rattle.model.specs.Instance.{loadsInRange}
 use Rattle.model.specs.Counts.{canServe, operatingCost, allCounts, powerOfTwo, coarseCounts, roundedCount}
 use Rattle.model.specs.Sheets.{stateAt, sheetLength, sheetEntries, lightAt, sheetLight, stepCost, changeCost, sheetCost}
@@ -126,7 +126,7 @@ starred =
 
 -- what is found is what is expected, computed through every definition
 agrees : Example → Bool
-unfolding sameLists sameList every sum tabulate rows keep littleEndian instanceOf cardLength bendsUp convex neverFalls tableInRange
+unfolding sameLists sameList every sum tabulate rows keep littleEndian instanceOf cardLength convexAt convex neverFalls tableInRange
     pricesInRange loadsInRange canServe operatingCost allCounts powerOfTwo coarseCounts roundedCount stateAt sheetLength
     sheetEntries lightAt sheetLight stepCost changeCost sheetCost moduleByte slotRow sheetOf planCost planServes plansInOrder
     cheapest cheapestOf leastPlan rightLength entriesInRange loadsServed anyShort requestOf applies refusals lowest successCost

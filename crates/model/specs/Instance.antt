@@ -53,11 +53,11 @@ unfoldable pub cardLength : Instance → ℕ
 cardLength i = 17 + 4 * (i .topStep + 1) + 2 * i .slots
 
 -- 'The table is convex: F(k−1) + F(k+1) ≥ 2F(k) for 1 ≤ k < Q.' Here k counts from 0.
-unfoldable pub bendsUp : (ℕ → ℕ) → ℕ → Bool
-bendsUp f k = leb (2 * f (k + 1)) (f k + f (k + 2))
+unfoldable pub convexAt : (ℕ → ℕ) → ℕ → Bool
+convexAt f k = leb (2 * f (k + 1)) (f k + f (k + 2))
 
 unfoldable pub convex : ℕ → (ℕ → ℕ) → Bool
-convex q f = every (q - 1) (bendsUp f)
+convex q f = every (q - 1) (convexAt f)
 
 -- 'never falls: F(k) ≤ F(k+1) for 0 ≤ k < Q'
 unfoldable pub neverFalls : ℕ → (ℕ → ℕ) → Bool

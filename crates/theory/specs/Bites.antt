@@ -10,7 +10,7 @@ use borrow.Author.Tests.{leb-true, ltb-true}
 use Rattle.lists.specs.Tests.{every, every-at}
 use Rattle.lists.specs.Sums.{sum}
 use Rattle.lists.specs.Lists.{tabulate, rows, keep}
-use Rattle.model.specs.Instance.{Instance, bendsUp, convex}
+use Rattle.model.specs.Instance.{Instance, convexAt, convex}
 use Rattle.model.specs.Counts.{canServe, operatingCost, allCounts, powerOfTwo, coarseCounts}
 use Rattle.model.specs.Sheets.{off, stateAt, sheetLength, sheetEntries, lightAt, sheetLight, serves, stepCost, changeCost, sheetCost}
 use Rattle.model.specs.Thesis.{countAt, stepUp, countsCost}
@@ -67,7 +67,7 @@ pub falling-table :
     (convex (falling .topStep) (falling .table) ≡ true) ×
     (2 * planCost falling (leastPlan falling (allCounts (falling .modules))) <
     planCost falling (leastPlan falling (coarseCounts (falling .modules))))
-unfolding every sum tabulate rows keep flatMap bendsUp convex canServe allCounts powerOfTwo coarseCounts stateAt stepCost changeCost
+unfolding every sum tabulate rows keep flatMap convexAt convex canServe allCounts powerOfTwo coarseCounts stateAt stepCost changeCost
     sheetCost moduleByte slotRow sheetOf planCost planServes plansInOrder cheapest cheapestOf leastPlan
 falling-table = (refl, lit< tt)
 

@@ -9,15 +9,15 @@ use native.Mathlib.Nat.{add-zero, le-dest, le-of-lt}
 use native.Mathlib.Omega.{arith}
 use Rattle.lists.specs.Numbers.{le-or-lt}
 use Rattle.lists.specs.Tests.{every-at, every-all}
-use Rattle.model.specs.Instance.{bendsUp, convex, neverFalls}
+use Rattle.model.specs.Instance.{convexAt, convex, neverFalls}
 use Rattle.theory.specs.Setting.{Convex, NeverFalls}
 
 -- A table passes a test exactly if it has the property.
 pub convex-test : (q : ℕ) (f : ℕ → ℕ) → convex q f ≡ true ↔ Convex q f
-unfolding convex bendsUp
+unfolding convex convexAt
 convex-test q f = (
-  λ e k h. leb-true _ _ (every-at (q - 1) (bendsUp f) e k (omega arith)),
-  λ c. every-all (q - 1) (bendsUp f) (λ k h. le-leb _ _ (c k (omega arith))),
+  λ e k h. leb-true _ _ (every-at (q - 1) (convexAt f) e k (omega arith)),
+  λ c. every-all (q - 1) (convexAt f) (λ k h. le-leb _ _ (c k (omega arith))),
 )
 
 pub never-falls-test : (q : ℕ) (f : ℕ → ℕ) → neverFalls q f ≡ true ↔ NeverFalls q f

@@ -1,5 +1,5 @@
 use Rattle.lists.specs.Tests.{test-failed, test-passed}
-use Rattle.card.proofs.Refusals.{body-up, body-down, body-table, body-bent, body-load, body-passed}
+use Rattle.card.proofs.Refusals.{body-up, body-down, body-table, body-not-convex, body-load, body-passed}
 use borrow.Author.Needs.{needs}
 use Rattle.card.proofs.check_body.Statement.{statement}
 use Rattle.card.proofs.check_body.Tie as tie
@@ -20,7 +20,7 @@ is-convex-requires : tie.Need-is-convex-requires
 is-convex-requires c κs = search needs
 
 returns-4 : tie.Need-returns-4
-returns-4 c = search (body-bent, test-failed, test-passed)
+returns-4 c = search (body-not-convex, test-failed, test-passed)
 
 loads-in-range-requires : tie.Need-loads-in-range-requires
 loads-in-range-requires c κs = search needs

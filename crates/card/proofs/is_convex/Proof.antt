@@ -1,12 +1,12 @@
 use Prim.Native.Nat.{_-_}
 use native.Mathlib.Omega.{arith}
 use Rattle.lists.specs.Tests.{Passed, passed-none, passed-more, passed-all, passed-not, test-failed, test-passed}
-use Rattle.model.specs.Instance.{instanceOf, bendsUp, convex}
+use Rattle.model.specs.Instance.{instanceOf, convexAt, convex}
 use Rattle.card.proofs.is_convex.Statement.{statement}
 use Rattle.card.proofs.is_convex.Tie as tie
 
 abbrev Inv-loop : tie.InvT-loop
-Inv-loop card top k₀ k = Passed (top - 1) (bendsUp (instanceOf card .table)) k
+Inv-loop card top k₀ k = Passed (top - 1) (convexAt (instanceOf card .table)) k
 
 abbrev μ-loop : tie.MeasureT-loop
 μ-loop card top k₀ k = top - k
@@ -17,8 +17,8 @@ loop-holds c = passed-none _ _
 add-loop : tie.Need-add-loop Inv-loop μ-loop
 add-loop c = omega arith
 
-bends-up-requires : tie.Need-bends-up-requires Inv-loop μ-loop
-bends-up-requires c κs = omega arith
+convex-at-requires : tie.Need-convex-at-requires Inv-loop μ-loop
+convex-at-requires c κs = omega arith
 
 returns : tie.Need-returns Inv-loop μ-loop
 unfolding convex
@@ -49,7 +49,7 @@ is-convex-spec =
     μ-loop
     loop-holds
     add-loop
-    bends-up-requires
+    convex-at-requires
     returns
     add-k
     loop-less

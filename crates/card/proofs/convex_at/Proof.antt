@@ -1,7 +1,7 @@
-use Rattle.model.specs.Instance.{bendsUp}
+use Rattle.model.specs.Instance.{convexAt}
 use borrow.Author.Needs.{needs}
-use Rattle.card.proofs.bends_up.Statement.{statement}
-use Rattle.card.proofs.bends_up.Tie as tie
+use Rattle.card.proofs.convex_at.Statement.{statement}
+use Rattle.card.proofs.convex_at.Tie as tie
 
 entry-requires : tie.Need-entry-requires
 entry-requires c κs = search needs
@@ -25,11 +25,11 @@ add-result : tie.Need-add-result
 add-result c = search needs
 
 returns : tie.Need-returns
-unfolding bendsUp
+unfolding convexAt
 returns c = rw (← (c .before .before .entry .ensures .is), ← (c .before .entry2 .ensures .is), ← (c .entry3 .ensures .is))
 
-pub bends-up-spec : {M : Type 1} → statement M
-bends-up-spec =
+pub convex-at-spec : {M : Type 1} → statement M
+convex-at-spec =
     tie.close
     (tie.spec
     entry-requires
