@@ -57,7 +57,7 @@ impl Cursor {
     }
 
     // The number in the next four bytes.
-    pub fn four(self, s: &[u8]) -> Number
+    fn four(self, s: &[u8]) -> Number
         requires { ⌜ Within (now s) (self .at) 4 ⌝ }
         ensures { λ r. ⌜ ReadAt (now (s .entry)) (self .at) 4 (r .value) (r .next .at) ⌝ }
     {
