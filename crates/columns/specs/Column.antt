@@ -35,31 +35,42 @@ pub record Choice : Type 0 where
 abbrev pub cheaper : Choice → Choice → Choice
 cheaper a b = cond (leb (a .cost) (b .cost)) a b
 
+-- serving the load l with n modules at a place, where the slots before cost `before`
+abbrev pub servedAt : Instance → (n l before place : ℕ) → Choice
+servedAt i n l before place = record { cost = before + operatingCost i n l; at = place }
+
+-- that if n modules can serve it, or the choice of the place above: the lower place on a tie
+unfoldable pub servedOrAbove : Instance → (n l before place : ℕ) → Choice → Choice
+servedOrAbove i n l before place above = cond (canServe i n l) (cheaper (servedAt i n l before place) above) above
+
+-- the choice of the place below, with the price of the modules switched on from there
+abbrev pub raised : ℕ → List ℕ → Choice → ℕ → Choice
+raised price counts c j = record { cost = c .cost + price * (countAtPlace counts (suc j) - countAtPlace counts j); at = c .at }
+
+-- the upward pass over given choices: the lower place's choice on a tie
+unfoldable pub rising : ℕ → List ℕ → (ℕ → Choice) → ℕ → Choice
+rising price counts given zero = given zero
+rising price counts given (suc j) = cheaper (raised price counts (rising price counts given j) j) (given (suc j))
+
 -- One slot with load l, after a column.
 module _ (i : Instance) (counts : List ℕ) (l : ℕ) (before : ℕ → ℕ) where
   -- serving with the count at place j
   abbrev pub own : ℕ → Choice
-  own j = record { cost = before j + operatingCost i (countAtPlace counts j) l; at = j }
+  own j = servedAt i (countAtPlace counts j) l (before j) j
 
-  -- the best of the places from j up, where j is d below the last place: the lower place on a tie
+  -- the best of the places from j up, where j is d below the last place
   unfoldable pub fromTop : ℕ → Choice
   fromTop zero = own (lastPlace counts)
   fromTop (suc d) =
-      cond (canServe i (countAtPlace counts (lastPlace counts - suc d)) l)
-      (cheaper (own (lastPlace counts - suc d)) (fromTop d))
+      servedOrAbove i (countAtPlace counts (lastPlace counts - suc d)) l (before (lastPlace counts - suc d)) (lastPlace counts - suc d)
       (fromTop d)
 
   unfoldable pub downward : ℕ → Choice
   downward j = fromTop (lastPlace counts - j)
 
-  -- the choice of the place below, with the price of the modules switched on from there
-  abbrev pub raised : Choice → ℕ → Choice
-  raised c j = record { cost = c .cost + switchingPrice i * (countAtPlace counts (suc j) - countAtPlace counts j); at = c .at }
-
-  -- the best of all places: the lower place's choice on a tie
+  -- the best of all places
   unfoldable pub upward : ℕ → Choice
-  upward zero = downward zero
-  upward (suc j) = cheaper (raised (upward j) j) (downward (suc j))
+  upward j = rising (switchingPrice i) counts downward j
 
 -- The columns and selections of all slots, from a start count.
 module _ (i : Instance) (counts : List ℕ) (start : ℕ) where

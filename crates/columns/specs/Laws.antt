@@ -12,7 +12,8 @@ use borrow.Author.Tests.{leb-true}
 use Rattle.model.specs.Instance.{Instance}
 use Rattle.model.specs.Counts.{canServe, operatingCost}
 use Rattle.model.specs.Thesis.{switchingPrice}
-use Rattle.columns.specs.Column.{Choice, cheaper, countAtPlace, lastPlace, own, fromTop, downward, raised, upward, column}
+use Rattle.columns.specs.Column.{Choice, cheaper, countAtPlace, lastPlace, servedOrAbove, raised, rising}
+use Rattle.columns.specs.Column.{own, fromTop, downward, upward, column}
 
 -- the lower of two choices is at most the second
 pub cheaper-bound : (a b : Choice) → cheaper a b .cost ≤ b .cost
@@ -27,13 +28,33 @@ either : (P : Choice → Type 0) (t : Bool) {a b : Choice} → P a → P b → P
 either P true p q = p
 either P false p q = q
 
+-- The upward pass over given choices.
+module _ (price : ℕ) (counts : List ℕ) (given : ℕ → Choice) where
+  pub rising-bound : (j : ℕ) → rising price counts given j .cost ≤ given j .cost
+  unfolding rising
+  rising-bound zero = le-refl (given 0 .cost)
+  rising-bound (suc j) = cheaper-bound (raised price counts (rising price counts given j) j) (given (suc j))
+
+  -- what holds of all places that are given holds of those that it takes
+  rising-at : (P : ℕ → Type 0) → ((k : ℕ) → P (given k .at)) → (j : ℕ) → P (rising price counts given j .at)
+  unfolding rising
+  rising-at P each zero = each 0
+  rising-at P each (suc j) = either (λ c. P (c .at)) (leb _ (given (suc j) .cost)) (rising-at P each j) (each (suc j))
+
+  -- choices that agree up to a place give the same there
+  pub rising-same :
+      (other : ℕ → Choice) (j : ℕ) → ((k : ℕ) → k ≤ j → given k ≡ other k) → rising price counts given j ≡ rising price counts other j
+  unfolding rising
+  rising-same other zero same = same 0 (omega arith)
+  rising-same other (suc j) same = rw (rising-same other j (λ k h. same k (omega arith)), same (suc j) (omega arith))
+
 module _ (i : Instance) (counts : List ℕ) (l : ℕ) (before : ℕ → ℕ) where
   -- no choice costs more than serving with the full rack
   abbrev AtMostFull : Choice → Type 0
   AtMostFull c = c .cost ≤ before (lastPlace counts) + operatingCost i (countAtPlace counts (lastPlace counts)) l
 
   top-bound : (d : ℕ) → AtMostFull (fromTop i counts l before d)
-  unfolding fromTop
+  unfolding fromTop servedOrAbove
   top-bound zero = le-refl (before (lastPlace counts) + operatingCost i (countAtPlace counts (lastPlace counts)) l)
   top-bound (suc d) =
       either AtMostFull (canServe i (countAtPlace counts (lastPlace counts - suc d)) l)
@@ -46,11 +67,7 @@ module _ (i : Instance) (counts : List ℕ) (l : ℕ) (before : ℕ → ℕ) whe
 
   upward-bound : (j : ℕ) → AtMostFull (upward i counts l before j)
   unfolding upward
-  upward-bound zero = downward-bound 0
-  upward-bound (suc j) =
-      le-trans
-      (cheaper-bound (raised i counts l before (upward i counts l before j) j) (downward i counts l before (suc j)))
-      (downward-bound (suc j))
+  upward-bound j = le-trans (rising-bound (switchingPrice i) counts (downward i counts l before) j) (downward-bound j)
 
   -- each choice is one of the places
   module _ (some : 1 ≤ length counts) where
@@ -58,7 +75,7 @@ module _ (i : Instance) (counts : List ℕ) (l : ℕ) (before : ℕ → ℕ) whe
     Inside c = c .at < length counts
 
     top-inside : (d : ℕ) → Inside (fromTop i counts l before d)
-    unfolding fromTop
+    unfolding fromTop servedOrAbove
     top-inside zero = omega arith
     top-inside (suc d) =
         either Inside (canServe i (countAtPlace counts (lastPlace counts - suc d)) l)
@@ -69,11 +86,8 @@ module _ (i : Instance) (counts : List ℕ) (l : ℕ) (before : ℕ → ℕ) whe
 
     pub upward-inside : (j : ℕ) → Inside (upward i counts l before j)
     unfolding upward downward
-    upward-inside zero = top-inside (lastPlace counts - 0)
-    upward-inside (suc j) =
-        either Inside (leb (raised i counts l before (upward i counts l before j) j .cost) (downward i counts l before (suc j) .cost))
-        (upward-inside j)
-        (top-inside (lastPlace counts - suc j))
+    upward-inside j =
+        rising-at (switchingPrice i) counts (downward i counts l before) (λ p. p < length counts) (λ k. top-inside (lastPlace counts - k)) j
 
 -- columns that agree at all places give the same choices
 module _
@@ -86,8 +100,8 @@ module _
 
   pub upward-same : (j : ℕ) → upward i counts l one j ≡ upward i counts l other j
   unfolding upward downward
-  upward-same zero = top-same (lastPlace counts - 0)
-  upward-same (suc j) = rw (upward-same j, top-same (lastPlace counts - suc j))
+  upward-same j =
+      rising-same (switchingPrice i) counts (downward i counts l one) (downward i counts l other) j (λ k _. top-same (lastPlace counts - k))
 
 -- after t slots, where no count exceeds m and the full rack serves each slot at a cost of at most b
 module _

@@ -9,8 +9,7 @@ use Rattle.model.specs.Instance.{instanceOf}
 use Rattle.model.specs.Counts.{canServe}
 use Rattle.laws.specs.Acceptance.{modules-range, top-range}
 use Rattle.counts.specs.Serving.{Served}
-use Rattle.columns.specs.Column.{Choice, cheaper}
-use Rattle.search.specs.Written.{servedAt, servedOrAbove}
+use Rattle.columns.specs.Column.{Choice, cheaper, servedAt, servedOrAbove}
 use Rattle.search.specs.Asked.{InRack}
 
 module _ {s : List ℕ} {top n before : ℕ} (p : InRack s top n before) where

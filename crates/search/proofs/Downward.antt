@@ -8,8 +8,8 @@ use lib.ListN.{length, getD, set}
 use lib.Seq.{getD-set-other}
 use Rattle.lists.specs.Filling.{Downto, downto-none, downto-more, downto-all}
 use Rattle.model.specs.Instance.{Instance, instanceOf}
-use Rattle.columns.specs.Column.{Choice, countAtPlace, lastPlace, fromTop, downward}
-use Rattle.search.specs.Written.{servedAt, servedOrAbove, costIn, Holds}
+use Rattle.columns.specs.Column.{Choice, countAtPlace, lastPlace, servedAt, servedOrAbove, fromTop, downward}
+use Rattle.search.specs.Written.{costIn, Holds}
 use Rattle.search.specs.Asked.{SlotAfter, InRack}
 use Rattle.search.proofs.Allowed.{counts-fit}
 
@@ -22,7 +22,7 @@ module _ (i : Instance) (counts : List ℕ) (l : ℕ) (before : ℕ → ℕ) whe
   downward-below :
       (j : ℕ) → j < lastPlace counts →
       downward i counts l before j ≡ servedOrAbove i (countAtPlace counts j) l (before j) j (downward i counts l before (j + 1))
-  unfolding downward fromTop servedOrAbove
+  unfolding downward fromTop
   downward-below j h =
       let down : lastPlace counts - j ≡ suc (lastPlace counts - (j + 1)) = omega arith in
       let here : lastPlace counts - suc (lastPlace counts - (j + 1)) ≡ j = omega arith in

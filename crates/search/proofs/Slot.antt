@@ -8,14 +8,13 @@ use lib.ListN.{length}
 use Rattle.lists.specs.Lists.{length-tabulate, getD-tabulate, tabulate-same}
 use Rattle.model.specs.Instance.{instanceOf}
 use Rattle.laws.specs.Acceptance.{up-range, down-range}
-use Rattle.columns.specs.Column.{Choice, lastPlace, downward, upward}
-use Rattle.columns.specs.Laws.{downward-bound}
-use Rattle.search.specs.Written.{costIn, choiceIn, Holds, rising}
+use Rattle.columns.specs.Column.{Choice, lastPlace, rising, downward, upward}
+use Rattle.columns.specs.Laws.{downward-bound, rising-same}
+use Rattle.search.specs.Written.{costIn, choiceIn, Holds}
 use Rattle.search.specs.Asked.{Choices, PricedSlot, mostCost}
 use Rattle.counts.proofs.Division.{running-most}
 use Rattle.search.proofs.Bounds.{table-at-most}
 use Rattle.search.proofs.Allowed.{counts-small, full-served}
-use Rattle.search.proofs.Upward.{rising-upward}
 
 module _
     {s : List ℕ} {top price : ℕ} {counts : List ℕ} {l : ℕ} {column places : List ℕ}
@@ -53,11 +52,17 @@ module _
         let at-place = getD-tabulate (length counts) (λ j. down j .at) k 0 h in
         rw (first .costs-are, first .places-are, cost, at-place)
 
+    -- the upward pass over what it is given is the one over the downward choices
+    same : (j : ℕ) → j < length counts → rising price counts (choiceIn column₁ places₁) j ≡ upward (instanceOf s) counts l (costIn column) j
+    unfolding upward
+    same j h =
+        rising-same price counts (choiceIn column₁ places₁) down j (λ k g. given-is k (omega arith)) ∙
+        ap (λ (x : ℕ). rising x counts down j) (p .price-is)
+
     pub slot-choices :
         {column₂ places₂ : List ℕ} → Holds counts (rising price counts (choiceIn column₁ places₁)) column₂ places₂ →
         Holds counts (upward (instanceOf s) counts l (costIn column)) column₂ places₂
     slot-choices second =
-        let same = rising-upward price counts (choiceIn column₁ places₁) (instanceOf s) l (costIn column) (p .price-is) given-is in
         record {
           costs-are = second .costs-are ∙ tabulate-same (length counts) (λ k h. ap (λ c. c .cost) (same k h));
           places-are = second .places-are ∙ tabulate-same (length counts) (λ k h. ap (λ c. c .at) (same k h));

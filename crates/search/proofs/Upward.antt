@@ -1,35 +1,16 @@
--- The upward pass: its bound, its recursion over the downward choices, and the loop.
-use Prim.Native.Nat.{ℕ, zero, suc, _+_, _-_, _*_, _≤_, _<_}
+-- The loop of the upward pass.
+use Prim.Native.Nat.{ℕ, _+_, _-_, _*_, _≤_, _<_}
 use mathlib.Core.Path.{_≡_, refl, ap, _∙_}
 use mathlib.Core.List.{List}
-use native.Mathlib.Nat.{le-refl}
 use native.Mathlib.Numerals.{add-one}
 use native.Mathlib.Omega.{arith}
 use lib.ListN.{length, set}
 use Rattle.lists.specs.Filling.{Upto, upto-first, upto-more, upto-all}
-use Rattle.model.specs.Instance.{Instance}
-use Rattle.model.specs.Thesis.{switchingPrice}
-use Rattle.columns.specs.Column.{Choice, cheaper, countAtPlace, downward, upward}
-use Rattle.columns.specs.Laws.{cheaper-bound}
-use Rattle.search.specs.Written.{rising, choiceIn, Holds}
+use Rattle.columns.specs.Column.{Choice, cheaper, countAtPlace, rising}
+use Rattle.columns.specs.Laws.{rising-bound}
+use Rattle.search.specs.Written.{choiceIn, Holds}
 use Rattle.search.specs.Asked.{Choices, mostCost}
 use Rattle.search.proofs.Bounds.{price-small}
-
-module _ (price : ℕ) (counts : List ℕ) (given : ℕ → Choice) where
-  rising-bound : (j : ℕ) → rising price counts given j .cost ≤ given j .cost
-  unfolding rising
-  rising-bound zero = le-refl (given 0 .cost)
-  rising-bound (suc j) = cheaper-bound _ (given (suc j))
-
-  -- over the downward choices it is the column's recursion
-  pub rising-upward :
-      (i : Instance) (l : ℕ) (before : ℕ → ℕ) → price ≡ switchingPrice i →
-      ((k : ℕ) → k < length counts → given k ≡ downward i counts l before k) →
-      (j : ℕ) → j < length counts → rising price counts given j ≡ upward i counts l before j
-  unfolding rising upward
-  rising-upward i l before e same zero h = same 0 h
-  rising-upward i l before e same (suc j) h =
-      rw (rising-upward i l before e same j (omega arith), same (suc j) h, e)
 
 -- The loop at place j: that place's choice is in hand, and the lists hold those up to it.
 pub record UpLoop (price : ℕ) (counts column₀ places₀ column places : List ℕ) (best : Choice) (j : ℕ) : Type 0 where

@@ -1,26 +1,16 @@
 -- What the functions of the search write: columns and selections as lists, an entry for each place.
 use Prim.Native.Nat.{ℕ, zero, suc, _+_, _-_, _*_}
 use mathlib.Core.Path.{_≡_}
-use mathlib.Core.Bool.{cond}
 use mathlib.Core.List.{List, [], _∷_, _++_}
 use lib.ListN.{length, getD, drop}
 use Rattle.lists.specs.Lists.{tabulate, rows}
 use Rattle.model.specs.Instance.{Instance}
-use Rattle.model.specs.Counts.{canServe, operatingCost}
-use Rattle.columns.specs.Column.{Choice, cheaper, countAtPlace, column, selection}
+use Rattle.columns.specs.Column.{Choice, countAtPlace, column, selection}
 use Rattle.search.specs.declared.Candidate.{Candidate}
 
 -- a candidate of the code as a choice
 abbrev pub choiceOf : Candidate → Choice
 choiceOf c = record { cost = c .cost; at = c .place }
-
--- serving the load l with n modules at a place, where the slots before cost `before`
-abbrev pub servedAt : Instance → (n l before place : ℕ) → Choice
-servedAt i n l before place = record { cost = before + operatingCost i n l; at = place }
-
--- that, or the choice of the place above: the lower place on a tie
-unfoldable pub servedOrAbove : Instance → (n l before place : ℕ) → Choice → Choice
-servedOrAbove i n l before place above = cond (canServe i n l) (cheaper (servedAt i n l before place) above) above
 
 -- the costs of a column by place, and with its places the choices
 abbrev pub costIn : List ℕ → ℕ → ℕ
@@ -40,17 +30,6 @@ placeList counts f = tabulate (length counts) (λ j. f j .at)
 pub record Holds (counts : List ℕ) (f : ℕ → Choice) (costs places : List ℕ) : Type 0 where
   pub costs-are : costs ≡ costList counts f
   pub places-are : places ≡ placeList counts f
-
--- the upward pass over given choices, at a price for each module switched on: the lower place's choice on a tie
-unfoldable pub rising : ℕ → List ℕ → (ℕ → Choice) → ℕ → Choice
-rising price counts given zero = given zero
-rising price counts given (suc j) =
-    cheaper
-    (record {
-      cost = rising price counts given j .cost + price * (countAtPlace counts (suc j) - countAtPlace counts j);
-      at = rising price counts given j .at;
-    })
-    (given (suc j))
 
 -- the column of prices alone, from start count 0
 unfoldable pub priceList : ℕ → List ℕ → List ℕ

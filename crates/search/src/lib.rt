@@ -6,8 +6,8 @@ ghost use Prim.Native.Nat.{_≤_};
 ghost use lib.ListN.{length, replicate};
 ghost use Rattle.model.specs.Instance.{instanceOf};
 ghost use Rattle.counts.specs.Serving.{Served};
-ghost use Rattle.columns.specs.Column.{cheaper, downward, upward, searchedPlan, searchedCost};
-ghost use Rattle.search.specs.Written.{choiceOf, servedAt, servedOrAbove, costIn, choiceIn, Holds, rising};
+ghost use Rattle.columns.specs.Column.{cheaper, servedAt, servedOrAbove, rising, downward, upward, searchedPlan, searchedCost};
+ghost use Rattle.search.specs.Written.{choiceOf, costIn, choiceIn, Holds};
 ghost use Rattle.search.specs.Written.{priceList, lastColumn, selectionsIn, wayThrough};
 ghost use Rattle.search.specs.Asked.{mostCost, InRack, SlotAfter, Priced, Choices, PricedSlot, SlotsAhead, Leading, Searchable};
 

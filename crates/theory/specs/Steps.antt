@@ -9,7 +9,8 @@ use lib.ListN.{length}
 use Rattle.model.specs.Instance.{Instance}
 use Rattle.model.specs.Counts.{canServe, operatingCost}
 use Rattle.model.specs.Thesis.{switchingPrice}
-use Rattle.columns.specs.Column.{countAtPlace, lastPlace, Choice, cheaper, own, fromTop, downward, upward, column, selection, Ascending}
+use Rattle.columns.specs.Column.{countAtPlace, lastPlace, Ascending, Choice, cheaper, servedOrAbove, rising}
+use Rattle.columns.specs.Column.{own, fromTop, downward, upward, column, selection}
 use Rattle.columns.specs.Laws as laws
 use Rattle.theory.specs.Setting.{LoadsFit, SlotStep}
 use Rattle.laws.specs.Running.{running-bound}
@@ -49,7 +50,7 @@ module _ (i : Instance) (counts : List ℕ) (asc : Ascending counts (i .modules)
 
     -- the downward pass at the place d below the last
     from-top-best : (d j : ℕ) → j + d ≡ lastPlace counts → Best (λ k. (j ≤ k) × Serves k) served (fromTop i counts l before d)
-    unfolding fromTop
+    unfolding fromTop servedOrAbove
     from-top-best zero j e =
         record {
           found = (omega arith, (last-inside asc, last-serves asc i l fits));
@@ -76,7 +77,7 @@ module _ (i : Instance) (counts : List ℕ) (asc : Ascending counts (i .modules)
     down-best j inside = from-top-best (lastPlace counts - j) j (omega arith)
 
     up-best : (j : ℕ) → j < length counts → Best Serves (servedUpTo j) (upward i counts l before j)
-    unfolding upward
+    unfolding upward rising
     up-best zero inside =
         let down = down-best 0 inside in
         record {
