@@ -2,7 +2,7 @@
 use Prim.Native.Nat.{ℕ, _*_, _≤_, _<_}
 use mathlib.Core.Path.{_≡_, sym, _∙_, ap}
 use mathlib.Core.Bool.{true, false}
-use mathlib.Core.List.{List, [], _∷_, _++_}
+use mathlib.Core.List.{List, [], _++_}
 use native.Mathlib.Omega.{arith}
 use lib.ListN.{length, drop}
 use borrow.Author.Tests.{lt-ltb, le-ltb, eq-eqb, ne-eqb, leb-true}
@@ -14,15 +14,15 @@ use Rattle.model.specs.Answers.{numberOf}
 use Rattle.model.specs.Instance.{instanceOf}
 use Rattle.model.specs.Thesis.{countsCost}
 use Rattle.model.specs.Plans.{planServes, sheetOf}
-use Rattle.model.specs.Calls.{Area, Gives, checkCard, makeSheet, plan, area, sheetBytes, answer, requestOf, refusals, applies}
-use Rattle.model.specs.Calls.{anyShort, rightLength, entriesInRange, loadsServed, lowest, successCost, sheetAtExit, atExit}
+use Rattle.model.specs.Calls.{Gives, checkCard, makeSheet, plan, answer, requestOf, refusals, applies}
+use Rattle.model.specs.Calls.{anyShort, rightLength, entriesInRange, loadsServed, lowest, sheetAtExit, atExit}
 use Rattle.model.specs.Promises.{MarkedAlike}
 use Rattle.laws.specs.Acceptance.{top-range}
-use Rattle.laws.specs.OnCard.{on-card-refused, on-card-passed}
+use Rattle.laws.specs.OnCard.{on-card-refused}
 use Rattle.laws.specs.Answers.{number-zero}
 use Rattle.theory.specs.Setting.{PlanFits}
 use Rattle.theory.specs.Sheets.{plan-cost-counts}
-use Rattle.theory.specs.Outcomes.{made-fits, made-room, made-marked}
+use Rattle.theory.specs.Outcomes.{make-tests, made-fits, made-room, made-marked}
 use Rattle.card.specs.declared.Header.{Header}
 use Rattle.card.specs.Checking.{Ready}
 use Rattle.sheets.specs.Marks.{countsUpTo}
@@ -30,15 +30,9 @@ use Rattle.sheets.specs.Asked.{PlanSized, PlanReady, SheetRoom}
 use Rattle.lamp.proofs.Areas.{sheet-size}
 
 module _ (s p x : List ℕ) where
-  further : List Refusal
-  further = BufferTooShort ∷ WrongLength ∷ EntryRange ∷ LoadNotServed ∷ []
-
-  abbrev lent : List Area
-  lent = area x (sheetBytes (instanceOf s)) ∷ []
-
   pub make-refused : {e : Refusal} → answer (checkCard s) ≡ Refused e → answer (makeSheet s p x) ≡ Refused e
-  unfolding answer requestOf refusals further
-  make-refused e = on-card-refused s lent (plan p) further _ e
+  unfolding answer requestOf refusals
+  make-refused e = on-card-refused s _ _ _ _ e
 
   -- the sheet at exit, of a call that answers a cost and of one that refuses
   pub sheet-written :
@@ -61,10 +55,10 @@ module _ (s p x : List ℕ) where
 
   module _ (h : Header) (r : Ready s h) where
     pub make-short : length x < h .modules * h .slots → Refused BufferTooShort ≡ answer (makeSheet s p x)
-    unfolding answer requestOf refusals further lowest applies anyShort
+    unfolding lowest applies anyShort
     make-short a =
         sym
-        (on-card-passed s lent (plan p) further _ (r .accepted) ∙
+        (make-tests s p x (r .accepted) ∙
         rw (lt-ltb (length x) (instanceOf s .modules * instanceOf s .slots) (rw (← sheet-size r) a)))
 
     module _ (roomy : h .modules * h .slots ≤ length x) where
@@ -72,10 +66,10 @@ module _ (s p x : List ℕ) where
       room = rw (← sheet-size r) roomy
 
       pub make-length : (length p ≡ h .slots → ⊥) → Refused WrongLength ≡ answer (makeSheet s p x)
-      unfolding answer requestOf refusals further lowest applies anyShort rightLength
+      unfolding lowest applies anyShort rightLength
       make-length n =
           sym
-          (on-card-passed s lent (plan p) further _ (r .accepted) ∙
+          (make-tests s p x (r .accepted) ∙
           rw (le-ltb _ _ room, ne-eqb (length p) (instanceOf s .slots) (λ e. n (e ∙ sym (r .header .slots-is)))))
 
       module _ (slotwise : length p ≡ h .slots) where
@@ -87,18 +81,18 @@ module _ (s p x : List ℕ) where
         entries-as = rw (plan-sized .slotwise, r .header .modules-is)
 
         pub make-entries : countsUpTo (h .modules) p ≡ false → Refused EntryRange ≡ answer (makeSheet s p x)
-        unfolding answer requestOf refusals further lowest applies anyShort rightLength
+        unfolding lowest applies anyShort rightLength
         make-entries e =
             sym
-            (on-card-passed s lent (plan p) further _ (r .accepted) ∙
+            (make-tests s p x (r .accepted) ∙
             rw (le-ltb _ _ room, eq-eqb _ _ (plan-sized .slotwise), sym entries-as ∙ e))
 
         module _ (entries : countsUpTo (h .modules) p ≡ true) where
           pub make-load : planServes (instanceOf s) p ≡ false → Refused LoadNotServed ≡ answer (makeSheet s p x)
-          unfolding answer requestOf refusals further lowest applies anyShort rightLength loadsServed
+          unfolding lowest applies anyShort rightLength loadsServed
           make-load e =
               sym
-              (on-card-passed s lent (plan p) further _ (r .accepted) ∙
+              (make-tests s p x (r .accepted) ∙
               rw (le-ltb _ _ room, eq-eqb _ _ (plan-sized .slotwise), sym entries-as ∙ entries, e))
 
           module _ (served : planServes (instanceOf s) p ≡ true) where
@@ -112,7 +106,7 @@ module _ (s p x : List ℕ) where
                 }
 
             pub make-cost : {n : ℕ} → n ≡ countsCost (instanceOf s) 0 p → Cost n ≡ answer (makeSheet s p x)
-            unfolding answer requestOf refusals further lowest applies anyShort rightLength loadsServed successCost
+            unfolding lowest applies anyShort rightLength loadsServed
             make-cost e =
                 let fit : PlanFits (instanceOf s) p =
                 record {
@@ -122,7 +116,7 @@ module _ (s p x : List ℕ) where
                   served = served;
                 } in
                 sym
-                (on-card-passed s lent (plan p) further _ (r .accepted) ∙
+                (make-tests s p x (r .accepted) ∙
                 rw (le-ltb _ _ room, eq-eqb _ _ (plan-sized .slotwise), sym entries-as ∙ entries, served)
                 (ap Cost (plan-cost-counts (instanceOf s) p fit ∙ sym e)))
 

@@ -18,13 +18,13 @@ use Rattle.model.specs.Instance.{instanceOf, neverFalls}
 use Rattle.model.specs.Counts.{allCounts, coarseCounts}
 use Rattle.model.specs.Plans.{planCost, leastPlan}
 use Rattle.model.specs.Calls.{planExact, planCoarse, nothing, area, onCard, exactWork, coarseWork, Gives}
-use Rattle.model.specs.Calls.{answer, requestOf, refusals, applies, anyShort, lowest, successCost, atExit}
+use Rattle.model.specs.Calls.{answer, applies, anyShort, lowest, atExit}
 use Rattle.model.specs.Calls.{exactPlanAtExit, exactWorkAtExit, coarsePlanAtExit, coarseWorkAtExit}
 use Rattle.laws.specs.Acceptance.{modules-range, card-size}
-use Rattle.laws.specs.OnCard.{on-card-passed}
 use Rattle.columns.specs.Column.{Ascending}
 use Rattle.theory.specs.Lists.{all-ascending, coarse-ascending}
 use Rattle.theory.specs.Condition3.{accepted-plannable, least-plan-fits}
+use Rattle.theory.specs.Outcomes.{exact-tests, coarse-tests}
 use Rattle.card.specs.declared.Header.{Header}
 use Rattle.card.specs.Checking.{Ready, TableWithin}
 use Rattle.planners.specs.Asked.{Buffers}
@@ -138,8 +138,7 @@ module _ (s p w : List ℕ) where
   module _ {h : Header} (r : Ready s h) where
     pub exact-at :
         AtBuffers s p w (answer (planExact s p w)) (allCounts (instanceOf s .modules)) (exactWork (instanceOf s))
-    unfolding answer requestOf refusals successCost
-    exact-at = record { reached = on-card-passed s _ nothing (BufferTooShort ∷ []) _ (r .accepted) }
+    exact-at = record { reached = exact-tests s p w (r .accepted) }
 
 -- The coarse planner.
 module _ (s p w : List ℕ) where
@@ -157,14 +156,11 @@ module _ (s p w : List ℕ) where
     rises-as e = rw (← r .header .top-is) e
 
     pub coarse-falls : neverFalls (h .top) (instanceOf s .table) ≡ false → answer (planCoarse s p w) ≡ Refused NotMonotone
-    unfolding answer requestOf refusals lowest applies
-    coarse-falls e = on-card-passed s _ nothing (NotMonotone ∷ BufferTooShort ∷ []) _ (r .accepted) ∙ rw (rises-as e)
+    unfolding lowest applies
+    coarse-falls e = coarse-tests s p w (r .accepted) ∙ rw (rises-as e)
 
     pub coarse-at :
         neverFalls (h .top) (instanceOf s .table) ≡ true →
         AtBuffers s p w (answer (planCoarse s p w)) (coarseCounts (instanceOf s .modules)) (coarseWork (instanceOf s))
-    unfolding answer requestOf refusals successCost lowest applies
-    coarse-at e =
-        record {
-          reached = on-card-passed s _ nothing (NotMonotone ∷ BufferTooShort ∷ []) _ (r .accepted) ∙ rw (rises-as e);
-        }
+    unfolding lowest applies
+    coarse-at e = record { reached = coarse-tests s p w (r .accepted) ∙ rw (rises-as e) }

@@ -2,10 +2,9 @@
 use Prim.Native.Nat.{ℕ, _*_, _≤_}
 use mathlib.Core.Path.{_≡_, sym, _∙_}
 use mathlib.Core.Bool.{true}
-use mathlib.Core.List.{List, [], _∷_}
+use mathlib.Core.List.{List, []}
 use native.Mathlib.Nat.{one-mul}
 use lib.ListN.{take}
-use Rattle.model.specs.declared.Refusal.the-variants.{NotMonotone, BufferTooShort}
 use Rattle.model.specs.declared.Answer.{Answer}
 use Rattle.model.specs.declared.Answer.the-variants.{Cost}
 use Rattle.model.specs.Answers.{numberOf}
@@ -13,18 +12,17 @@ use Rattle.model.specs.Instance.{instanceOf}
 use Rattle.model.specs.Counts.{allCounts, coarseCounts}
 use Rattle.model.specs.Sheets.{serves, sheetCost}
 use Rattle.model.specs.Plans.{planCost, leastPlan, sheetOf}
-use Rattle.model.specs.Calls.{Gives, checkCard, planExact, planCoarse, exactPlan, coarsePlan, answer, requestOf, refusals, successCost}
+use Rattle.model.specs.Calls.{Gives, checkCard, planExact, planCoarse, exactPlan, coarsePlan, answer, requestOf, successCost}
 use Rattle.model.specs.Calls.{atExit, exactPlanAtExit, coarsePlanAtExit}
 use Rattle.model.specs.Promises.{OwnSheet, AtMostTimes}
 use Rattle.laws.specs.Acceptance.{modules-range}
 use Rattle.laws.specs.Lowest.{lowest-passed}
-use Rattle.laws.specs.OnCard.{on-card-passed}
 use Rattle.columns.specs.Column.{Ascending}
 use Rattle.theory.specs.Setting.{NeverFalls}
 use Rattle.theory.specs.Lists.{all-ascending, coarse-ascending}
 use Rattle.theory.specs.Refusals.{succeeded}
 use Rattle.theory.specs.Condition3.{accepted-plannable, least-sheet, exact-least, coarse-twice, monotone-never-falls}
-use Rattle.theory.specs.Outcomes.{written-taken, best-fits, exact-on, coarse-on}
+use Rattle.theory.specs.Outcomes.{written-taken, best-fits, exact-on, coarse-on, coarse-tests}
 
 -- the card is accepted, and the answer is the cost of a plan
 abbrev Succeeds : List ℕ → List ℕ → Answer → Type 0
@@ -92,11 +90,10 @@ module _ (c p w : List ℕ) where
   coarse-planned e = let success = succeeded (planCoarse c p w) e in (coarse-on c p w success, success)
 
   rises : numberOf (answer (planCoarse c p w)) ≡ 0 → NeverFalls (instanceOf c .topStep) (instanceOf c .table)
-  unfolding answer requestOf refusals
+  unfolding requestOf
   rises e =
       let (given, success) = coarse-planned e in
-      let further = sym (on-card-passed c _ _ (NotMonotone ∷ BufferTooShort ∷ []) _ given) ∙ success in
-      monotone-never-falls c p w (lowest-passed _ _ _ further .0)
+      monotone-never-falls c p w (lowest-passed _ _ _ (sym (coarse-tests c p w given) ∙ success) .0)
 
   module _ {number cost : ℕ} (gives : Gives (answer (planCoarse c p w)) number cost) where
     pub coarse-own : {plan : List ℕ} → plan ≡ coarsePlanAtExit c p w → OwnSheet c plan number cost

@@ -19,7 +19,7 @@ use Rattle.model.specs.Counts.{allCounts, coarseCounts}
 use Rattle.model.specs.Sheets.{serves, sheetCost}
 use Rattle.model.specs.Plans.{sheetOf, planCost, leastPlan}
 use Rattle.model.specs.Calls.{checkCard, planExact, planCoarse, makeSheet, markSheet, nothing, plan, sheet, area, onCard, requestOf}
-use Rattle.model.specs.Calls.{exactWork, coarseWork, sheetBytes, rightLength, entriesInRange, loadsServed, anyShort}
+use Rattle.model.specs.Calls.{exactWork, coarseWork, sheetBytes, exactPlan, coarsePlan, rightLength, entriesInRange, loadsServed, anyShort}
 use Rattle.model.specs.Calls.{applies, refusals, lowest, successCost}
 use Rattle.model.specs.Calls.{answer, atExit, exactPlanAtExit, coarsePlanAtExit, sheetAtExit}
 use Rattle.laws.specs.Answers.{number-zero}
@@ -48,7 +48,7 @@ module _ (c s : List ℕ) where
 
   module _ (given : answer (checkCard c) ≡ Cost 0) where
     -- on which the tests that remain are the three of `serves`
-    mark-tests :
+    pub mark-tests :
         answer (markSheet c s) ≡
         lowest (applies (onCard c [] (sheet s))) (WrongLength ∷ EntryRange ∷ LoadNotServed ∷ []) (Cost (sheetCost (instanceOf c) s))
     unfolding answer requestOf refusals successCost
@@ -86,7 +86,7 @@ module _ (c p s : List ℕ) where
 
   module _ (given : answer (checkCard c) ≡ Cost 0) where
     -- on which these tests remain
-    make-tests :
+    pub make-tests :
         answer (makeSheet c p s) ≡
         lowest (applies (onCard c (area s (sheetBytes (instanceOf c)) ∷ []) (plan p)))
         (BufferTooShort ∷ WrongLength ∷ EntryRange ∷ LoadNotServed ∷ []) (Cost (planCost (instanceOf c) p))
@@ -195,17 +195,32 @@ module _ (c p w : List ℕ) where
       let planned = succeeded (planCoarse c p w) e in
       planner-marked coarseCounts coarse-ascending c (coarse-on planned) planned p s room
 
+  -- On an accepted card the tests that remain are that of the buffers and, for the coarse planner, before it that of the table.
+  module _ (given : answer (checkCard c) ≡ Cost 0) where
+    pub exact-tests :
+        answer (planExact c p w) ≡
+        lowest (applies (onCard c (area p (instanceOf c .slots) ∷ area w (exactWork (instanceOf c)) ∷ []) nothing)) (BufferTooShort ∷ [])
+        (Cost (planCost (instanceOf c) (exactPlan (instanceOf c))))
+    unfolding answer requestOf refusals successCost
+    exact-tests = on-card-passed c _ _ _ _ given
+
+    pub coarse-tests :
+        answer (planCoarse c p w) ≡
+        lowest (applies (onCard c (area p (instanceOf c .slots) ∷ area w (coarseWork (instanceOf c)) ∷ []) nothing))
+        (NotMonotone ∷ BufferTooShort ∷ []) (Cost (planCost (instanceOf c) (coarsePlan (instanceOf c))))
+    unfolding answer requestOf refusals successCost
+    coarse-tests = on-card-passed c _ _ _ _ given
+
   -- An accepted card is always planned where the buffers are long enough,
   pub always-planned :
       answer (checkCard c) ≡ Cost 0 → instanceOf c .slots ≤ length p → exactWork (instanceOf c) ≤ length w →
       numberOf (answer (planExact c p w)) ≡ 0
-  unfolding answer requestOf refusals lowest applies anyShort
-  always-planned given room work = rw (on-card-passed c _ nothing (BufferTooShort ∷ []) _ given, le-ltb _ _ room, le-ltb _ _ work)
+  unfolding lowest applies anyShort
+  always-planned given room work = rw (exact-tests given, le-ltb _ _ room, le-ltb _ _ work)
 
   -- by the coarse planner too if its table never falls.
   pub always-planned-coarse :
       answer (checkCard c) ≡ Cost 0 → neverFalls (instanceOf c .topStep) (instanceOf c .table) ≡ true →
       instanceOf c .slots ≤ length p → coarseWork (instanceOf c) ≤ length w → numberOf (answer (planCoarse c p w)) ≡ 0
-  unfolding answer requestOf refusals lowest applies anyShort
-  always-planned-coarse given rises room work =
-      rw (on-card-passed c _ nothing (NotMonotone ∷ BufferTooShort ∷ []) _ given, rises, le-ltb _ _ room, le-ltb _ _ work)
+  unfolding lowest applies anyShort
+  always-planned-coarse given rises room work = rw (coarse-tests given, rises, le-ltb _ _ room, le-ltb _ _ work)
