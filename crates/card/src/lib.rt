@@ -22,7 +22,8 @@ pub struct Number {
     pub next: Cursor,
 }
 
-fn wide(x: u8) -> u64
+// A byte as a number.
+pub fn wide(x: u8) -> u64
     ensures { λ r. ⌜ r ≡ x ⌝ }
 {
     x as u64

@@ -12,12 +12,6 @@ ghost use Rattle.sheets.specs.Marks.{byteCost, bytesCost, allOff, byteAt
 ghost use Rattle.sheets.specs.Asked.{RowFits, SlotReady, PlanSized, PlanReady, SheetRoom};
 ghost use Rattle.sheets.specs.Asked.{ByteReady, BytesReady, RowShort, RowPriced, SheetSized, SheetReady};
 
-fn wide(x: u8) -> u64
-    ensures { λ r. ⌜ r ≡ x ⌝ }
-{
-    x as u64
-}
-
 // Fills a slot's row: the first n modules are active, the first l mod n of these at step l div n + 1, the others at l div n.
 fn fill_slot(row: &mut [u8], n: u64, l: u64)
     requires { ⌜ RowFits (now row) n l ⌝ }
@@ -45,7 +39,7 @@ pub fn write_sheet(card: &[u8], h: Header, plan: &[u8], sheet: &mut [u8])
     let top = h.top;
     let mut t = 0;
     while t < plan.len() {
-        let n = wide(plan[t]);
+        let n = card::wide(plan[t]);
         let l = card::load(card, top, t as u64);
         let start = t * modules;
         let end = start + modules;
@@ -78,7 +72,7 @@ pub fn plan_cost(card: &[u8], h: Header, plan: &[u8]) -> u64
     let mut prev: u64 = 0;
     let mut t = 0;
     while t < plan.len() {
-        let n = wide(plan[t]);
+        let n = card::wide(plan[t]);
         cost += slot_cost(card, h, prev, n, card::load(card, top, t as u64));
         prev = n;
         t += 1;
@@ -93,7 +87,7 @@ pub fn plan_in_rack(h: Header, plan: &[u8]) -> bool
     let modules = h.modules;
     let mut t = 0;
     while t < plan.len() {
-        if modules < wide(plan[t]) {
+        if modules < card::wide(plan[t]) {
             return false;
         }
         t += 1;
@@ -109,7 +103,7 @@ pub fn plan_serves(card: &[u8], h: Header, plan: &[u8]) -> bool
     let top = h.top;
     let mut t = 0;
     while t < plan.len() {
-        let most = wide(plan[t]) * top;
+        let most = card::wide(plan[t]) * top;
         if most < card::load(card, top, t as u64) {
             return false;
         }
@@ -125,7 +119,7 @@ fn is_entry(top: u64, b: u8) -> bool
     if b == 255 {
         return true;
     }
-    wide(b) <= top
+    card::wide(b) <= top
 }
 
 // Each byte of the sheet is a step up to top, or off.
@@ -205,7 +199,7 @@ fn byte_cost(card: &[u8], h: Header, prev: u8, byte: u8) -> u64
     if byte == 255 {
         return stop_cost(h.down, prev);
     }
-    let run = card::entry(card, wide(byte));
+    let run = card::entry(card, card::wide(byte));
     if prev == 255 {
         return run + h.up;
     }
