@@ -1,4 +1,5 @@
--- Document 01's starred examples, A to J, and some more: one table, one proof. Beside it, the answers of wrong programs, which differ.
+-- Document 01's starred examples, A to J: one table, one proof. Beside it a table of further rows, and one of the answers of wrong
+-- programs, which differ.
 use Prim.Native.Nat.{ℕ, zero, suc, _-_, _/_, _%_}
 use Prim.Native.String.{String}
 use mathlib.Core.Path.{_≡_, refl, ap, sym, _∙_}
@@ -112,15 +113,33 @@ starred =
     one "J rack of 1" (coarseCounts 1) (0 ∷ 1 ∷ []) ∷
     one "J rack of 128" (coarseCounts 128) (0 ∷ 1 ∷ 2 ∷ 4 ∷ 8 ∷ 16 ∷ 32 ∷ 64 ∷ 128 ∷ []) ∷
     one "J rack of 200" (coarseCounts 200) (0 ∷ 1 ∷ 2 ∷ 4 ∷ 8 ∷ 16 ∷ 32 ∷ 64 ∷ 128 ∷ 200 ∷ []) ∷
-    row "L cut to 34" (checkCard (take 34 cardA)) 5 0 [] ∷
+    []
+
+-- Further rows: a refusal by each number, the lowest of two, bounds, and two of 01's plausible errors.
+further : List Example
+further =
+    row "wrong mark" (checkCard (set cardA 2 0)) 1 0 [] ∷
     row "L cut to 16" (checkCard (take 16 cardA)) 1 0 [] ∷
     row "L version before rack" (checkCard (set (set cardA 3 2) 5 0)) 2 0 [] ∷
+    row "K rack of 201" (checkCard (set cardA 5 201)) 3 0 [] ∷
     row "rack before slots" (checkCard (set (set cardA 8 9) 5 0)) 3 0 [] ∷
+    row "K 1,025 slots" (checkCard (set (set cardA 7 1) 8 4)) 4 0 [] ∷
+    row "L cut to 34" (checkCard (take 34 cardA)) 5 0 [] ∷
+    row "L one byte more" (checkCard (cardA ++ (0 ∷ []))) 5 0 [] ∷
+    row "warm-up price" (checkCard (cardOf 3 2 500000001 2 (1 ∷ 2 ∷ 4 ∷ []) [])) 6 0 [] ∷
+    row "table entry" (checkCard (cardOf 3 2 3 2 (1 ∷ 2 ∷ 1000001 ∷ []) [])) 6 0 [] ∷
+    row "load above m × Q" (checkCard (cardOf 3 2 3 2 (1 ∷ 2 ∷ 4 ∷ []) (7 ∷ []))) 8 0 [] ∷
+    row "short plan area" (planExact cardA (lent 2) (lent 12)) 10 0 (lent 2 ∷ lent 12 ∷ []) ∷
+    row "short work area" (planExact cardA (lent 3) (lent 11)) 10 0 (lent 3 ∷ lent 11 ∷ []) ∷
     row "short area before a short plan" (makeSheet cardA [] (lent 8)) 10 0 (lent 8 ∷ []) ∷
     row "sheet of 8 bytes" (markSheet cardA (take 8 sheetD)) 11 0 [] ∷
+    row "step above Q" (markSheet cardA (set sheetD 0 3)) 12 0 [] ∷
     row "count 4 in slot 3 before count 0 in slot 1" (makeSheet cardA (0 ∷ 1 ∷ 4 ∷ []) (lent 9)) 12 0 (lent 9 ∷ []) ∷
+    row "too little light" (markSheet cardA (set sheetD 0 1)) 13 0 [] ∷
+    row "too much light" (markSheet cardA (set sheetD 4 1)) 13 0 [] ∷
     row "rounded 5 of 6" (roundCount 5 6) 0 6 [] ∷
     row "rounded 5 of 200" (roundCount 5 200) 0 8 [] ∷
+    row "rounded 7 of 6" (roundCount 7 6) 12 0 [] ∷
     row "plausible error: rounding up" (planCoarse cardUp (lent 1) (lent 10)) 0 7 ((2 ∷ []) ∷ replicate 10 0 ∷ []) ∷
     []
 
@@ -191,6 +210,10 @@ fails-differ e v p = go (sameLists (e .found) (e .expected)) v (ap (sameLists (e
 starred-hold : AllHold starred
 unfolding starred agrees
 starred-hold = omega arith
+
+further-hold : AllHold further
+unfolding further agrees
+further-hold = omega arith
 
 wrong-differ : NoneHold wrong
 unfolding wrong agrees

@@ -1,5 +1,5 @@
 -- What a reader must believe: document 01's terms and the outcome of every call, as definitions. No theorem stands here but
--- the starred examples. Read in this order.
+-- the examples. Read in this order.
 pub mod Answers
 pub mod Instance
 pub mod Counts
