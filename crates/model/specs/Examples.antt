@@ -122,17 +122,22 @@ further =
     row "L cut to 16" (checkCard (take 16 cardA)) 1 0 [] ∷
     row "L version before rack" (checkCard (set (set cardA 3 2) 5 0)) 2 0 [] ∷
     row "K rack of 201" (checkCard (set cardA 5 201)) 3 0 [] ∷
+    row "top step 201" (checkCard (set cardA 6 201)) 3 0 [] ∷
     row "rack before slots" (checkCard (set (set cardA 8 9) 5 0)) 3 0 [] ∷
     row "K 1,025 slots" (checkCard (set (set cardA 7 1) 8 4)) 4 0 [] ∷
     row "L cut to 34" (checkCard (take 34 cardA)) 5 0 [] ∷
     row "L one byte more" (checkCard (cardA ++ (0 ∷ []))) 5 0 [] ∷
     row "warm-up price" (checkCard (cardOf 3 2 500000001 2 (1 ∷ 2 ∷ 4 ∷ []) [])) 6 0 [] ∷
+    row "cool-down price" (checkCard (cardOf 3 2 3 500000001 (1 ∷ 2 ∷ 4 ∷ []) [])) 6 0 [] ∷
     row "table entry" (checkCard (cardOf 3 2 3 2 (1 ∷ 2 ∷ 1000001 ∷ []) [])) 6 0 [] ∷
+    row "prices at their bounds" (checkCard (cardOf 3 2 500000000 500000000 (1000000 ∷ 1000000 ∷ 1000000 ∷ []) [])) 0 0 [] ∷
     row "load above m × Q" (checkCard (cardOf 3 2 3 2 (1 ∷ 2 ∷ 4 ∷ []) (7 ∷ []))) 8 0 [] ∷
     row "short plan area" (planExact cardA (lent 2) (lent 12)) 10 0 (lent 2 ∷ lent 12 ∷ []) ∷
     row "short work area" (planExact cardA (lent 3) (lent 11)) 10 0 (lent 3 ∷ lent 11 ∷ []) ∷
     row "short area before a short plan" (makeSheet cardA [] (lent 8)) 10 0 (lent 8 ∷ []) ∷
     row "sheet of 8 bytes" (markSheet cardA (take 8 sheetD)) 11 0 [] ∷
+    row "sheet of 10 bytes" (markSheet cardA (sheetD ++ (255 ∷ []))) 11 0 [] ∷
+    row "plan of 4 counts" (makeSheet cardA (3 ∷ 1 ∷ 1 ∷ 1 ∷ []) (lent 9)) 11 0 (lent 9 ∷ []) ∷
     row "step above Q" (markSheet cardA (set sheetD 0 3)) 12 0 [] ∷
     row "count 4 in slot 3 before count 0 in slot 1" (makeSheet cardA (0 ∷ 1 ∷ 4 ∷ []) (lent 9)) 12 0 (lent 9 ∷ []) ∷
     row "too little light" (markSheet cardA (set sheetD 0 1)) 13 0 [] ∷
