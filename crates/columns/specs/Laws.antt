@@ -16,7 +16,7 @@ use Rattle.columns.specs.Column.{Choice, cheaper, countAtPlace, lastPlac
 use Rattle.columns.specs.Column.{own, fromTop, downward, upward, column}
 
 -- the lower of two choices is at most the second
-pub cheaper-bound : (a b : Choice) → cheaper a b .cost ≤ b .cost
+cheaper-bound : (a b : Choice) → cheaper a b .cost ≤ b .cost
 cheaper-bound a b = go (leb (a .cost) (b .cost)) refl
   where
     go : (t : Bool) → leb (a .cost) (b .cost) ≡ t → cond t a b .cost ≤ b .cost
