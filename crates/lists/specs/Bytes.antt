@@ -1,10 +1,10 @@
 -- Little-endian numbers over the width: the definition, and one law for every width.
-use Prim.Native.Nat.{ℕ, zero, suc, _+_, _*_, _^_, _≤_, _<_}
+use Prim.Native.Nat.{ℕ, zero, suc, _+_, _*_, _/_, _%_, _^_, _≤_, _<_}
 use mathlib.Core.Path.{_≡_, refl}
-use mathlib.Core.List.{List}
-use native.Mathlib.Nat.{zero-add, one-mul, suc-add, pow-zero, pow-suc, add-zero}
+use mathlib.Core.List.{List, [], _∷_}
+use native.Mathlib.Nat.{zero-add, one-mul, suc-add, pow-zero, pow-suc, add-zero, div-add-mod, div-lt-iff-lt-mul}
 use native.Mathlib.Omega.{arith}
-use lib.ListN.{getD, take}
+use lib.ListN.{length, getD, take}
 use lib.Seq.{getD-take}
 
 -- the number in the w bytes of s from place p on, least byte first
@@ -33,3 +33,41 @@ little-take zero n s p h = refl
 little-take (suc w) n s p h =
     let here : p < n = omega arith in
     rw (getD-take n s p 0 here, little-take w n s (p + 1) (omega arith))
+
+-- a number of w bytes is told by these bytes alone
+pub little-same :
+    (w : ℕ) (s r : List ℕ) (p q : ℕ) → ((j : ℕ) → j < w → getD s (p + j) 0 ≡ getD r (q + j) 0) → littleEndian w s p ≡ littleEndian w r q
+unfolding littleEndian
+little-same zero s r p q same = refl
+little-same (suc w) s r p q same =
+    let first = same 0 (omega arith) in
+    let next : (j : ℕ) → j < w → getD s (p + 1 + j) 0 ≡ getD r (q + 1 + j) 0 =
+    λ j h.
+    let left : p + 1 + j ≡ p + suc j = omega arith in
+    let right : q + 1 + j ≡ q + suc j = omega arith in
+    rw (left, right) (same (suc j) (omega arith)) in
+    omega (arith, rw (add-zero p, add-zero q) at first, little-same w s r (p + 1) (q + 1) next)
+
+-- A number as w bytes, least byte first.
+unfoldable pub bytesOf : ℕ → ℕ → List ℕ
+bytesOf zero n = []
+bytesOf (suc w) n = (n % 256) ∷ bytesOf w (n / 256)
+
+pub length-bytes : (w n : ℕ) → length (bytesOf w n) ≡ w
+unfolding bytesOf
+length-bytes zero n = refl
+length-bytes (suc w) n = omega (arith, length-bytes w (n / 256))
+
+-- a number that fits w bytes is read back from them
+pub little-bytes : (w n : ℕ) → n < 256 ^ w → littleEndian w (bytesOf w n) 0 ≡ n
+unfolding littleEndian bytesOf
+little-bytes zero n h = omega arith
+little-bytes (suc w) n h =
+    let below : n / 256 < 256 ^ w = div-lt-iff-lt-mul {k = 256} (omega arith) .1 (omega arith) in
+    let rest = little-same w (n % 256 ∷ bytesOf w (n / 256)) (bytesOf w (n / 256)) 1 0 (λ j b. tail j) in
+    omega (arith, rest, little-bytes w (n / 256) below, div-add-mod n 256)
+  where
+    tail : (j : ℕ) → getD (n % 256 ∷ bytesOf w (n / 256)) (1 + j) 0 ≡ getD (bytesOf w (n / 256)) (0 + j) 0
+    tail j =
+        let place : 1 + j ≡ suc j = omega arith in
+        rw (place, zero-add j)

@@ -7,6 +7,7 @@ pub mod Tests
 pub mod Sums
 pub mod Summing
 pub mod Lists
+pub mod Text
 pub mod Members
 pub mod Bytes
 pub mod Filling

@@ -5,7 +5,7 @@ use mathlib.Core.Logic.{⊎-elim}
 use mathlib.Core.List.{List, [], _∷_, _++_, headD}
 use mathlib.Core.Bool.{Bool, true, false, cond, _&&_, false≢true}
 use lib.Dec.{eqb}
-use lib.ListN.{length, getD, replicate, length-append, length-replicate, getD-replicate, List·getD-append}
+use lib.ListN.{length, getD, drop, replicate, length-append, length-replicate, getD-replicate, List·getD-append}
 use lib.Seq.{getD-append-add, ext-getD}
 use native.Mathlib.Nat.{not-suc-le-zero, le-of-suc-le-suc, eq-or-lt-of-le, mul-le-mul-right}
 use native.Mathlib.Omega.{arith}
@@ -80,6 +80,10 @@ getD-rows m (suc n) f h t k d g l =
 unfoldable pub keep {ℓ} : {A : Type ℓ} → (A → Bool) → List A → List A
 keep f [] = []
 keep f (x ∷ xs) = cond (f x) (x ∷ keep f xs) (keep f xs)
+
+-- a list whose first elements are replaced by new ones
+abbrev pub writtenOver : List ℕ → List ℕ → List ℕ
+writtenOver new old = new ++ drop (length new) old
 
 -- two lists of numbers are the same
 unfoldable pub sameList : List ℕ → List ℕ → Bool

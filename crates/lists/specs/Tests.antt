@@ -2,6 +2,7 @@
 use Prim.Native.Nat.{ℕ, zero, suc, _+_, _≤_, _<_}
 use mathlib.Core.Path.{_≡_, refl, sym, _∙_}
 use mathlib.Core.Bool.{Bool, true, false, not, _&&_, _||_, true≢false}
+use mathlib.Core.List.{List, [], _∷_}
 use mathlib.Core.Logic.{_⊎_, inl, inr, ⊎-elim}
 use native.Mathlib.Nat.{not-suc-le-zero, le-refl}
 use native.Mathlib.Numerals.{add-one}
@@ -17,6 +18,11 @@ every (suc n) f = every n f && f n
 -- f holds at one of 0 to n - 1
 abbrev pub any : ℕ → (ℕ → Bool) → Bool
 any n f = not (every n (λ k. not (f k)))
+
+-- f holds at each element of a list
+unfoldable pub allOf : (ℕ → Bool) → List ℕ → Bool
+allOf f [] = true
+allOf f (x ∷ xs) = f x && allOf f xs
 
 pub and-left : (a b : Bool) → (a && b) ≡ true → a ≡ true
 and-left true b e = refl

@@ -7,7 +7,7 @@ use native.Mathlib.Numerals.{add-one}
 use native.Mathlib.Omega.{arith}
 use lib.ListN.{length, getD, set, take, drop, length-append, length-set, take-append-drop}
 use lib.Seq.{set-split, take-at, drop-drop, drop-append-add, length-take-le, take-suc, take-length}
-use Rattle.lists.specs.Lists.{rows}
+use Rattle.lists.specs.Lists.{rows, writtenOver}
 use Rattle.lists.specs.Rising.{rises-to}
 
 -- the text fits into the list from place p on
@@ -62,21 +62,15 @@ written-more {a} {b} {p} {q} {r} {old} {mid} {new} v w =
         rw (rest, cut, take-at front (drop (p + length a) old) q long-front)
         (simp append-assoc)
 
--- the text from the first place on, and then what was there
-unfoldable pub atStart : List ℕ → List ℕ → List ℕ
-atStart text old = text ++ drop (length text) old
-
-pub written-start : {text old new : List ℕ} {r : ℕ} → Written text 0 old new r → (r ≡ length text) × (new ≡ atStart text old)
-unfolding atStart
+pub written-start : {text old new : List ℕ} {r : ℕ} → Written text 0 old new r → (r ≡ length text) × (new ≡ writtenOver text old)
 written-start {text} {old} w = (omega arith, rw (zero-add (length text)) at (w .bytes))
 
 -- what a caller knows of the part up to the place after the text
-pub start-within : (text old : List ℕ) {r : ℕ} {new : List ℕ} → r ≡ length text → new ≡ atStart text old → r ≤ length new
-unfolding atStart
+pub start-within : (text old : List ℕ) {r : ℕ} {new : List ℕ} → r ≡ length text → new ≡ writtenOver text old → r ≤ length new
 start-within text old e d = omega (arith, ap length d, length-append text (drop (length text) old))
 
 pub start-same :
-    (a b old : List ℕ) {r : ℕ} {new : List ℕ} → a ≡ b → (r ≡ length a) × (new ≡ atStart a old) → (r ≡ length b) × (new ≡ atStart b old)
+    (a b old : List ℕ) {r : ℕ} {new : List ℕ} → a ≡ b → (r ≡ length a) × (new ≡ writtenOver a old) → (r ≡ length b) × (new ≡ writtenOver b old)
 start-same a b old e w = rw e at w
 
 pub room-less : {a b : List ℕ} {p : ℕ} {l : List ℕ} → length b ≤ length a → Room a p l → Room b p l

@@ -1,40 +1,41 @@
 -- Every call's whole outcome: its answer, and the bytes of each lent buffer at exit (document 01, 'Refused', 'The plans').
-use Prim.Native.Nat.{ℕ, _+_, _*_}
+use Prim.Native.Nat.{ℕ, _*_}
 use mathlib.Core.Path.{_≡_}
-use mathlib.Core.Bool.{Bool, true, false, cond, not, _&&_, _||_}
-use mathlib.Core.List.{List, [], _∷_, _++_}
-use lib.ListN.{length, getD, drop, replicate}
+use mathlib.Core.Bool.{Bool, true, false, cond, not, _||_}
+use mathlib.Core.List.{List, [], _∷_, _++_, map}
+use lib.ListN.{length, getD, replicate}
 use lib.Dec.{leb, ltb, eqb}
-use Rattle.lists.specs.Tests.{every}
-use Rattle.lists.specs.Lists.{sameList}
+use Rattle.lists.specs.Tests.{every, allOf}
+use Rattle.lists.specs.Lists.{sameList, writtenOver}
 use Rattle.model.specs.declared.Refusal.{Refusal}
 use Rattle.model.specs.declared.Refusal.the-variants.{NotACard, Version, RackSize, SlotCount, CardLength, PriceRange, NotConvex}
 use Rattle.model.specs.declared.Refusal.the-variants.{LoadRange, NotMonotone, BufferTooShort, WrongLength, EntryRange, LoadNotServed}
 use Rattle.model.specs.declared.Answer.{Answer}
 use Rattle.model.specs.declared.Answer.the-variants.{Cost, Refused}
 use Rattle.model.specs.Answers.{numberOf, costOf}
-use Rattle.model.specs.Instance.{Instance, instanceOf, markOf, cardMark, versionOf, cardLength, convex, neverFalls, pricesInRange}
-use Rattle.model.specs.Instance.{loadsInRange}
-use Rattle.model.specs.Counts.{canServe, operatingCost, allCounts, coarseCounts, roundedCount}
+use Rattle.model.specs.Instance.{Instance, instanceOf, headLength, markOf, cardMark, versionOf, cardVersion, cardLength, rackNumber}
+use Rattle.model.specs.Instance.{convex, neverFalls, pricesInRange, loadsInRange}
+use Rattle.model.specs.Counts.{canServe, operatingCost, roundedCount}
 use Rattle.model.specs.Sheets.{sheetLength, sheetEntries, sheetLight, sheetCost}
-use Rattle.model.specs.Plans.{planServes, planCost, sheetOf, leastPlan}
+use Rattle.model.specs.Plans.{planServes, planCost, sheetOf, leastCost}
+use Rattle.model.specs.Planners.{Planner, allowedCounts, workBytes, plannerRefusals, plannedBy}
 
 -- The calls, each with what it is handed: the bytes of card, plan, work and sheet at entry, and numbers.
 pub data Call : Type 0 where
   checkCard : (card : List ℕ) → Call
   runningCost : (card : List ℕ) (count load : ℕ) → Call
-  planExact : (card plan work : List ℕ) → Call
-  planCoarse : (card plan work : List ℕ) → Call
+  planShow : (planner : Planner) (card plan work : List ℕ) → Call
   makeSheet : (card plan sheet : List ℕ) → Call
   markSheet : (card sheet : List ℕ) → Call
   roundCount : (count modules : ℕ) → Call
 
--- What a call is asked about besides the card: a count and a load, a plan or a sheet that is handed in.
+-- What a call is asked about: a count and a load, a plan or a sheet, each handed in with a card, or a count in a rack of a given size.
 pub data HandedIn : Type 0 where
   nothing : HandedIn
   pair : (count load : ℕ) → HandedIn
   plan : (bytes : List ℕ) → HandedIn
   sheet : (bytes : List ℕ) → HandedIn
+  inRack : (count modules : ℕ) → HandedIn
 
 -- 11: 'handed-in plan not T bytes, sheet not m × T'
 unfoldable pub rightLength : Instance → HandedIn → Bool
@@ -42,6 +43,7 @@ rightLength i nothing = true
 rightLength i (pair n l) = true
 rightLength i (plan p) = eqb (length p) (i .slots)
 rightLength i (sheet s) = sheetLength i s
+rightLength i (inRack n m) = true
 
 -- 12: 'a count above m, or a sheet byte from Q + 1 to 254'
 unfoldable pub entriesInRange : Instance → HandedIn → Bool
@@ -49,6 +51,7 @@ entriesInRange i nothing = true
 entriesInRange i (pair n l) = leb n (i .modules)
 entriesInRange i (plan p) = every (i .slots) (λ t. leb (getD p t 0) (i .modules))
 entriesInRange i (sheet s) = sheetEntries i s
+entriesInRange i (inRack n m) = leb n m
 
 -- 13: 'a slot's steps don't sum to its load; or a plan's count, or the count given to running cost, can't serve its load'
 unfoldable pub loadsServed : Instance → HandedIn → Bool
@@ -56,81 +59,86 @@ loadsServed i nothing = true
 loadsServed i (pair n l) = canServe i n l
 loadsServed i (plan p) = planServes i p
 loadsServed i (sheet s) = sheetLight i s
+loadsServed i (inRack n m) = true
 
--- A lent area: its length and the length asked for.
-pub record Area : Type 0 where
-  pub lent : ℕ
+-- A lent buffer (01: 'area'): its bytes at entry, how many of them are asked for, and what a success writes from the first byte on.
+pub record Buffer : Type 0 where
+  pub entry : List ℕ
   pub asked : ℕ
+  pub writes : List ℕ
 
-unfoldable pub anyShort : List Area → Bool
-anyShort [] = false
-anyShort (a ∷ as′) = ltb (a .lent) (a .asked) || anyShort as′
+-- 'a plan area of at least T bytes'; 'After success the bytes asked for hold the answer'
+abbrev pub planBuffer : Planner → Instance → List ℕ → Buffer
+planBuffer k i p = record { entry = p; asked = i .slots; writes = plannedBy k i }
 
--- What the refusals look at.
-pub record Request : Type 0 where
-  pub card : List ℕ
-  pub shown : Instance
-  pub areas : List Area
-  pub handed : HandedIn
+-- 'a work area of at least (m + 1)T bytes for exact, 10T for coarse'; 'the work bytes asked for are zero'
+abbrev pub workBuffer : Planner → Instance → List ℕ → Buffer
+workBuffer k i w = record { entry = w; asked = workBytes k i; writes = replicate (workBytes k i) 0 }
 
--- 'The rounded count takes n and m only': a rack of m modules, whose other fields are in order
-abbrev pub bareRack : ℕ → Instance
-bareRack m =
-    record {
-      modules = m;
-      topStep = 1;
-      slots = 0;
-      powerUp = 0;
-      powerDown = 0;
-      table = λ _. 0;
-      load = λ _. 0;
-    }
-
--- 'Lent areas: a plan area of at least T bytes; a work area of at least (m + 1)T bytes for exact, 10T for coarse; a sheet area
--- of at least m × T.'
-abbrev pub exactWork : Instance → ℕ
-exactWork i = (i .modules + 1) * i .slots
-
-abbrev pub coarseWork : Instance → ℕ
-coarseWork i = 10 * i .slots
-
+-- 'a sheet area of at least m × T'
 abbrev pub sheetBytes : Instance → ℕ
 sheetBytes i = i .modules * i .slots
 
-abbrev pub area : List ℕ → ℕ → Area
-area bytes n = record { lent = length bytes; asked = n }
+abbrev pub sheetBuffer : Instance → (plan sheet : List ℕ) → Buffer
+sheetBuffer i p s = record { entry = s; asked = sheetBytes i; writes = sheetOf i p }
 
-abbrev pub onCard : List ℕ → List Area → HandedIn → Request
-onCard c areas h = record { card = c; shown = instanceOf c; areas = areas; handed = h }
+-- The buffers lent to a call, in the order of its parameters.
+unfoldable pub buffersOf : Call → List Buffer
+buffersOf (checkCard c) = []
+buffersOf (runningCost c n l) = []
+buffersOf (planShow k c p w) = planBuffer k (instanceOf c) p ∷ workBuffer k (instanceOf c) w ∷ []
+buffersOf (makeSheet c p s) = sheetBuffer (instanceOf c) p s ∷ []
+buffersOf (markSheet c s) = []
+buffersOf (roundCount n m) = []
+
+-- 10: 'a lent area shorter than asked for'
+unfoldable pub anyShort : List Buffer → Bool
+anyShort [] = false
+anyShort (b ∷ bs) = ltb (length (b .entry)) (b .asked) || anyShort bs
+
+-- What the refusals look at: the bytes of a card, the numbers that have to be from 1 to 200, the lent buffers, and what is handed in.
+pub record Request : Type 0 where
+  pub card : List ℕ
+  pub rack : List ℕ
+  pub buffers : List Buffer
+  pub handed : HandedIn
+
+-- A request on a card, whose m and Q are the numbers of its rack.
+abbrev pub onCard : List ℕ → List Buffer → HandedIn → Request
+onCard c bs h =
+    record { card = c; rack = instanceOf c .modules ∷ instanceOf c .topStep ∷ []; buffers = bs; handed = h }
+
+-- 'The rounded count takes n and m only.'
+abbrev pub onRack : (count modules : ℕ) → Request
+onRack n m = record { card = []; rack = m ∷ []; buffers = []; handed = inRack n m }
 
 unfoldable pub requestOf : Call → Request
 requestOf (checkCard c) = onCard c [] nothing
 requestOf (runningCost c n l) = onCard c [] (pair n l)
-requestOf (planExact c p w) = onCard c (area p (instanceOf c .slots) ∷ area w (exactWork (instanceOf c)) ∷ []) nothing
-requestOf (planCoarse c p w) = onCard c (area p (instanceOf c .slots) ∷ area w (coarseWork (instanceOf c)) ∷ []) nothing
-requestOf (makeSheet c p s) = onCard c (area s (sheetBytes (instanceOf c)) ∷ []) (plan p)
+requestOf (planShow k c p w) = onCard c (buffersOf (planShow k c p w)) nothing
+requestOf (makeSheet c p s) = onCard c (buffersOf (makeSheet c p s)) (plan p)
 requestOf (markSheet c s) = onCard c [] (sheet s)
-requestOf (roundCount n m) = record { card = []; shown = bareRack m; areas = []; handed = pair n 0 }
+requestOf (roundCount n m) = onRack n m
 
--- n is from 1 to 200
-abbrev pub rackNumber : ℕ → Bool
-rackNumber n = leb 1 n && leb n 200
+-- The show that a request's card says.
+abbrev pub shown : Request → Instance
+shown r = instanceOf (r .card)
 
 -- The table's column 'when', a line a number.
 unfoldable pub applies : Request → Refusal → Bool
-applies r NotACard = ltb (length (r .card)) 17 || not (sameList (markOf (r .card)) cardMark)
-applies r Version = not (eqb (versionOf (r .card)) 1)
-applies r RackSize = not (rackNumber (r .shown .modules) && rackNumber (r .shown .topStep))
-applies r SlotCount = ltb 1024 (r .shown .slots)
-applies r CardLength = not (eqb (length (r .card)) (cardLength (r .shown)))
-applies r PriceRange = not (pricesInRange (r .shown))
-applies r NotConvex = not (convex (r .shown .topStep) (r .shown .table))
-applies r LoadRange = not (loadsInRange (r .shown))
-applies r NotMonotone = not (neverFalls (r .shown .topStep) (r .shown .table))
-applies r BufferTooShort = anyShort (r .areas)
-applies r WrongLength = not (rightLength (r .shown) (r .handed))
-applies r EntryRange = not (entriesInRange (r .shown) (r .handed))
-applies r LoadNotServed = not (loadsServed (r .shown) (r .handed))
+applies r NotACard = ltb (length (r .card)) headLength || not (sameList (markOf (r .card)) cardMark)
+applies r Version = not (eqb (versionOf (r .card)) cardVersion)
+applies r RackSize = not (allOf rackNumber (r .rack))
+applies r SlotCount = ltb 1024 (shown r .slots)
+applies r CardLength = not (eqb (length (r .card)) (cardLength (shown r)))
+applies r PriceRange = not (pricesInRange (shown r))
+applies r NotConvex = not (convex (shown r .topStep) (shown r .table))
+applies r LoadRange = not (loadsInRange (shown r))
+applies r NotMonotone = not (neverFalls (shown r .topStep) (shown r .table))
+applies r BufferTooShort = anyShort (r .buffers)
+applies r WrongLength = not (rightLength (shown r) (r .handed))
+applies r EntryRange = not (entriesInRange (shown r) (r .handed))
+applies r LoadNotServed = not (loadsServed (shown r) (r .handed))
 
 -- 'All calls on a card check 1 to 8.'
 abbrev pub cardRefusals : List Refusal
@@ -140,30 +148,22 @@ cardRefusals = NotACard ∷ Version ∷ RackSize ∷ SlotCount ∷ CardLength �
 unfoldable pub refusals : Call → List Refusal
 refusals (checkCard c) = cardRefusals
 refusals (runningCost c n l) = cardRefusals ++ (EntryRange ∷ LoadNotServed ∷ [])
-refusals (planExact c p w) = cardRefusals ++ (BufferTooShort ∷ [])
-refusals (planCoarse c p w) = cardRefusals ++ (NotMonotone ∷ BufferTooShort ∷ [])
+refusals (planShow k c p w) = cardRefusals ++ plannerRefusals k
 refusals (makeSheet c p s) = cardRefusals ++ (BufferTooShort ∷ WrongLength ∷ EntryRange ∷ LoadNotServed ∷ [])
 refusals (markSheet c s) = cardRefusals ++ (WrongLength ∷ EntryRange ∷ LoadNotServed ∷ [])
 refusals (roundCount n m) = RackSize ∷ EntryRange ∷ []
 
--- 'Of several, the lowest number is given': the first of an ascending list that applies, or else the given answer
+-- 'Of several, the lowest number is given': the first of an ascending list that applies, or else the given answer.
 unfoldable pub lowest : (Refusal → Bool) → List Refusal → Answer → Answer
 lowest test [] success = success
 lowest test (x ∷ xs) success = cond (test x) (Refused x) (lowest test xs success)
-
-abbrev pub exactPlan : Instance → List ℕ
-exactPlan i = leastPlan i (allCounts (i .modules))
-
-abbrev pub coarsePlan : Instance → List ℕ
-coarsePlan i = leastPlan i (coarseCounts (i .modules))
 
 -- 'the plan's from a planner or the sheet call, the sheet's from marking, the pair's from running cost. The rounded count gives
 -- its count in that place; a call without a cost gives 0.'
 unfoldable pub successCost : Call → ℕ
 successCost (checkCard c) = 0
 successCost (runningCost c n l) = operatingCost (instanceOf c) n l
-successCost (planExact c p w) = planCost (instanceOf c) (exactPlan (instanceOf c))
-successCost (planCoarse c p w) = planCost (instanceOf c) (coarsePlan (instanceOf c))
+successCost (planShow k c p w) = leastCost (instanceOf c) (allowedCounts k (instanceOf c .modules))
 successCost (makeSheet c p s) = planCost (instanceOf c) p
 successCost (markSheet c s) = sheetCost (instanceOf c) s
 successCost (roundCount n m) = roundedCount m n
@@ -172,36 +172,34 @@ successCost (roundCount n m) = roundedCount m n
 unfoldable pub answer : Call → Answer
 answer c = lowest (applies (requestOf c)) (refusals c) (Cost (successCost c))
 
+-- 'A show is accepted if none of refusals 1 to 8 applies to its card.'
+abbrev pub Accepted : List ℕ → Type 0
+Accepted c = answer (checkCard c) ≡ Cost 0
+
 -- A buffer at exit: 'After success the bytes asked for hold the answer, .. all further bytes are as they were'; 'A refusal ..
 -- alters no lent byte.'
-unfoldable pub atExit : Answer → List ℕ → List ℕ → List ℕ
-atExit (Cost c) written entry = written ++ drop (length written) entry
-atExit (Refused r) written entry = entry
+unfoldable pub atExit : Answer → Buffer → List ℕ
+atExit (Cost n) b = writtenOver (b .writes) (b .entry)
+atExit (Refused x) b = b .entry
 
--- the lent buffers of each call at exit
-unfoldable pub exactPlanAtExit : (card plan work : List ℕ) → List ℕ
-exactPlanAtExit c p w = atExit (answer (planExact c p w)) (exactPlan (instanceOf c)) p
+-- The lent buffers of a call as they were lent.
+unfoldable pub lent : Call → List (List ℕ)
+lent c = map (λ b. b .entry) (buffersOf c)
 
-unfoldable pub exactWorkAtExit : (card plan work : List ℕ) → List ℕ
-exactWorkAtExit c p w = atExit (answer (planExact c p w)) (replicate (exactWork (instanceOf c)) 0) w
-
-unfoldable pub coarsePlanAtExit : (card plan work : List ℕ) → List ℕ
-coarsePlanAtExit c p w = atExit (answer (planCoarse c p w)) (coarsePlan (instanceOf c)) p
-
-unfoldable pub coarseWorkAtExit : (card plan work : List ℕ) → List ℕ
-coarseWorkAtExit c p w = atExit (answer (planCoarse c p w)) (replicate (coarseWork (instanceOf c)) 0) w
-
-unfoldable pub sheetAtExit : (card plan sheet : List ℕ) → List ℕ
-sheetAtExit c p s = atExit (answer (makeSheet c p s)) (sheetOf (instanceOf c) p) s
-
+-- The lent buffers of a call at exit.
 unfoldable pub buffersAtExit : Call → List (List ℕ)
-buffersAtExit (checkCard c) = []
-buffersAtExit (runningCost c n l) = []
-buffersAtExit (planExact c p w) = exactPlanAtExit c p w ∷ exactWorkAtExit c p w ∷ []
-buffersAtExit (planCoarse c p w) = coarsePlanAtExit c p w ∷ coarseWorkAtExit c p w ∷ []
-buffersAtExit (makeSheet c p s) = sheetAtExit c p s ∷ []
-buffersAtExit (markSheet c s) = []
-buffersAtExit (roundCount n m) = []
+buffersAtExit c = map (atExit (answer c)) (buffersOf c)
+
+-- The buffers at exit by name. A planner is lent a plan buffer and then a work buffer;
+unfoldable pub planAtExit : Call → List ℕ
+planAtExit c = getD (buffersAtExit c) 0 []
+
+unfoldable pub workAtExit : Call → List ℕ
+workAtExit c = getD (buffersAtExit c) 1 []
+
+-- the sheet call is lent a sheet buffer alone.
+unfoldable pub sheetAtExit : Call → List ℕ
+sheetAtExit c = getD (buffersAtExit c) 0 []
 
 -- The whole outcome: number and cost, then each lent buffer in the order of the parameters.
 unfoldable pub outcome : Call → List (List ℕ)

@@ -1,41 +1,47 @@
--- Document 01's starred examples, A to J: one table, one proof. Beside it a table of further rows, and one of the answers of wrong
--- programs, which differ.
-use Prim.Native.Nat.{ℕ, zero, suc, _-_, _/_, _%_}
+-- Document 01's starred examples, A to J: one table, one proof. Beside it tables of further rows by subject, and one of the answers of
+-- wrong programs, which differ.
+use Prim.Native.Nat.{ℕ, _-_}
 use Prim.Native.String.{String}
 use mathlib.Core.Path.{_≡_, refl, ap, sym, _∙_}
 use mathlib.Core.Bool.{Bool, true, false, not, false≢true}
 use mathlib.Core.List.{List, [], _∷_, _++_, flatMap, headD}
-use lib.ListN.{length, take, set, replicate}
+use lib.ListN.{length, getD, take, set, replicate}
 use native.Mathlib.Omega.{arith}
-use Rattle.lists.specs.Tests.{every}
+use Rattle.lists.specs.Tests.{every, allOf}
 use Rattle.lists.specs.Sums.{sum}
 use Rattle.lists.specs.Lists.{tabulate, rows, keep, sameList, sameLists, same-selves, same-lists-equal}
-use Rattle.lists.specs.Bytes.{littleEndian}
+use Rattle.lists.specs.Text.{text}
+use Rattle.lists.specs.Bytes.{littleEndian, bytesOf}
 use Rattle.model.specs.Answers.{numberOf, costOf}
-use Rattle.model.specs.Instance.{instanceOf, cardMark, cardLength, convexAt, convex, neverFalls, tableInRange, pricesInRange}
-use Rattle.model.specs.Instance.{loadsInRange}
+use Rattle.model.specs.Instance.{Instance, instanceOf, cardBytes, cardLength, convexAt, convex, neverFalls, tableInRange}
+use Rattle.model.specs.Instance.{pricesInRange, loadsInRange}
 use Rattle.model.specs.Counts.{canServe, operatingCost, allCounts, powerOfTwo, coarseCounts, roundedCount}
-use Rattle.model.specs.Sheets.{stateAt, sheetLength, sheetEntries, lightAt, sheetLight, stepCost, changeCost, sheetCost}
+use Rattle.model.specs.Sheets.{stateAt, sheetLength, sheetEntries, lightAt, sheetLight, stepCost, changeCost}
+use Rattle.model.specs.Sheets.{sheetOperatingCost, sheetSwitchingCost, sheetCost}
 use Rattle.model.specs.Plans.{moduleByte, slotRow, sheetOf, planCost, planServes, plansInOrder, cheapest, cheapestOf, leastPlan}
+use Rattle.model.specs.Planners.{Planner, exact, coarse, allowedCounts, workBytes, plannerRefusals, plannedBy}
 use Rattle.model.specs.Listing.{digits, decimal, costLine, planLine, stepText, slotLine, listing, refusedLine, printedFor, printed}
-use Rattle.model.specs.Calls.{Call, checkCard, runningCost, planExact, planCoarse, makeSheet, markSheet, roundCount}
-use Rattle.model.specs.Calls.{rightLength, entriesInRange, loadsServed, anyShort, requestOf, applies, refusals, lowest, successCost}
-use Rattle.model.specs.Calls.{answer, atExit, exactPlanAtExit, exactWorkAtExit, coarsePlanAtExit, coarseWorkAtExit, sheetAtExit}
-use Rattle.model.specs.Calls.{buffersAtExit, outcome}
+use Rattle.model.specs.Calls.{Call, checkCard, runningCost, planShow, makeSheet, markSheet, roundCount}
+use Rattle.model.specs.Calls.{rightLength, entriesInRange, loadsServed, buffersOf, anyShort, requestOf, applies, refusals, lowest}
+use Rattle.model.specs.Calls.{successCost, answer, atExit, buffersAtExit, planAtExit, outcome}
 
--- a number in w bytes, least byte first
-abbrev bytesOf : ℕ → ℕ → List ℕ
-bytesOf zero n = []
-bytesOf (suc w) n = (n % 256) ∷ bytesOf w (n / 256)
+-- A show: modules, top step, prices, table, loads.
+abbrev showOf : (m q up down : ℕ) → (table loads : List ℕ) → Instance
+showOf m q up down f loads =
+    record {
+      modules = m;
+      topStep = q;
+      slots = length loads;
+      powerUp = up;
+      powerDown = down;
+      table = λ k. getD f k 0;
+      load = λ t. getD loads t 0;
+    }
 
--- a card's bytes: modules, top step, prices, table, loads
-abbrev cardOf : ℕ → ℕ → ℕ → ℕ → List ℕ → List ℕ → List ℕ
-cardOf m q up down f loads =
-    let size = bytesOf 1 m ++ (bytesOf 1 q ++ bytesOf 2 (length loads)) in
-    let prices = bytesOf 4 up ++ bytesOf 4 down in
-    cardMark ++ (bytesOf 2 1 ++ (size ++ (prices ++ (flatMap (bytesOf 4) f ++ flatMap (bytesOf 2) loads))))
+abbrev cardOf : (m q up down : ℕ) → (table loads : List ℕ) → List ℕ
+cardOf m q up down f loads = cardBytes (showOf m q up down f loads)
 
--- card A, as document 01 prints it
+-- Card A, as document 01 prints it.
 abbrev cardA : List ℕ
 cardA =
     0x44 ∷ 0x4C ∷ 0x53 ∷ 0x01 ∷ 0x00 ∷ 0x03 ∷ 0x02 ∷ 0x03 ∷ 0x00 ∷ 0x03 ∷ 0x00 ∷ 0x00 ∷ 0x00 ∷ 0x02 ∷ 0x00 ∷ 0x00 ∷ 0x00 ∷
@@ -53,28 +59,23 @@ cardG = cardOf 2 2 0 0 (5 ∷ 1 ∷ 9 ∷ []) (2 ∷ [])
 abbrev cardI : List ℕ
 cardI = cardOf 3 2 3 2 (1 ∷ 2 ∷ 4 ∷ []) []
 
--- the card of 01's plausible error of rounding each exact count up
+-- The card of 01's plausible error of rounding each exact count up.
 abbrev cardUp : List ℕ
 cardUp = cardOf 4 2 1 0 (1 ∷ 1 ∷ 4 ∷ []) (3 ∷ [])
 
--- example D's sheet for card A
+-- Example D's sheet for card A.
 abbrev sheetD : List ℕ
 sheetD = 2 ∷ 2 ∷ 2 ∷ 255 ∷ 0 ∷ 255 ∷ 2 ∷ 255 ∷ 255 ∷ []
 
--- card A's listing, as document 01 prints it
+-- Card A's listing, as document 01 prints it.
 abbrev listingA : List ℕ
-listingA =
-    99 ∷ 111 ∷ 115 ∷ 116 ∷ 32 ∷ 51 ∷ 50 ∷ 10 ∷
-    112 ∷ 108 ∷ 97 ∷ 110 ∷ 32 ∷ 51 ∷ 32 ∷ 49 ∷ 32 ∷ 49 ∷ 10 ∷
-    115 ∷ 108 ∷ 111 ∷ 116 ∷ 32 ∷ 49 ∷ 58 ∷ 32 ∷ 50 ∷ 32 ∷ 50 ∷ 32 ∷ 50 ∷ 10 ∷
-    115 ∷ 108 ∷ 111 ∷ 116 ∷ 32 ∷ 50 ∷ 58 ∷ 32 ∷ 48 ∷ 32 ∷ 45 ∷ 32 ∷ 45 ∷ 10 ∷
-    115 ∷ 108 ∷ 111 ∷ 116 ∷ 32 ∷ 51 ∷ 58 ∷ 32 ∷ 50 ∷ 32 ∷ 45 ∷ 32 ∷ 45 ∷ 10 ∷ []
+listingA = text "cost 32\nplan 3 1 1\nslot 1: 2 2 2\nslot 2: 0 - -\nslot 3: 2 - -\n"
 
--- a lent buffer of n bytes, full of 7
-abbrev lent : ℕ → List ℕ
-lent n = replicate n 7
+-- A buffer of n bytes, each of them 7.
+abbrev sevens : ℕ → List ℕ
+sevens n = replicate n 7
 
--- the first bytes of a buffer of n bytes are written, the rest still 7
+-- A buffer of n bytes whose first bytes are written, the others still 7.
 abbrev over : ℕ → List ℕ → List ℕ
 over n written = written ++ replicate (n - length written) 7
 
@@ -83,41 +84,41 @@ pub record Example : Type 0 where
   pub found : List (List ℕ)
   pub expected : List (List ℕ)
 
--- a call and its expected number, cost and buffers at exit
+-- A row of a table: a call and its expected number, cost and buffers at exit.
 abbrev row : String → Call → ℕ → ℕ → List (List ℕ) → Example
 row n c number cost buffers = record { name = n; found = outcome c; expected = (number ∷ cost ∷ []) ∷ buffers }
 
--- one list of numbers: as it is found, and as it is expected
+-- A row with one list of numbers: as it is found, and as it is expected.
 abbrev one : String → List ℕ → List ℕ → Example
 one n found expected = record { name = n; found = found ∷ []; expected = expected ∷ [] }
 
 starred : List Example
 starred =
-    row "A exact" (planExact cardA (lent 5) (lent 14)) 0 32 (over 5 (3 ∷ 1 ∷ 1 ∷ []) ∷ over 14 (replicate 12 0) ∷ []) ∷
+    row "A exact" (planShow exact cardA (sevens 5) (sevens 14)) 0 32 (over 5 (3 ∷ 1 ∷ 1 ∷ []) ∷ over 14 (replicate 12 0) ∷ []) ∷
     one "A listing" (printed cardA) listingA ∷
-    row "A sheet" (makeSheet cardA (3 ∷ 1 ∷ 1 ∷ []) (lent 11)) 0 32 (over 11 (2 ∷ 2 ∷ 2 ∷ 0 ∷ 255 ∷ 255 ∷ 2 ∷ 255 ∷ 255 ∷ []) ∷ []) ∷
+    row "A sheet" (makeSheet cardA (3 ∷ 1 ∷ 1 ∷ []) (sevens 11)) 0 32 (over 11 (2 ∷ 2 ∷ 2 ∷ 0 ∷ 255 ∷ 255 ∷ 2 ∷ 255 ∷ 255 ∷ []) ∷ []) ∷
     row "B" (runningCost cardA 3 4) 0 8 [] ∷
     row "C cannot serve" (runningCost cardA 2 5) 13 0 [] ∷
     row "C none" (runningCost cardA 0 0) 0 0 [] ∷
     row "D" (markSheet cardA sheetD) 0 37 [] ∷
     row "D last byte 0" (markSheet cardA (set sheetD 8 0)) 0 43 [] ∷
-    row "E exact" (planExact cardE (lent 4) (lent 28)) 0 5 (over 4 (5 ∷ 5 ∷ 5 ∷ []) ∷ over 28 (replicate 27 0) ∷ []) ∷
-    row "E coarse" (planCoarse cardE (lent 4) (lent 31)) 0 8 (over 4 (8 ∷ 8 ∷ 8 ∷ []) ∷ over 31 (replicate 30 0) ∷ []) ∷
-    row "F" (planExact cardF (lent 3) (lent 7)) 0 1 (over 3 (1 ∷ 0 ∷ []) ∷ over 7 (replicate 6 0) ∷ []) ∷
-    row "G exact" (planExact cardG (lent 2) (lent 4)) 0 2 (over 2 (2 ∷ []) ∷ over 4 (replicate 3 0) ∷ []) ∷
-    row "G coarse" (planCoarse cardG (lent 2) (lent 11)) 9 0 (lent 2 ∷ lent 11 ∷ []) ∷
+    row "E exact" (planShow exact cardE (sevens 4) (sevens 28)) 0 5 (over 4 (5 ∷ 5 ∷ 5 ∷ []) ∷ over 28 (replicate 27 0) ∷ []) ∷
+    row "E coarse" (planShow coarse cardE (sevens 4) (sevens 31)) 0 8 (over 4 (8 ∷ 8 ∷ 8 ∷ []) ∷ over 31 (replicate 30 0) ∷ []) ∷
+    row "F" (planShow exact cardF (sevens 3) (sevens 7)) 0 1 (over 3 (1 ∷ 0 ∷ []) ∷ over 7 (replicate 6 0) ∷ []) ∷
+    row "G exact" (planShow exact cardG (sevens 2) (sevens 4)) 0 2 (over 2 (2 ∷ []) ∷ over 4 (replicate 3 0) ∷ []) ∷
+    row "G coarse" (planShow coarse cardG (sevens 2) (sevens 11)) 9 0 (sevens 2 ∷ sevens 11 ∷ []) ∷
     row "H refused" (checkCard (cardOf 3 2 3 2 (0 ∷ 2 ∷ 3 ∷ []) (1 ∷ []))) 7 0 [] ∷
     row "H accepted" (checkCard (cardOf 3 2 3 2 (0 ∷ 2 ∷ 4 ∷ []) (1 ∷ []))) 0 0 [] ∷
-    row "I exact" (planExact cardI (lent 2) (lent 2)) 0 0 (lent 2 ∷ lent 2 ∷ []) ∷
-    row "I coarse" (planCoarse cardI (lent 2) (lent 2)) 0 0 (lent 2 ∷ lent 2 ∷ []) ∷
+    row "I exact" (planShow exact cardI (sevens 2) (sevens 2)) 0 0 (sevens 2 ∷ sevens 2 ∷ []) ∷
+    row "I coarse" (planShow coarse cardI (sevens 2) (sevens 2)) 0 0 (sevens 2 ∷ sevens 2 ∷ []) ∷
     one "J rack of 1" (coarseCounts 1) (0 ∷ 1 ∷ []) ∷
     one "J rack of 128" (coarseCounts 128) (0 ∷ 1 ∷ 2 ∷ 4 ∷ 8 ∷ 16 ∷ 32 ∷ 64 ∷ 128 ∷ []) ∷
     one "J rack of 200" (coarseCounts 200) (0 ∷ 1 ∷ 2 ∷ 4 ∷ 8 ∷ 16 ∷ 32 ∷ 64 ∷ 128 ∷ 200 ∷ []) ∷
     []
 
--- Further rows: a refusal by each number, the lowest of two, bounds, and two of 01's plausible errors.
-further : List Example
-further =
+-- Cards: refusals 1 to 6 and 8, the lower of two, and bounds.
+cardRows : List Example
+cardRows =
     row "wrong mark" (checkCard (set cardA 2 0)) 1 0 [] ∷
     row "L cut to 16" (checkCard (take 16 cardA)) 1 0 [] ∷
     row "L version before rack" (checkCard (set (set cardA 3 2) 5 0)) 2 0 [] ∷
@@ -132,45 +133,65 @@ further =
     row "table entry" (checkCard (cardOf 3 2 3 2 (1 ∷ 2 ∷ 1000001 ∷ []) [])) 6 0 [] ∷
     row "prices at their bounds" (checkCard (cardOf 3 2 500000000 500000000 (1000000 ∷ 1000000 ∷ 1000000 ∷ []) [])) 0 0 [] ∷
     row "load above m × Q" (checkCard (cardOf 3 2 3 2 (1 ∷ 2 ∷ 4 ∷ []) (7 ∷ []))) 8 0 [] ∷
-    row "short plan area" (planExact cardA (lent 2) (lent 12)) 10 0 (lent 2 ∷ lent 12 ∷ []) ∷
-    row "short work area" (planExact cardA (lent 3) (lent 11)) 10 0 (lent 3 ∷ lent 11 ∷ []) ∷
-    row "short area before a short plan" (makeSheet cardA [] (lent 8)) 10 0 (lent 8 ∷ []) ∷
+    row "m 257 written in one byte is m 1" (checkCard (cardOf 257 2 3 2 (1 ∷ 2 ∷ 4 ∷ []) (2 ∷ []))) 0 0 [] ∷
+    row "m 257 written in one byte serves no more than m 1" (checkCard (cardOf 257 2 3 2 (1 ∷ 2 ∷ 4 ∷ []) (3 ∷ []))) 8 0 [] ∷
+    []
+
+-- Planners: refusal 10 by each buffer, and 01's plausible error of rounding each exact count up.
+planRows : List Example
+planRows =
+    row "short plan area" (planShow exact cardA (sevens 2) (sevens 12)) 10 0 (sevens 2 ∷ sevens 12 ∷ []) ∷
+    row "short work area" (planShow exact cardA (sevens 3) (sevens 11)) 10 0 (sevens 3 ∷ sevens 11 ∷ []) ∷
+    row "plausible error: rounding up" (planShow coarse cardUp (sevens 1) (sevens 10)) 0 7 ((2 ∷ []) ∷ replicate 10 0 ∷ []) ∷
+    []
+
+-- The sheet call and marking: refusals 10 to 13, and the lower of two.
+sheetRows : List Example
+sheetRows =
+    row "short area before a short plan" (makeSheet cardA [] (sevens 8)) 10 0 (sevens 8 ∷ []) ∷
+    row "plan of 4 counts" (makeSheet cardA (3 ∷ 1 ∷ 1 ∷ 1 ∷ []) (sevens 9)) 11 0 (sevens 9 ∷ []) ∷
+    row "count 4 in slot 3 before count 0 in slot 1" (makeSheet cardA (0 ∷ 1 ∷ 4 ∷ []) (sevens 9)) 12 0 (sevens 9 ∷ []) ∷
     row "sheet of 8 bytes" (markSheet cardA (take 8 sheetD)) 11 0 [] ∷
     row "sheet of 10 bytes" (markSheet cardA (sheetD ++ (255 ∷ []))) 11 0 [] ∷
-    row "plan of 4 counts" (makeSheet cardA (3 ∷ 1 ∷ 1 ∷ 1 ∷ []) (lent 9)) 11 0 (lent 9 ∷ []) ∷
     row "step above Q" (markSheet cardA (set sheetD 0 3)) 12 0 [] ∷
-    row "count 4 in slot 3 before count 0 in slot 1" (makeSheet cardA (0 ∷ 1 ∷ 4 ∷ []) (lent 9)) 12 0 (lent 9 ∷ []) ∷
     row "too little light" (markSheet cardA (set sheetD 0 1)) 13 0 [] ∷
     row "too much light" (markSheet cardA (set sheetD 4 1)) 13 0 [] ∷
+    []
+
+-- The rounded count: held to m, a power of two, and refusals 3 and 12.
+roundRows : List Example
+roundRows =
     row "rounded 5 of 6" (roundCount 5 6) 0 6 [] ∷
     row "rounded 5 of 200" (roundCount 5 200) 0 8 [] ∷
     row "rounded 7 of 6" (roundCount 7 6) 12 0 [] ∷
-    row "plausible error: rounding up" (planCoarse cardUp (lent 1) (lent 10)) 0 7 ((2 ∷ []) ∷ replicate 10 0 ∷ []) ∷
+    row "rounded 0 of 0" (roundCount 0 0) 3 0 [] ∷
+    row "rounded 202 of 201" (roundCount 202 201) 3 0 [] ∷
     []
 
--- what is found is what is expected, computed through every definition
+-- What is found is what is expected, computed through every definition.
 agrees : Example → Bool
-unfolding sameLists sameList every sum tabulate rows keep littleEndian instanceOf cardLength convexAt convex neverFalls tableInRange
-    pricesInRange loadsInRange canServe operatingCost allCounts powerOfTwo coarseCounts roundedCount stateAt sheetLength
-    sheetEntries lightAt sheetLight stepCost changeCost sheetCost moduleByte slotRow sheetOf planCost planServes plansInOrder
-    cheapest cheapestOf leastPlan rightLength entriesInRange loadsServed anyShort requestOf applies refusals lowest successCost
-    answer atExit exactPlanAtExit exactWorkAtExit coarsePlanAtExit coarseWorkAtExit sheetAtExit buffersAtExit outcome flatMap
-    headD digits decimal costLine planLine stepText slotLine listing refusedLine printedFor printed
+unfolding sameLists sameList every allOf sum tabulate rows keep littleEndian bytesOf instanceOf cardBytes cardLength convexAt convex
+    neverFalls tableInRange pricesInRange loadsInRange canServe operatingCost allCounts powerOfTwo coarseCounts roundedCount stateAt
+    sheetLength sheetEntries lightAt sheetLight stepCost changeCost sheetOperatingCost sheetSwitchingCost sheetCost moduleByte
+    slotRow sheetOf planCost planServes plansInOrder cheapest cheapestOf leastPlan allowedCounts workBytes plannerRefusals plannedBy
+    rightLength entriesInRange loadsServed buffersOf anyShort requestOf applies refusals lowest successCost answer atExit
+    buffersAtExit planAtExit outcome flatMap headD digits decimal costLine planLine stepText slotLine listing refusedLine
+    printedFor printed
 agrees e = sameLists (e .found) (e .expected)
 
--- Nothing proves it: where a row does not hold, the check names it by this.
+-- A type that nothing proves: where a row does not hold, the check's error shows it with the row's name.
 data Failed (name : String) : Type 0 where
 
 abbrev verdict : String → Bool → Type 0
 verdict n true = Unit {0}
 verdict n false = Failed n
 
--- every row holds
+-- Every row of a table holds.
 abbrev AllHold : List Example → Type 0
 AllHold [] = Unit {0}
 AllHold (e ∷ es) = verdict (e .name) (agrees e) × AllHold es
 
--- what a row that holds says
+-- A row that holds says that found and expected are equal.
 holds-equal : (e : Example) → verdict (e .name) (agrees e) → e .found ≡ e .expected
 unfolding agrees
 holds-equal e v = same-lists-equal (e .found) (e .expected) (go (sameLists (e .found) (e .expected)) v)
@@ -185,24 +206,24 @@ numbers c = numberOf (answer c) ∷ []
 abbrev costs : Call → List ℕ
 costs c = costOf (answer c) ∷ []
 
--- Wrong programs of document 01's last section, and two plausible errors: `expected` is what the program would answer.
+-- Wrong programs of document 01's last section, and one of its plausible errors: `expected` is what the program would answer.
 wrong : List Example
 wrong =
-    one "full rack always (A)" (exactPlanAtExit cardA (lent 5) (lent 14)) (over 5 (3 ∷ 3 ∷ 3 ∷ [])) ∷
-    one "slot 1's count repeated (F)" (exactPlanAtExit cardF (lent 3) (lent 7)) (over 3 (1 ∷ 1 ∷ [])) ∷
-    one "no plan written (A)" (exactPlanAtExit cardA (replicate 5 255) (lent 14)) (replicate 5 255) ∷
+    one "full rack always (A)" (planAtExit (planShow exact cardA (sevens 5) (sevens 14))) (over 5 (3 ∷ 3 ∷ 3 ∷ [])) ∷
+    one "slot 1's count repeated (F)" (planAtExit (planShow exact cardF (sevens 3) (sevens 7))) (over 3 (1 ∷ 1 ∷ [])) ∷
+    one "no plan written (A)" (planAtExit (planShow exact cardA (replicate 5 255) (sevens 14))) (replicate 5 255) ∷
     one "8 in every card (A)" (numbers (checkCard cardA)) (8 ∷ []) ∷
-    one "10 in every card (A)" (numbers (planExact cardA (lent 5) (lent 14))) (10 ∷ []) ∷
+    one "10 in every card (A)" (numbers (planShow exact cardA (sevens 5) (sevens 14))) (10 ∷ []) ∷
     one "invented cost: the least (D)" (costs (markSheet cardA sheetD)) (32 ∷ []) ∷
-    one "rounding exact counts up" (coarsePlanAtExit cardUp (lent 1) (lent 10)) (4 ∷ []) ∷
+    one "rounding exact counts up" (planAtExit (planShow coarse cardUp (sevens 1) (sevens 10))) (4 ∷ []) ∷
     []
 
--- no row holds
+-- No row of a table holds.
 abbrev NoneHold : List Example → Type 0
 NoneHold [] = Unit {0}
 NoneHold (e ∷ es) = verdict (e .name) (not (agrees e)) × NoneHold es
 
--- what a row that does not hold says
+-- A row that does not hold says that found and expected differ.
 fails-differ : (e : Example) → verdict (e .name) (not (agrees e)) → e .found ≡ e .expected → ⊥
 unfolding agrees
 fails-differ e v p = go (sameLists (e .found) (e .expected)) v (ap (sameLists (e .found)) (sym p) ∙ same-selves (e .found))
@@ -216,9 +237,21 @@ starred-hold : AllHold starred
 unfolding starred agrees
 starred-hold = omega arith
 
-further-hold : AllHold further
-unfolding further agrees
-further-hold = omega arith
+card-rows-hold : AllHold cardRows
+unfolding cardRows agrees
+card-rows-hold = omega arith
+
+plan-rows-hold : AllHold planRows
+unfolding planRows agrees
+plan-rows-hold = omega arith
+
+sheet-rows-hold : AllHold sheetRows
+unfolding sheetRows agrees
+sheet-rows-hold = omega arith
+
+round-rows-hold : AllHold roundRows
+unfolding roundRows agrees
+round-rows-hold = omega arith
 
 wrong-differ : NoneHold wrong
 unfolding wrong agrees

@@ -1,11 +1,12 @@
 -- The show card and what it says (document 01, 'The show card').
 use Prim.Native.Nat.{ℕ, _+_, _-_, _*_}
 use mathlib.Core.Bool.{Bool, _&&_}
-use mathlib.Core.List.{List, [], _∷_}
+use mathlib.Core.List.{List, [], _∷_, _++_}
 use lib.ListN.{take}
 use lib.Dec.{leb}
 use Rattle.lists.specs.Tests.{every}
-use Rattle.lists.specs.Bytes.{littleEndian}
+use Rattle.lists.specs.Lists.{rows}
+use Rattle.lists.specs.Bytes.{littleEndian, bytesOf}
 
 -- A show: the rack (m modules, top step Q), T slots, the warm-up and cool-down price, the table F(0) to F(Q) and the loads.
 -- Slots are counted from 0 here, and table and loads are functions of an index; beyond Q and T their values mean nothing.
@@ -18,39 +19,82 @@ pub record Instance : Type 0 where
   pub table : ℕ → ℕ
   pub load : ℕ → ℕ
 
--- the places of the fields: F(k), and the load of slot k where the top step is q
-abbrev pub entryPlace : ℕ → ℕ
-entryPlace k = 17 + 4 * k
+-- The places of a card's fields: the column 'at' of the card's table. The mark begins at 0, and the head ends where the table begins.
+abbrev pub versionPlace : ℕ
+versionPlace = 3
 
+abbrev pub modulesPlace : ℕ
+modulesPlace = 5
+
+abbrev pub topStepPlace : ℕ
+topStepPlace = 6
+
+abbrev pub slotsPlace : ℕ
+slotsPlace = 7
+
+abbrev pub powerUpPlace : ℕ
+powerUpPlace = 9
+
+abbrev pub powerDownPlace : ℕ
+powerDownPlace = 13
+
+abbrev pub headLength : ℕ
+headLength = 17
+
+-- The place of F(k).
+abbrev pub entryPlace : ℕ → ℕ
+entryPlace k = headLength + 4 * k
+
+-- The place of the load of slot t (from 0), where the top step is q.
 abbrev pub loadPlace : ℕ → ℕ → ℕ
-loadPlace q k = 17 + 4 * (q + 1) + 2 * k
+loadPlace q t = headLength + 4 * (q + 1) + 2 * t
 
 -- The fields of a card. Total: a missing byte reads as 0, so of a card that is refused by 1 to 5 the result means nothing.
 unfoldable pub instanceOf : List ℕ → Instance
 instanceOf card =
     record {
-      modules = littleEndian 1 card 5;
-      topStep = littleEndian 1 card 6;
-      slots = littleEndian 2 card 7;
-      powerUp = littleEndian 4 card 9;
-      powerDown = littleEndian 4 card 13;
+      modules = littleEndian 1 card modulesPlace;
+      topStep = littleEndian 1 card topStepPlace;
+      slots = littleEndian 2 card slotsPlace;
+      powerUp = littleEndian 4 card powerUpPlace;
+      powerDown = littleEndian 4 card powerDownPlace;
       table = λ k. littleEndian 4 card (entryPlace k);
-      load = λ k. littleEndian 2 card (loadPlace (littleEndian 1 card 6) k);
+      load = λ t. littleEndian 2 card (loadPlace (littleEndian 1 card topStepPlace) t);
     }
 
 -- 'mark, hex 44 4C 53 ("DLS")'
 abbrev pub cardMark : List ℕ
 cardMark = 0x44 ∷ 0x4C ∷ 0x53 ∷ []
 
+-- The bytes of a card where the mark stands.
 abbrev pub markOf : List ℕ → List ℕ
-markOf card = take 3 card
+markOf card = take versionPlace card
 
+-- 'version, 1'
+abbrev pub cardVersion : ℕ
+cardVersion = 1
+
+-- The version that a card says it has.
 abbrev pub versionOf : List ℕ → ℕ
-versionOf card = littleEndian 2 card 3
+versionOf card = littleEndian 2 card versionPlace
 
--- 'The length is 17 + 4(Q + 1) + 2T, no byte more.'
+-- 'The length is 17 + 4(Q + 1) + 2T, no byte more.' It is where the load of one slot more would begin.
 unfoldable pub cardLength : Instance → ℕ
-cardLength i = 17 + 4 * (i .topStep + 1) + 2 * i .slots
+cardLength i = loadPlace (i .topStep) (i .slots)
+
+-- The card of a show: its fields one after the other, as the card's table has them. A field too large for its bytes loses its high
+-- part.
+unfoldable pub cardBytes : Instance → List ℕ
+cardBytes i =
+    let rack = bytesOf 1 (i .modules) ++ (bytesOf 1 (i .topStep) ++ bytesOf 2 (i .slots)) in
+    let prices = bytesOf 4 (i .powerUp) ++ bytesOf 4 (i .powerDown) in
+    let entries = rows (i .topStep + 1) (λ k. bytesOf 4 (i .table k)) in
+    let loads = rows (i .slots) (λ t. bytesOf 2 (i .load t)) in
+    cardMark ++ (bytesOf 2 cardVersion ++ (rack ++ (prices ++ (entries ++ loads))))
+
+-- 'm, 1 to 200'; 'Q, 1 to 200'
+abbrev pub rackNumber : ℕ → Bool
+rackNumber n = leb 1 n && leb n 200
 
 -- 'The table is convex: F(k−1) + F(k+1) ≥ 2F(k) for 1 ≤ k < Q.' Here k counts from 0.
 unfoldable pub convexAt : (ℕ → ℕ) → ℕ → Bool
@@ -74,3 +118,9 @@ pricesInRange i = leb (i .powerUp) 500000000 && (leb (i .powerDown) 500000000 &&
 -- 'T loads, each at most m × Q'
 unfoldable pub loadsInRange : Instance → Bool
 loadsInRange i = every (i .slots) (λ t. leb (i .load t) (i .modules * i .topStep))
+
+-- A show is in order if its numbers keep to the bounds of the card's table and its table is convex: refusals 3, 4 and 6 to 8.
+unfoldable pub inOrder : Instance → Bool
+inOrder i =
+    (rackNumber (i .modules) && rackNumber (i .topStep)) &&
+    (leb (i .slots) 1024 && (pricesInRange i && (convex (i .topStep) (i .table) && loadsInRange i)))

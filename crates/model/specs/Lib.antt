@@ -6,6 +6,7 @@ pub mod Counts
 pub mod Sheets
 pub mod Thesis
 pub mod Plans
+pub mod Planners
 pub mod Calls
 pub mod Promises
 pub mod Listing

@@ -11,14 +11,16 @@ use Rattle.model.specs.Instance.{Instance}
 use Rattle.model.specs.Counts.{canServe}
 use Rattle.model.specs.Sheets.{off, sheetCost}
 
--- 'in a slot with count n, modules 1 to n burn, the first r at q + 1, the others at q'
+-- The byte of module k (from 0) in a slot with count n and load l: 'in a slot with count n, modules 1 to n burn, the first r at
+-- q + 1, the others at q'.
 unfoldable pub moduleByte : ℕ → ℕ → ℕ → ℕ
 moduleByte n l k = cond (ltb k n) (cond (ltb k (l % n)) (l / n + 1) (l / n)) off
 
+-- The bytes of a slot with count n and load l, for all modules of the rack.
 unfoldable pub slotRow : Instance → ℕ → ℕ → List ℕ
 slotRow i n l = tabulate (i .modules) (moduleByte n l)
 
--- 'Sheet of a plan'
+-- 'Sheet of a plan': the bytes of its slots, one slot after the other.
 unfoldable pub sheetOf : Instance → List ℕ → List ℕ
 sheetOf i p = rows (i .slots) (λ t. slotRow i (getD p t 0) (i .load t))
 
@@ -26,47 +28,52 @@ sheetOf i p = rows (i .slots) (λ t. slotRow i (getD p t 0) (i .load t))
 unfoldable pub planCost : Instance → List ℕ → ℕ
 planCost i p = sheetCost i (sheetOf i p)
 
--- each count of a plan can serve its slot's load
+-- Each count of a plan can serve its slot's load.
 unfoldable pub planServes : Instance → List ℕ → Bool
 planServes i p = every (i .slots) (λ t. canServe i (getD p t 0) (i .load t))
 
--- n is one of the list
+-- The number n is one of the list.
 abbrev pub Member : ℕ → List ℕ → Type 0
 Member n l = (j : ℕ) × (j < length l) × (getD l j 0 ≡ n)
 
--- a plan that serves every load with counts from the list
+-- A plan that serves every load with counts from the list.
 pub record Allowed (i : Instance) (counts : List ℕ) (p : List ℕ) : Type 0 where
   pub slotwise : length p ≡ i .slots
   pub member : (t : ℕ) → t < i .slots → Member (getD p t 0) counts
   pub served : planServes i p ≡ true
 
--- 'the smallest count in the last slot, then in the slot before it, and so on back': where p and r agree in all slots after t,
--- p has no more than r in slot t
+-- 'the smallest count in the last slot, then in the slot before it, and so on back': where the plans p and r agree in all slots
+-- after t, p has no more than r in slot t.
 abbrev pub NotAfter : Instance → List ℕ → List ℕ → Type 0
 NotAfter i p r = (t : ℕ) → t < i .slots → ((u : ℕ) → t < u → u < i .slots → getD p u 0 ≡ getD r u 0) → getD p t 0 ≤ getD r t 0
 
--- 'a plan that serves every load at least total cost. Among equals, the smallest count in the last slot, ..'; least 'among the
--- plans that serve every load with the counts allowed it'
+-- The least plan over a list of allowed counts: 'a plan that serves every load at least total cost. Among equals, the smallest count
+-- in the last slot, ..'; least 'among the plans that serve every load with the counts allowed it'.
 pub record LeastPlan (i : Instance) (counts : List ℕ) (p : List ℕ) : Type 0 where
   pub allowed : Allowed i counts p
   pub least : (r : List ℕ) → Allowed i counts r → planCost i p ≤ planCost i r
   pub first : (r : List ℕ) → Allowed i counts r → planCost i r ≡ planCost i p → NotAfter i p r
 
--- The same as a function, for contracts and examples: of all plans in tie order the first of least cost among those that serve.
--- plans with t slots in tie order: the last slot's count counts most
+-- All plans with t slots in tie order: the last slot's count counts most.
 unfoldable pub plansInOrder : List ℕ → ℕ → List (List ℕ)
 plansInOrder counts zero = [] ∷ []
 plansInOrder counts (suc t) = flatMap (λ n. map (λ p. p ++ (n ∷ [])) (plansInOrder counts t)) counts
 
--- the first of least cost among `best` and then the list
+-- The first plan of least cost among `best` and then the list.
 unfoldable pub cheapest : (List ℕ → ℕ) → List ℕ → List (List ℕ) → List ℕ
 cheapest cost best [] = best
 cheapest cost best (p ∷ ps) = cheapest cost (cond (ltb (cost p) (cost best)) p best) ps
 
+-- The first plan of least cost in a list; the plan of no slot where the list is empty.
 unfoldable pub cheapestOf : (List ℕ → ℕ) → List (List ℕ) → List ℕ
 cheapestOf cost [] = []
 cheapestOf cost (p ∷ ps) = cheapest cost p ps
 
--- Where no plan serves, which an accepted card rules out, it is the empty list and means nothing.
+-- The least plan as a function, for contracts and examples: of all plans in tie order that serve, the first of least cost. Where no
+-- plan serves, which an accepted card rules out, it is the empty list and means nothing.
 unfoldable pub leastPlan : Instance → List ℕ → List ℕ
 leastPlan i counts = cheapestOf (planCost i) (keep (planServes i) (plansInOrder counts (i .slots)))
+
+-- The least cost of a plan over a list of allowed counts.
+abbrev pub leastCost : Instance → List ℕ → ℕ
+leastCost i counts = planCost i (leastPlan i counts)

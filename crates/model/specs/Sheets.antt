@@ -6,6 +6,7 @@ use lib.ListN.{length, getD}
 use lib.Dec.{leb, ltb, eqb}
 use Rattle.lists.specs.Tests.{every}
 use Rattle.lists.specs.Sums.{sum}
+use Rattle.lists.specs.Lists.{tabulate}
 use Rattle.model.specs.Instance.{Instance}
 
 -- 'the step, or 255 for off'
@@ -15,9 +16,10 @@ off = 255
 abbrev pub isOff : ℕ → Bool
 isOff b = eqb b off
 
--- The step or off of module k (from 0) in slot t, where slots are 1 to T: 'one byte for each slot and module, slot by slot,
--- module 1 first'; 'All are off before slot 1 and after the last slot.'
-unfoldable pub stateAt : Instance → List ℕ → ℕ → ℕ → ℕ
+-- The state of module k (from 0) at a time: its step, or off. Time 0 is before the first slot, and slot t (from 0) is time t + 1.
+-- 'All are off before slot 1 and after the last slot'; in a slot the state is the sheet's byte, 'one byte for each slot and module,
+-- slot by slot, module 1 first'.
+unfoldable pub stateAt : Instance → List ℕ → (time : ℕ) → ℕ → ℕ
 stateAt i s zero k = off
 stateAt i s (suc t) k = cond (ltb t (i .slots)) (getD s (t * i .modules + k) off) off
 
@@ -29,16 +31,19 @@ sheetLength i s = eqb (length s) (i .modules * i .slots)
 unfoldable pub sheetEntries : Instance → List ℕ → Bool
 sheetEntries i s = every (length s) (λ k. leb (getD s k off) (i .topStep) || isOff (getD s k off))
 
--- 'and in every slot the steps of the burning modules sum to the load.'
+-- The step of a byte, 0 for off.
 abbrev pub stepOf : ℕ → ℕ
 stepOf b = cond (isOff b) 0 b
 
-unfoldable pub lightAt : Instance → List ℕ → ℕ → ℕ
-lightAt i s t = sum (i .modules) (λ k. stepOf (stateAt i s t k))
+-- The steps of the active modules at a time, summed.
+unfoldable pub lightAt : Instance → List ℕ → (time : ℕ) → ℕ
+lightAt i s time = sum (i .modules) (λ k. stepOf (stateAt i s time k))
 
+-- 'and in every slot the steps of the burning modules sum to the load.'
 unfoldable pub sheetLight : Instance → List ℕ → Bool
 sheetLight i s = every (i .slots) (λ t. eqb (lightAt i s (suc t)) (i .load t))
 
+-- 'A sheet serves it' if all three hold.
 unfoldable pub serves : Instance → List ℕ → Bool
 serves i s = sheetLength i s && (sheetEntries i s && sheetLight i s)
 
@@ -50,9 +55,23 @@ stepCost i b = cond (isOff b) 0 (i .table b)
 unfoldable pub changeCost : Instance → ℕ → ℕ → ℕ
 changeCost i a b = cond (isOff a) (cond (isOff b) 0 (i .powerUp)) (cond (isOff b) (i .powerDown) 0)
 
--- 'F(step) summed over all slots and burning modules, plus the prices of all changes, module by module'; the changes into
--- slots 1 to T and the one after the last slot
-unfoldable pub sheetCost : Instance → List ℕ → ℕ
-sheetCost i s =
-    sum (i .slots) (λ t. sum (i .modules) (λ k. stepCost i (stateAt i s (suc t) k))) +
+-- The operating cost of a sheet: 'F(step) summed over all slots and burning modules'.
+unfoldable pub sheetOperatingCost : Instance → List ℕ → ℕ
+sheetOperatingCost i s = sum (i .slots) (λ t. sum (i .modules) (λ k. stepCost i (stateAt i s (suc t) k)))
+
+-- The switching cost of a sheet: 'the prices of all changes, module by module', into each slot and after the last.
+unfoldable pub sheetSwitchingCost : Instance → List ℕ → ℕ
+sheetSwitchingCost i s =
     sum (i .slots + 1) (λ t. sum (i .modules) (λ k. changeCost i (stateAt i s t k) (stateAt i s (suc t) k)))
+
+-- 'The sheet's cost is F(step) summed over all slots and burning modules, plus the prices of all changes, module by module.'
+unfoldable pub sheetCost : Instance → List ℕ → ℕ
+sheetCost i s = sheetOperatingCost i s + sheetSwitchingCost i s
+
+-- 'A count is how many modules burn': that of a sheet at a time.
+unfoldable pub activeAt : Instance → List ℕ → (time : ℕ) → ℕ
+activeAt i s time = sum (i .modules) (λ k. cond (isOff (stateAt i s time k)) 0 1)
+
+-- The counts of a sheet, slot by slot.
+unfoldable pub countsOf : Instance → List ℕ → List ℕ
+countsOf i s = tabulate (i .slots) (λ t. activeAt i s (suc t))

@@ -9,7 +9,7 @@ use Rattle.model.specs.Instance.{Instance}
 use Rattle.model.specs.Counts.{operatingCost}
 use Rattle.model.specs.Sheets.{stateAt, isOff, stepOf}
 
--- A schedule: the state s of server k at time t (0 or 1), and its assigned load λ there. Times are 1 to T; server k counts from 0.
+-- A schedule: the state s of server k at time t (0 or 1), and its assigned load λ there. Times are 1 to T; servers count from 0.
 pub record Schedule : Type 0 where
   pub active : ℕ → ℕ → ℕ
   pub assigned : ℕ → ℕ → ℕ
@@ -18,30 +18,31 @@ pub record Schedule : Type 0 where
 abbrev pub switchingPrice : Instance → ℕ
 switchingPrice i = i .powerUp + i .powerDown
 
--- (2.2) with f = F; the truncated difference is max{0, ..}
+-- (2.2), the cost of a schedule, with f = F; the truncated difference is max{0, ..}.
 unfoldable pub scheduleCost : Instance → Schedule → ℕ
 scheduleCost i σ =
     sum (i .slots) (λ t. sum (i .modules) (λ k. i .table (σ .assigned (suc t) k) * σ .active (suc t) k)) +
     switchingPrice i * sum (i .slots) (λ t. sum (i .modules) (λ k. σ .active (suc t) k - σ .active t k))
 
--- (2.3)
+-- (2.3), a schedule that is feasible: in every slot the loads of the active servers sum to the slot's load.
 abbrev pub Feasible : Instance → Schedule → Type 0
 Feasible i σ = (t : ℕ) → t < i .slots → sum (i .modules) (λ k. σ .assigned (suc t) k * σ .active (suc t) k) ≡ i .load t
 
--- the states and steps of a sheet
+-- The states and steps of a sheet as a schedule.
 unfoldable pub scheduleOf : Instance → List ℕ → Schedule
 scheduleOf i s =
     record { active = λ t k. cond (isOff (stateAt i s t k)) 0 1; assigned = λ t k. stepOf (stateAt i s t k) }
 
--- the count x at time t of a plan, with x = prev at time 0
+-- The count x of a plan at time t, with x = prev at time 0.
 unfoldable pub countAt : ℕ → List ℕ → ℕ → ℕ
 countAt prev p zero = prev
 countAt prev p (suc t) = getD p t 0
 
--- (3.9) is operatingCost; (3.11), (3.12)
-unfoldable pub stepUp : Instance → ℕ → ℕ → ℕ → ℕ
-stepUp i prev x l = operatingCost i x l + switchingPrice i * (x - prev)
+-- The cost of a slot with load l and x active modules, where prev were active before it: the operating cost (3.9), and the switching
+-- price for each module that goes on (3.11, 3.12).
+unfoldable pub slotCost : Instance → (prev x l : ℕ) → ℕ
+slotCost i prev x l = operatingCost i x l + switchingPrice i * (x - prev)
 
--- (3.13): the cost by counts
-unfoldable pub countsCost : Instance → ℕ → List ℕ → ℕ
-countsCost i prev p = sum (i .slots) (λ t. stepUp i (countAt prev p t) (countAt prev p (suc t)) (i .load t))
+-- (3.13): the cost of a plan by its counts, where prev modules were active before the first slot.
+unfoldable pub countsCost : Instance → (prev : ℕ) → List ℕ → ℕ
+countsCost i prev p = sum (i .slots) (λ t. slotCost i (countAt prev p t) (countAt prev p (suc t)) (i .load t))

@@ -1,0 +1,37 @@
+-- The planners as data: what the exact and the coarse planner differ in stands in tables (document 01, 'The plans').
+use Prim.Native.Nat.{ℕ, _+_, _*_}
+use mathlib.Core.List.{List, [], _∷_}
+use Rattle.model.specs.declared.Refusal.{Refusal}
+use Rattle.model.specs.declared.Refusal.the-variants.{NotMonotone, BufferTooShort}
+use Rattle.model.specs.Instance.{Instance}
+use Rattle.model.specs.Counts.{allCounts, coarseCounts}
+use Rattle.model.specs.Plans.{leastPlan}
+
+pub data Planner : Type 0 where
+  exact : Planner
+  coarse : Planner
+
+-- The counts allowed a planner in a rack of m: 'all from 0 to m or the coarse ones'.
+unfoldable pub allowedCounts : Planner → (m : ℕ) → List ℕ
+allowedCounts exact m = allCounts m
+allowedCounts coarse m = coarseCounts m
+
+-- 'a work area of at least (m + 1)T bytes for exact, 10T for coarse'
+unfoldable pub workBytes : Planner → Instance → ℕ
+workBytes exact i = (i .modules + 1) * i .slots
+workBytes coarse i = 10 * i .slots
+
+-- The refusals after the card's own: 'the two planners add 10, the coarse one also 9'.
+unfoldable pub plannerRefusals : Planner → List Refusal
+plannerRefusals exact = BufferTooShort ∷ []
+plannerRefusals coarse = NotMonotone ∷ BufferTooShort ∷ []
+
+-- How many times the least cost of a sheet a planner's cost may be (document 00, condition 3): the exact planner's is the least, the
+-- coarse one's 'at most twice the least'.
+abbrev pub ratioOf : Planner → ℕ
+ratioOf exact = 1
+ratioOf coarse = 2
+
+-- 'each plan is least among the plans that serve every load with the counts allowed it'
+unfoldable pub plannedBy : Planner → Instance → List ℕ
+plannedBy k i = leastPlan i (allowedCounts k (i .modules))
