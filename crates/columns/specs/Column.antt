@@ -11,11 +11,11 @@ use Rattle.model.specs.Instance.{Instance}
 use Rattle.model.specs.Counts.{canServe, operatingCost}
 use Rattle.model.specs.Thesis.{switchingPrice}
 
--- the count at a place
+-- The count at a place.
 abbrev pub countAtPlace : List ℕ → ℕ → ℕ
 countAtPlace counts j = getD counts j 0
 
--- the last place
+-- The last place of a list.
 abbrev pub lastPlace : List ℕ → ℕ
 lastPlace counts = length counts - 1
 
@@ -26,69 +26,77 @@ pub record Ascending (counts : List ℕ) (m : ℕ) : Type 0 where
   pub last : countAtPlace counts (lastPlace counts) ≡ m
   pub rises : (j : ℕ) → j + 1 < length counts → countAtPlace counts j < countAtPlace counts (j + 1)
 
--- a cost, and the place that it comes from
+-- A list of allowed counts in which each count is at most r times one more than the count before it.
+abbrev pub GrowsBy : (r : ℕ) → List ℕ → Type 0
+GrowsBy r counts = (j : ℕ) → j + 1 < length counts → countAtPlace counts (j + 1) ≤ r * (countAtPlace counts j + 1)
+
+-- A cost, and the place that it comes from.
 pub record Choice : Type 0 where
   pub cost : ℕ
   pub at : ℕ
 
--- the first on a tie
+-- The choice of lower cost, the first one on a tie.
 abbrev pub cheaper : Choice → Choice → Choice
 cheaper a b = cond (leb (a .cost) (b .cost)) a b
 
--- serving the load l with n modules at a place, where the slots before cost `before`
+-- Serving the load l with n modules at a place, where the slots before cost `before`.
 abbrev pub servedAt : Instance → (n l before place : ℕ) → Choice
 servedAt i n l before place = record { cost = before + operatingCost i n l; at = place }
 
--- that if n modules can serve it, or the choice of the place above: the lower place on a tie
+-- The choice at a place with n modules: serving there, if n modules can, or the choice of the place above; the lower place on a tie.
 unfoldable pub servedOrAbove : Instance → (n l before place : ℕ) → Choice → Choice
 servedOrAbove i n l before place above = cond (canServe i n l) (cheaper (servedAt i n l before place) above) above
 
--- the choice of the place below, with the price of the modules switched on from there
+-- The choice of the place below, with the price of the modules switched on from there.
 abbrev pub raised : ℕ → List ℕ → Choice → ℕ → Choice
 raised price counts c j = record { cost = c .cost + price * (countAtPlace counts (suc j) - countAtPlace counts j); at = c .at }
 
--- the upward pass over given choices: the lower place's choice on a tie
+-- The upward pass over given choices: the lower place's choice on a tie.
 unfoldable pub rising : ℕ → List ℕ → (ℕ → Choice) → ℕ → Choice
 rising price counts given zero = given zero
 rising price counts given (suc j) = cheaper (raised price counts (rising price counts given j) j) (given (suc j))
 
 -- One slot with load l, after a column.
 module _ (i : Instance) (counts : List ℕ) (l : ℕ) (before : ℕ → ℕ) where
-  -- serving with the count at place j
-  abbrev pub own : ℕ → Choice
-  own j = servedAt i (countAtPlace counts j) l (before j) j
+  -- Serving with the count at place j.
+  abbrev pub servedHere : ℕ → Choice
+  servedHere j = servedAt i (countAtPlace counts j) l (before j) j
 
-  -- the best of the places from j up, where j is d below the last place
+  -- The downward pass at the place d below the last: the best of the places from there up.
   unfoldable pub fromTop : ℕ → Choice
-  fromTop zero = own (lastPlace counts)
+  fromTop zero = servedHere (lastPlace counts)
   fromTop (suc d) =
       servedOrAbove i (countAtPlace counts (lastPlace counts - suc d)) l (before (lastPlace counts - suc d)) (lastPlace counts - suc d)
       (fromTop d)
 
+  -- The downward pass at place j.
   unfoldable pub downward : ℕ → Choice
   downward j = fromTop (lastPlace counts - j)
 
-  -- the best of all places
+  -- Both passes at place j: the best of all places.
   unfoldable pub upward : ℕ → Choice
   upward j = rising (switchingPrice i) counts downward j
 
--- The columns and selections of all slots, from a start count.
+-- The search through all slots, from a start count.
 module _ (i : Instance) (counts : List ℕ) (start : ℕ) where
+  -- The column after t slots.
   unfoldable pub column : ℕ → ℕ → ℕ
   column zero = λ j. switchingPrice i * (countAtPlace counts j - start)
   column (suc t) = λ j. upward i counts (i .load t) (column t) j .cost
 
+  -- The places that slot t (from 0) is served from, by the place held after it.
   unfoldable pub selection : ℕ → ℕ → ℕ
   selection t j = upward i counts (i .load t) (column t) j .at
 
-  -- the way back from place j after t slots
+  -- The counts of the first t slots, by the way back from place j after them.
   unfoldable pub wayBack : ℕ → ℕ → List ℕ
   wayBack zero j = []
   wayBack (suc t) j = wayBack t (selection t j) ++ (countAtPlace counts (selection t j) ∷ [])
 
-  -- the plan that the selections lead to, and its cost
+  -- The plan that the selections lead to.
   unfoldable pub searchedPlan : List ℕ
   searchedPlan = wayBack (i .slots) 0
 
+  -- The cost of the searched plan.
   unfoldable pub searchedCost : ℕ
   searchedCost = column (i .slots) 0

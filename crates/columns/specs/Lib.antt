@@ -1,4 +1,4 @@
--- Column has the definitions; Places and Laws have laws of them, which no contract cites.
+-- Column has the definitions; Places and ColumnLaws have laws of them, which no contract cites.
 pub mod Column
 pub mod Places
-pub mod Laws
+pub mod ColumnLaws

@@ -17,11 +17,11 @@ module _ {counts : List ℕ} {m : ℕ} (asc : Ascending counts m) where
   in-order : InOrder _<_ counts
   in-order = rising-in-order counts (asc .rises)
 
-  -- a higher place has no lower count
+  -- A higher place has no lower count.
   pub count-rises : (j k : ℕ) → j ≤ k → k < length counts → countAtPlace counts j ≤ countAtPlace counts k
   count-rises = in-order-le in-order
 
-  -- of two counts the lower stands at the lower place
+  -- Of two counts the lower stands at the lower place.
   pub place-below : (j k : ℕ) → j < length counts → countAtPlace counts j ≤ countAtPlace counts k → j ≤ k
   place-below j k inside h =
       ⊎-elim (λ (g : j ≤ k). g) (λ (g : k < j). omega (arith, in-order-at in-order 0 k j g inside)) (le-or-lt j k)
@@ -29,12 +29,12 @@ module _ {counts : List ℕ} {m : ℕ} (asc : Ascending counts m) where
   pub last-inside : lastPlace counts < length counts
   last-inside = omega (arith, asc .two)
 
-  -- the last place is the full rack, which serves
+  -- The last place is the full rack, which serves every load that fits it.
   pub last-serves :
       (i : Instance) (l : ℕ) → l ≤ m * i .topStep → canServe i (countAtPlace counts (lastPlace counts)) l ≡ true
   unfolding canServe
   last-serves i l fits = rw (asc .last) (le-leb l (m * i .topStep) fits)
 
-  -- no count exceeds the rack
+  -- No count exceeds the rack.
   pub count-fits : (j : ℕ) → j < length counts → countAtPlace counts j ≤ m
   count-fits j inside = omega (arith, asc .last, count-rises j (lastPlace counts) (omega arith) last-inside)

@@ -7,14 +7,13 @@ use native.Mathlib.Omega.{arith}
 use lib.ListN.{length}
 use lib.Dec.{leb}
 use borrow.Author.Tests.{leb-true, ltb-false, eqb-true, not-false}
-use Rattle.lists.specs.Tests.{every-at, and-left, and-right}
+use Rattle.lists.specs.Tests.{every-at, allOf, and-left, and-right}
 use Rattle.model.specs.declared.Refusal.the-variants.{RackSize, SlotCount, CardLength, PriceRange, NotConvex, LoadRange}
-use Rattle.model.specs.declared.Answer.the-variants.{Cost}
-use Rattle.model.specs.Instance.{instanceOf, cardLength, convex, tableInRange, pricesInRange, loadsInRange}
-use Rattle.model.specs.Calls.{checkCard, applies, requestOf, answer, refusals, successCost, rackNumber}
+use Rattle.model.specs.Instance.{instanceOf, loadPlace, cardLength, rackNumber, convex, tableInRange, pricesInRange, loadsInRange}
+use Rattle.model.specs.Calls.{checkCard, applies, requestOf, answer, refusals, successCost, Accepted}
 use Rattle.laws.specs.Lowest.{lowest-passed}
 
--- no refusal from 3 to 8 applies
+-- No refusal from 3 to 8 applies to a card.
 record Passes (s : List ℕ) : Type 0 where
   rack : applies (requestOf (checkCard s)) RackSize ≡ false
   slots : applies (requestOf (checkCard s)) SlotCount ≡ false
@@ -23,7 +22,7 @@ record Passes (s : List ℕ) : Type 0 where
   convexity : applies (requestOf (checkCard s)) NotConvex ≡ false
   loads : applies (requestOf (checkCard s)) LoadRange ≡ false
 
-passes : (s : List ℕ) → answer (checkCard s) ≡ Cost 0 → Passes s
+passes : (s : List ℕ) → Accepted s → Passes s
 unfolding answer refusals successCost
 passes s e =
     let mark = lowest-passed _ _ _ e in
@@ -36,25 +35,25 @@ passes s e =
     let loads = lowest-passed _ _ _ (convexity .1) in
     record { rack = rack .0; slots = slots .0; size = size .0; prices = prices .0; convexity = convexity .0; loads = loads .0 }
 
-module _ (s : List ℕ) (given : answer (checkCard s) ≡ Cost 0) where
-  rack-numbers : (rackNumber (instanceOf s .modules) && rackNumber (instanceOf s .topStep)) ≡ true
-  unfolding applies requestOf
+module _ (s : List ℕ) (given : Accepted s) where
+  rack-numbers : (rackNumber (instanceOf s .modules) && (rackNumber (instanceOf s .topStep) && true)) ≡ true
+  unfolding applies requestOf allOf
   rack-numbers = not-false _ (passes s given .rack)
 
   in-range : (n : ℕ) → rackNumber n ≡ true → (1 ≤ n) × (n ≤ 200)
   in-range n e = (leb-true 1 n (and-left (leb 1 n) (leb n 200) e), leb-true n 200 (and-right (leb 1 n) (leb n 200) e))
 
   pub modules-range : (1 ≤ instanceOf s .modules) × (instanceOf s .modules ≤ 200)
-  modules-range = in-range _ (and-left (rackNumber (instanceOf s .modules)) (rackNumber (instanceOf s .topStep)) rack-numbers)
+  modules-range = in-range _ (and-left (rackNumber (instanceOf s .modules)) _ rack-numbers)
 
   pub top-range : (1 ≤ instanceOf s .topStep) × (instanceOf s .topStep ≤ 200)
-  top-range = in-range _ (and-right (rackNumber (instanceOf s .modules)) (rackNumber (instanceOf s .topStep)) rack-numbers)
+  top-range = in-range _ (and-left (rackNumber (instanceOf s .topStep)) true (and-right (rackNumber (instanceOf s .modules)) _ rack-numbers))
 
   pub slots-range : instanceOf s .slots ≤ 1024
   unfolding applies requestOf
   slots-range = ltb-false _ _ (passes s given .slots)
 
-  pub card-size : length s ≡ 17 + 4 * (instanceOf s .topStep + 1) + 2 * instanceOf s .slots
+  pub card-size : length s ≡ loadPlace (instanceOf s .topStep) (instanceOf s .slots)
   unfolding applies requestOf cardLength
   card-size = eqb-true _ _ (not-false _ (passes s given .size))
 

@@ -1,5 +1,7 @@
-pub mod Answers
+-- Laws of model's definitions that code and theorems both cite, a module a subject.
+pub mod AnswerNumber
 pub mod Lowest
 pub mod Acceptance
 pub mod OnCard
-pub mod Running
+pub mod Encoding
+pub mod Operating

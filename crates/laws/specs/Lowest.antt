@@ -24,7 +24,7 @@ module _ (test : Refusal → Bool) where
   lowest-append [] ys a = refl
   lowest-append (x ∷ xs) ys a = rw (lowest-append xs ys a)
 
-  -- where some of the refusals already give one, what follows does not matter
+  -- Where some of the refusals already give one, what follows them does not matter.
   pub lowest-refused :
       (xs : List Refusal) (a : Answer) {b : Answer} {x : Refusal} {n : ℕ} → b ≡ Cost n → lowest test xs b ≡ Refused x →
       lowest test xs a ≡ Refused x
@@ -36,7 +36,7 @@ module _ (test : Refusal → Bool) where
       (λ (t : test y ≡ false). rw t (lowest-refused ys a h (sym (lowest-skip ys b t) ∙ e)))
       (true-or-false (test y))
 
-  -- where the answer is a cost, the first refusal does not apply, and so on with the rest
+  -- Where the answer is a cost, the first refusal does not apply, and the rest gives that cost.
   pub lowest-passed :
       {x : Refusal} (xs : List Refusal) (a : Answer) {n : ℕ} → lowest test (x ∷ xs) a ≡ Cost n →
       (test x ≡ false) × (lowest test xs a ≡ Cost n)
@@ -48,7 +48,7 @@ module _ (test : Refusal → Bool) where
       skip : test x ≡ false → (test x ≡ false) × (lowest test xs a ≡ Cost n)
       skip t = (t, sym (lowest-skip xs a t) ∙ e)
 
-  -- where some of the refusals pass, the answer is that of the rest
+  -- Where some of the refusals give a cost, none of them applies, and the answer is that of what follows them.
   pub lowest-through : (xs : List Refusal) (a b : Answer) {n : ℕ} → lowest test xs b ≡ Cost n → lowest test xs a ≡ a
   unfolding lowest
   lowest-through [] a b e = refl

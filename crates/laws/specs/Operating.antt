@@ -1,4 +1,4 @@
--- The running cost of a count, and the row of a plan, byte by byte.
+-- The operating cost of a count, and the row of a plan, byte by byte.
 use Prim.Native.Nat.{ℕ, zero, suc, _+_, _-_, _*_, _/_, _%_, _≤_, _<_}
 use mathlib.Core.Path.{_≡_, sym}
 use mathlib.Core.Bool.{cond}
@@ -15,32 +15,33 @@ use Rattle.model.specs.Counts.{operatingCost}
 use Rattle.model.specs.Sheets.{off}
 use Rattle.model.specs.Plans.{moduleByte, slotRow}
 
--- The three cases of the running cost are one formula,
-pub running-some : (i : Instance) (n l : ℕ) → 0 < n →
+-- Of a count above 0 the cases of the operating cost are one formula.
+pub operating-some : (i : Instance) (n l : ℕ) → 0 < n →
     operatingCost i n l ≡ (n - l % n) * i .table (l / n) + l % n * i .table (l / n + 1)
 unfolding operatingCost
-running-some i n l some = rw (ne-eqb n 0 (omega arith), second-term (l % n) (i .table (l / n + 1)))
+operating-some i n l some = rw (ne-eqb n 0 (omega arith), second-term (l % n) (i .table (l / n + 1)))
   where
     second-term : (r x : ℕ) → cond (eqb r 0) 0 (r * x) ≡ r * x
     second-term zero x = sym (zero-mul x)
     second-term (suc r) x = rw (eqb·suc-zero r)
 
--- also for no module, which serves no load but 0.
-pub running-formula : (i : Instance) (n l : ℕ) → l ≤ n * i .topStep →
+-- The formula holds of count 0 too, which serves no load but 0.
+pub operating-formula : (i : Instance) (n l : ℕ) → l ≤ n * i .topStep →
     operatingCost i n l ≡ (n - l % n) * i .table (l / n) + l % n * i .table (l / n + 1)
 unfolding operatingCost
-running-formula i zero l h = let none : l % 0 ≡ 0 = omega (arith, mod-zero l) in rw none (omega arith)
-running-formula i (suc n) l h = running-some i (suc n) l (omega arith)
+operating-formula i zero l h = let none : l % 0 ≡ 0 = omega (arith, mod-zero l) in rw none (omega arith)
+operating-formula i (suc n) l h = operating-some i (suc n) l (omega arith)
 
 -- Where no entry of the table exceeds f, n modules cost at most n times f.
-pub running-bound : (i : Instance) (f : ℕ) → ((k : ℕ) → k ≤ i .topStep → i .table k ≤ f) → (n l : ℕ) → l ≤ n * i .topStep →
+pub operating-bound : (i : Instance) (f : ℕ) → ((k : ℕ) → k ≤ i .topStep → i .table k ≤ f) → (n l : ℕ) → l ≤ n * i .topStep →
     operatingCost i n l ≤ n * f
-running-bound i f table n l h =
+operating-bound i f table n l h =
     let low = mul-le-mul-left (n - l % n) (table (l / n) (div-le-of-le-mul n h)) in
     let high = mul-le-mul-some (l % n) (λ some. table (l / n + 1) (omega (arith, quotient-lt n l (i .topStep) h some))) in
-    omega (arith, running-formula i n l h, part-and-rest n (l % n) f (remainder-le n l (i .topStep) h))
+    omega (arith, operating-formula i n l h, part-and-rest n (l % n) f (remainder-le n l (i .topStep) h))
 
--- The row of a plan: the first l % n modules at the step above, the others up to n at the step, the rest off.
+-- The row of a plan with count n and load l: the first l % n modules at the step above l / n, the others up to n at l / n, the rest
+-- off.
 module _ (n l : ℕ) where
   pub byte-above : (k : ℕ) → k < l % n → k < n → moduleByte n l k ≡ l / n + 1
   unfolding moduleByte

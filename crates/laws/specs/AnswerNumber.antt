@@ -9,7 +9,7 @@ use Rattle.model.specs.declared.Answer.{Answer}
 use Rattle.model.specs.declared.Answer.the-variants.{Cost, Refused}
 use Rattle.model.specs.Answers.{refusalNumber, numberOf, costOf}
 
--- no refusal has the number 0
+-- No refusal has the number 0.
 refusal-some : (x : Refusal) → 1 ≤ refusalNumber x
 refusal-some NotACard = omega arith
 refusal-some Version = omega arith
@@ -25,7 +25,7 @@ refusal-some WrongLength = omega arith
 refusal-some EntryRange = omega arith
 refusal-some LoadNotServed = omega arith
 
--- an answer with the number 0 is a cost
+-- An answer with the number 0 is a cost.
 pub number-zero : (a : Answer) → numberOf a ≡ 0 → a ≡ Cost (costOf a)
 number-zero (Cost n) e = refl
 number-zero (Refused x) e = absurd (omega (arith, refusal-some x))

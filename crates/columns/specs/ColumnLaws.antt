@@ -13,9 +13,9 @@ use Rattle.model.specs.Instance.{Instance}
 use Rattle.model.specs.Counts.{canServe, operatingCost}
 use Rattle.model.specs.Thesis.{switchingPrice}
 use Rattle.columns.specs.Column.{Choice, cheaper, countAtPlace, lastPlace, servedOrAbove, raised, rising}
-use Rattle.columns.specs.Column.{own, fromTop, downward, upward, column}
+use Rattle.columns.specs.Column.{servedHere, fromTop, downward, upward, column}
 
--- the lower of two choices is at most the second
+-- The cheaper of two choices costs at most what the second one costs.
 cheaper-bound : (a b : Choice) → cheaper a b .cost ≤ b .cost
 cheaper-bound a b = go (leb (a .cost) (b .cost)) refl
   where
@@ -23,7 +23,7 @@ cheaper-bound a b = go (leb (a .cost) (b .cost)) refl
     go true e = leb-true (a .cost) (b .cost) e
     go false e = le-refl (b .cost)
 
--- what holds of both holds of the one that is taken
+-- What holds of both choices holds of the one that is taken.
 either : (P : Choice → Type 0) (t : Bool) {a b : Choice} → P a → P b → P (cond t a b)
 either P true p q = p
 either P false p q = q
@@ -35,13 +35,13 @@ module _ (price : ℕ) (counts : List ℕ) (given : ℕ → Choice) where
   rising-bound zero = le-refl (given 0 .cost)
   rising-bound (suc j) = cheaper-bound (raised price counts (rising price counts given j) j) (given (suc j))
 
-  -- what holds of all places that are given holds of those that it takes
+  -- What holds of all given places holds of those that the pass takes.
   rising-at : (P : ℕ → Type 0) → ((k : ℕ) → P (given k .at)) → (j : ℕ) → P (rising price counts given j .at)
   unfolding rising
   rising-at P each zero = each 0
   rising-at P each (suc j) = either (λ c. P (c .at)) (leb _ (given (suc j) .cost)) (rising-at P each j) (each (suc j))
 
-  -- choices that agree up to a place give the same there
+  -- Given choices that agree up to a place give the same choice there.
   pub rising-same :
       (other : ℕ → Choice) (j : ℕ) → ((k : ℕ) → k ≤ j → given k ≡ other k) → rising price counts given j ≡ rising price counts other j
   unfolding rising
@@ -49,7 +49,7 @@ module _ (price : ℕ) (counts : List ℕ) (given : ℕ → Choice) where
   rising-same other (suc j) same = rw (rising-same other j (λ k h. same k (omega arith)), same (suc j) (omega arith))
 
 module _ (i : Instance) (counts : List ℕ) (l : ℕ) (before : ℕ → ℕ) where
-  -- no choice costs more than serving with the full rack
+  -- A choice costs no more than serving with the full rack.
   abbrev AtMostFull : Choice → Type 0
   AtMostFull c = c .cost ≤ before (lastPlace counts) + operatingCost i (countAtPlace counts (lastPlace counts)) l
 
@@ -58,7 +58,7 @@ module _ (i : Instance) (counts : List ℕ) (l : ℕ) (before : ℕ → ℕ) whe
   top-bound zero = le-refl (before (lastPlace counts) + operatingCost i (countAtPlace counts (lastPlace counts)) l)
   top-bound (suc d) =
       either AtMostFull (canServe i (countAtPlace counts (lastPlace counts - suc d)) l)
-      (le-trans (cheaper-bound (own i counts l before (lastPlace counts - suc d)) (fromTop i counts l before d)) (top-bound d))
+      (le-trans (cheaper-bound (servedHere i counts l before (lastPlace counts - suc d)) (fromTop i counts l before d)) (top-bound d))
       (top-bound d)
 
   pub downward-bound : (j : ℕ) → AtMostFull (downward i counts l before j)
@@ -69,7 +69,7 @@ module _ (i : Instance) (counts : List ℕ) (l : ℕ) (before : ℕ → ℕ) whe
   unfolding upward
   upward-bound j = le-trans (rising-bound (switchingPrice i) counts (downward i counts l before) j) (downward-bound j)
 
-  -- each choice is one of the places
+  -- Each choice is one of the places.
   module _ (some : 1 ≤ length counts) where
     abbrev Inside : Choice → Type 0
     Inside c = c .at < length counts
@@ -79,7 +79,7 @@ module _ (i : Instance) (counts : List ℕ) (l : ℕ) (before : ℕ → ℕ) whe
     top-inside zero = omega arith
     top-inside (suc d) =
         either Inside (canServe i (countAtPlace counts (lastPlace counts - suc d)) l)
-        (either Inside (leb (own i counts l before (lastPlace counts - suc d) .cost) (fromTop i counts l before d .cost))
+        (either Inside (leb (servedHere i counts l before (lastPlace counts - suc d) .cost) (fromTop i counts l before d .cost))
         (omega arith)
         (top-inside d))
         (top-inside d)
@@ -89,7 +89,7 @@ module _ (i : Instance) (counts : List ℕ) (l : ℕ) (before : ℕ → ℕ) whe
     upward-inside j =
         rising-at (switchingPrice i) counts (downward i counts l before) (λ p. p < length counts) (λ k. top-inside (lastPlace counts - k)) j
 
--- columns that agree at all places give the same choices
+-- Columns that agree at all places give the same choices.
 module _
     (i : Instance) (counts : List ℕ) (l : ℕ) {one other : ℕ → ℕ} (some : 1 ≤ length counts)
     (same : (k : ℕ) → k < length counts → one k ≡ other k) where
@@ -103,7 +103,7 @@ module _
   upward-same j =
       rising-same (switchingPrice i) counts (downward i counts l one) (downward i counts l other) j (λ k _. top-same (lastPlace counts - k))
 
--- after t slots, where no count exceeds m and the full rack serves each slot at a cost of at most b
+-- What a column costs at most after t slots, where no count exceeds m and the full rack serves each slot at a cost of at most b.
 module _
     (i : Instance) (counts : List ℕ) (start m b : ℕ) (some : 1 ≤ length counts)
     (fits : (j : ℕ) → j < length counts → countAtPlace counts j ≤ m)
