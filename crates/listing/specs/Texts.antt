@@ -1,9 +1,10 @@
 -- The parts of the program's text that the model does not name, and what the public functions ask for.
 use Prim.Native.Nat.{ℕ, _+_, _*_, _≤_}
 use mathlib.Core.Path.{_≡_}
-use mathlib.Core.List.{List, [], _∷_, _++_}
+use mathlib.Core.List.{List, _++_}
 use lib.ListN.{length, getD, take, drop}
 use Rattle.lists.specs.Lists.{rows}
+use Rattle.lists.specs.Text.{text}
 use Rattle.model.specs.Sheets.{off}
 use Rattle.model.specs.Listing.{decimal, newline, stepText, slotLine}
 
@@ -13,21 +14,21 @@ numberedLine word n = word ++ (decimal n ++ newline)
 
 -- a blank and the count of slot t; those of a whole plan
 abbrev pub countText : List ℕ → ℕ → List ℕ
-countText plan t = 32 ∷ decimal (getD plan t 0)
+countText plan t = text " " ++ decimal (getD plan t 0)
 
 abbrev pub countTexts : List ℕ → List ℕ
 countTexts plan = rows (length plan) (countText plan)
 
 -- a blank and the step of module k; those of a whole row
 abbrev pub moduleText : List ℕ → ℕ → List ℕ
-moduleText row k = 32 ∷ stepText (getD row k off)
+moduleText row k = text " " ++ stepText (getD row k off)
 
 abbrev pub moduleTexts : List ℕ → List ℕ
 moduleTexts row = rows (length row) (moduleText row)
 
 -- a slot line up to its colon
 abbrev pub slotNumber : ℕ → List ℕ
-slotNumber t = (115 ∷ 108 ∷ 111 ∷ 116 ∷ 32 ∷ []) ++ decimal (t + 1)
+slotNumber t = text "slot " ++ decimal (t + 1)
 
 -- the line of slot t, of a sheet in rows of m bytes; those of n slots
 abbrev pub sheetLine : ℕ → List ℕ → ℕ → List ℕ

@@ -1,9 +1,11 @@
 // The program's text: each function writes a part of it into a lent area from a place on, and returns the place after it.
 ghost use mathlib.Core.Path.{_≡_};
 ghost use Prim.Native.Nat.{_<_};
-ghost use mathlib.Core.List.{[], _∷_};
+ghost use mathlib.Core.List.{[], _∷_, _++_};
 ghost use lib.ListN.{length};
-ghost use Rattle.lists.specs.Writing.{Room, Written, atStart};
+ghost use Rattle.lists.specs.Lists.{writtenOver};
+ghost use Rattle.lists.specs.Text.{text};
+ghost use Rattle.lists.specs.Writing.{Room, Written};
 ghost use Rattle.model.specs.Listing.{decimal, stepText, planLine, slotLine, listing, refusedLine};
 ghost use Rattle.listing.specs.Texts.{numberedLine, countTexts, moduleTexts, slotNumber, sheetLines, InRows, Printable, LineRoom};
 
@@ -44,8 +46,8 @@ fn put_number(out: &mut [u8], at: usize, n: u64) -> usize
 
 // A blank and a count.
 fn put_count(out: &mut [u8], at: usize, count: u8) -> usize
-    requires { ⌜ Room (32 ∷ decimal count) at (now out) ⌝ }
-    ensures { λ r. ⌜ Written (32 ∷ decimal count) at (now (out .entry)) (now (out .exit)) r ⌝ }
+    requires { ⌜ Room (text " " ++ decimal count) at (now out) ⌝ }
+    ensures { λ r. ⌜ Written (text " " ++ decimal count) at (now (out .entry)) (now (out .exit)) r ⌝ }
 {
     let number = put(out, at, b' ');
     put_number(out, number, count as u64)
@@ -53,8 +55,8 @@ fn put_count(out: &mut [u8], at: usize, count: u8) -> usize
 
 // A blank and a module's step, or `-` for off.
 fn put_step(out: &mut [u8], at: usize, step: u8) -> usize
-    requires { ⌜ Room (32 ∷ stepText step) at (now out) ⌝ }
-    ensures { λ r. ⌜ Written (32 ∷ stepText step) at (now (out .entry)) (now (out .exit)) r ⌝ }
+    requires { ⌜ Room (text " " ++ stepText step) at (now out) ⌝ }
+    ensures { λ r. ⌜ Written (text " " ++ stepText step) at (now (out .entry)) (now (out .exit)) r ⌝ }
 {
     if step == 255 {
         return put_word(out, at, b" -");
@@ -153,7 +155,7 @@ fn put_sheet(out: &mut [u8], at: usize, m: usize, slots: usize, sheet: &[u8]) ->
 pub fn write_listing(out: &mut [u8], modules: u64, cost: u64, plan: &[u8], sheet: &[u8]) -> usize
     requires { ⌜ Printable modules (now plan) (now sheet) (now out) ⌝ }
     ensures size { λ r. ⌜ r ≡ length (listing modules cost (now (plan .entry)) (now (sheet .entry))) ⌝ }
-    ensures bytes { λ _. ⌜ now (out .exit) ≡ atStart (listing modules cost (now (plan .entry)) (now (sheet .entry))) (now (out .entry)) ⌝ }
+    ensures bytes { λ _. ⌜ now (out .exit) ≡ writtenOver (listing modules cost (now (plan .entry)) (now (sheet .entry))) (now (out .entry)) ⌝ }
 {
     let plan_line = put_line(out, 0, b"cost ", cost);
     let slot_lines = put_plan(out, plan_line, plan);
@@ -164,7 +166,7 @@ pub fn write_listing(out: &mut [u8], modules: u64, cost: u64, plan: &[u8], sheet
 pub fn write_refusal(out: &mut [u8], number: u64) -> usize
     requires { ⌜ LineRoom (now out) ⌝ }
     ensures size { λ r. ⌜ r ≡ length (refusedLine number) ⌝ }
-    ensures bytes { λ _. ⌜ now (out .exit) ≡ atStart (refusedLine number) (now (out .entry)) ⌝ }
+    ensures bytes { λ _. ⌜ now (out .exit) ≡ writtenOver (refusedLine number) (now (out .entry)) ⌝ }
 {
     put_line(out, 0, b"refused ", number)
 }
