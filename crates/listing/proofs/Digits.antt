@@ -8,7 +8,7 @@ use native.Mathlib.Omega.{arith}
 use lib.ListN.{length, length-append}
 use borrow.Author.Tests.{lt-ltb, le-ltb}
 use Rattle.lists.specs.Numbers.{le-or-lt}
-use Rattle.model.specs.Listing.{digits, decimal}
+use Rattle.model.specs.Listing.{digit, digits, decimal}
 
 -- a tenth of a number has a digit less
 tenth : (a n : ℕ) → n < 10 ^ suc a → n / 10 < 10 ^ a
@@ -20,11 +20,11 @@ unfolding digits
 digits-enough zero n h = rw (lt-ltb n 10 h)
 digits-enough (suc a) n h = rw (digits-enough a (n / 10) (tenth (suc a) n h))
 
-pub decimal-one : (n : ℕ) → n < 10 → decimal n ≡ (48 + n) ∷ []
+pub decimal-one : (n : ℕ) → n < 10 → decimal n ≡ digit n ∷ []
 unfolding decimal digits
 decimal-one n h = rw (lt-ltb n 10 h)
 
-pub decimal-more : (n : ℕ) → 10 ≤ n → n < 2 ^ 64 → decimal n ≡ decimal (n / 10) ++ ((48 + n % 10) ∷ [])
+pub decimal-more : (n : ℕ) → 10 ≤ n → n < 2 ^ 64 → decimal n ≡ decimal (n / 10) ++ (digit (n % 10) ∷ [])
 unfolding decimal digits
 decimal-more n h top =
     let small : n / 10 < 10 ^ 19 = omega arith in
@@ -39,7 +39,7 @@ digits-most (suc a) (suc most) n h =
     ⊎-elim
     (λ (more : 10 ≤ n).
     rw (le-ltb n 10 more)
-    (omega (arith, length-append (digits most (n / 10)) ((48 + n % 10) ∷ []), digits-most a most (n / 10) (tenth (suc a) n h))))
+    (omega (arith, length-append (digits most (n / 10)) (digit (n % 10) ∷ []), digits-most a most (n / 10) (tenth (suc a) n h))))
     (λ (one : n < 10). rw (lt-ltb n 10 one) (omega arith))
     (le-or-lt 10 n)
 
@@ -53,8 +53,8 @@ unfolding digits
 digits-rise zero a b h = omega arith
 digits-rise (suc most) a b h =
     let rest = digits-rise most (a / 10) (b / 10) (omega arith) in
-    let long = length-append (digits most (a / 10)) ((48 + a % 10) ∷ []) in
-    let longer = length-append (digits most (b / 10)) ((48 + b % 10) ∷ []) in
+    let long = length-append (digits most (a / 10)) (digit (a % 10) ∷ []) in
+    let longer = length-append (digits most (b / 10)) (digit (b % 10) ∷ []) in
     ⊎-elim
     (λ (more : 10 ≤ a).
     let further : 10 ≤ b = omega arith in

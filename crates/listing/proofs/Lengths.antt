@@ -1,18 +1,18 @@
 -- How long the texts are at most.
 use Prim.Native.Nat.{ℕ, _+_, _*_, _^_, _≤_, _<_}
-use mathlib.Core.Path.{ap}
 use mathlib.Core.Bool.{Bool, true, false, cond}
-use mathlib.Core.List.{List, [], _∷_, _++_}
+use mathlib.Core.List.{List, _++_}
 use native.Mathlib.Omega.{arith}
 use lib.ListN.{length, getD, take, drop, length-append, length-take}
 use lib.Seq.{getD-take, getD-drop}
+use Rattle.lists.specs.Parts.{getD-within}
+use Rattle.lists.specs.Text.{text}
 use Rattle.lists.specs.Writing.{Room, rows-at-most}
-use Rattle.model.specs.Sheets.{isOff}
+use Rattle.model.specs.Sheets.{off, isOff}
 use Rattle.model.specs.Listing.{decimal, newline, costLine, planLine, stepText, slotLine, listing, refusedLine}
 use Rattle.listing.specs.Texts.{numberedLine, countText, countTexts, moduleText, moduleTexts, sheetLine, sheetLines}
 use Rattle.listing.specs.Texts.{Printable, LineRoom}
 use Rattle.listing.proofs.Digits.{decimal-most}
-use Rattle.listing.proofs.Steps.{module-text}
 
 line-length : (word : List ℕ) (n : ℕ) → n < 2 ^ 64 → length (numberedLine word n) ≤ length word + 21
 line-length word n h =
@@ -22,16 +22,16 @@ plan-length : (p : List ℕ) → ((t : ℕ) → getD p t 0 < 256) → length (pl
 unfolding planLine
 plan-length p byte =
     omega
-    (arith, length-append (countTexts p) newline, rows-at-most 4 (length p) (countText p) (λ t h. one t))
+    (arith, length-append (countTexts p) newline, rows-at-most 4 (length p) (λ t. countText (getD p t 0)) (λ t h. one t))
   where
-    one : (t : ℕ) → length (countText p t) ≤ 4
+    one : (t : ℕ) → length (countText (getD p t 0)) ≤ 4
     one t = omega (arith, decimal-most 2 (getD p t 0) (omega (arith, byte t)))
 
 step-length : (b : ℕ) → b < 256 → length (stepText b) ≤ 3
 unfolding stepText
 step-length b h = go (isOff b)
   where
-    go : (t : Bool) → length (cond t (45 ∷ []) (decimal b)) ≤ 3
+    go : (t : Bool) → length (cond t (text "-") (decimal b)) ≤ 3
     go true = omega arith
     go false = decimal-most 2 b (omega arith)
 
@@ -42,14 +42,14 @@ slot-length t row h byte =
     let steps = moduleTexts row in
     omega (
       arith,
-      length-append (decimal (t + 1)) (58 ∷ (steps ++ newline)),
+      length-append (decimal (t + 1)) (text ":" ++ (steps ++ newline)),
       length-append steps newline,
       decimal-most 3 (t + 1) (omega arith),
-      rows-at-most 4 (length row) (moduleText row) one,
+      rows-at-most 4 (length row) (λ k. moduleText (getD row k off)) one,
     )
   where
-    one : (k : ℕ) → k < length row → length (moduleText row k) ≤ 4
-    one k l = omega (arith, ap length (module-text row k l), step-length (getD row k 0) (byte k l))
+    one : (k : ℕ) → k < length row → length (moduleText (getD row k off)) ≤ 4
+    one k l = rw (getD-within row k off 0 l) (omega (arith, step-length (getD row k 0) (byte k l)))
 
 lines-length :
     (m n : ℕ) (s : List ℕ) → n ≤ 1024 → ((k : ℕ) → getD s k 0 < 256) → length (sheetLines m n s) ≤ n * (11 + m * 4)
@@ -80,7 +80,7 @@ listing-room {m} {cost} {p} {s} {out} a top counts steps =
             arith,
             length-append (costLine cost) (planLine p ++ slots),
             length-append (planLine p) slots,
-            line-length (99 ∷ 111 ∷ 115 ∷ 116 ∷ 32 ∷ []) cost top,
+            line-length (text "cost ") cost top,
             plan-length p counts,
             lines-length m (length p) s (r .slots) steps,
             r .entries,
@@ -91,4 +91,4 @@ listing-room {m} {cost} {p} {s} {out} a top counts steps =
 pub refusal-room : {n : ℕ} {out : List ℕ} → LineRoom out → n < 2 ^ 64 → Room (refusedLine n) 0 out
 unfolding refusedLine
 refusal-room {n} a top =
-    record { room = omega (arith, line-length (114 ∷ 101 ∷ 102 ∷ 117 ∷ 115 ∷ 101 ∷ 100 ∷ 32 ∷ []) n top, a .area) }
+    record { room = omega (arith, line-length (text "refused ") n top, a .area) }

@@ -1,4 +1,4 @@
 pub mod Digits
-pub mod Steps
-pub mod Parts
+pub mod StepTexts
+pub mod SheetRows
 pub mod Lengths

@@ -1,13 +1,13 @@
 // The program's text: each function writes a part of it into a lent area from a place on, and returns the place after it.
 ghost use mathlib.Core.Path.{_≡_};
 ghost use Prim.Native.Nat.{_<_};
-ghost use mathlib.Core.List.{[], _∷_, _++_};
+ghost use mathlib.Core.List.{[], _∷_};
 ghost use lib.ListN.{length};
 ghost use Rattle.lists.specs.Lists.{writtenOver};
-ghost use Rattle.lists.specs.Text.{text};
 ghost use Rattle.lists.specs.Writing.{Room, Written};
-ghost use Rattle.model.specs.Listing.{decimal, stepText, planLine, slotLine, listing, refusedLine};
-ghost use Rattle.listing.specs.Texts.{numberedLine, countTexts, moduleTexts, slotNumber, sheetLines, InRows, Printable, LineRoom};
+ghost use Rattle.model.specs.Listing.{decimal, planLine, slotLine, listing, refusedLine};
+ghost use Rattle.listing.specs.Texts.{numberedLine, countText, countTexts, moduleText, moduleTexts, slotNumber, sheetLines};
+ghost use Rattle.listing.specs.Texts.{InRows, Printable, LineRoom};
 
 // A byte.
 fn put(out: &mut [u8], at: usize, byte: u8) -> usize
@@ -46,8 +46,8 @@ fn put_number(out: &mut [u8], at: usize, n: u64) -> usize
 
 // A blank and a count.
 fn put_count(out: &mut [u8], at: usize, count: u8) -> usize
-    requires { ⌜ Room (text " " ++ decimal count) at (now out) ⌝ }
-    ensures { λ r. ⌜ Written (text " " ++ decimal count) at (now (out .entry)) (now (out .exit)) r ⌝ }
+    requires { ⌜ Room (countText count) at (now out) ⌝ }
+    ensures { λ r. ⌜ Written (countText count) at (now (out .entry)) (now (out .exit)) r ⌝ }
 {
     let number = put(out, at, b' ');
     put_number(out, number, count as u64)
@@ -55,8 +55,8 @@ fn put_count(out: &mut [u8], at: usize, count: u8) -> usize
 
 // A blank and a module's step, or `-` for off.
 fn put_step(out: &mut [u8], at: usize, step: u8) -> usize
-    requires { ⌜ Room (text " " ++ stepText step) at (now out) ⌝ }
-    ensures { λ r. ⌜ Written (text " " ++ stepText step) at (now (out .entry)) (now (out .exit)) r ⌝ }
+    requires { ⌜ Room (moduleText step) at (now out) ⌝ }
+    ensures { λ r. ⌜ Written (moduleText step) at (now (out .entry)) (now (out .exit)) r ⌝ }
 {
     if step == 255 {
         return put_word(out, at, b" -");

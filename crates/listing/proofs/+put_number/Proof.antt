@@ -1,8 +1,9 @@
 use mathlib.Core.List.{[], _∷_}
 use Rattle.lists.specs.Writing.{room-less, room-first, room-rest, written-more}
+use Rattle.model.specs.Listing.{digit}
 use Rattle.listing.proofs.Digits.{decimal-one, decimal-more}
 use native.Mathlib.Omega.{arith}
-use Prim.Native.Nat.{ℕ, _+_, _%_, _<_}
+use Prim.Native.Nat.{ℕ, _%_, _<_}
 use borrow.Author.Needs.{needs}
 use borrow.Fn.Kinds.{In}
 use borrow.Fn.PlainCycle.{Measures, is, falls, and}
@@ -57,7 +58,7 @@ module _ (t : ℕ) where
       let rest = c .before .before .before in
       let start = rest .before .before .before .before in
       let e = decimal-more _ (rest .before .before .if1 .left) (start .fits .n .fits) in
-      room-less (omega arith) (room-rest {b = (48 + start .args .n % 10) ∷ []} (rw e at (start .pre .1)) (rest .put-number .ensures))
+      room-less (omega arith) (room-rest {b = digit (start .args .n % 10) ∷ []} (rw e at (start .pre .1)) (rest .put-number .ensures))
 
   same-length-2 : lts.Need-same-length-2 callees Before own.Post
   same-length-2 c = search needs

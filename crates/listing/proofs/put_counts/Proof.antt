@@ -1,13 +1,13 @@
 use Prim.Native.Nat.{_-_}
 use native.Mathlib.Omega.{arith}
-use lib.ListN.{length}
+use lib.ListN.{length, getD}
 use Rattle.lists.specs.Writing.{RowsWritten, rows-none, rows-room, rows-more, rows-all}
 use Rattle.listing.specs.Texts.{countText}
 use Rattle.listing.proofs.put_counts.Statement.{statement}
 use Rattle.listing.proofs.put_counts.Tie as tie
 
 abbrev Inv-loop : tie.InvT-loop
-Inv-loop out₀ at plan place₀ t₀ out place t = RowsWritten (countText plan) (length plan) at out₀ t out place
+Inv-loop out₀ at plan place₀ t₀ out place t = RowsWritten (λ j. countText (getD plan j 0)) (length plan) at out₀ t out place
 
 abbrev μ-loop : tie.MeasureT-loop
 μ-loop out₀ at plan place₀ t₀ out place t = length plan - t

@@ -1,14 +1,15 @@
 use Prim.Native.Nat.{_-_}
 use native.Mathlib.Omega.{arith}
-use lib.ListN.{length}
+use lib.ListN.{length, getD}
+use Rattle.lists.specs.Parts.{getD-within}
 use Rattle.lists.specs.Writing.{RowsWritten, rows-none, rows-room, rows-more, rows-all}
+use Rattle.model.specs.Sheets.{off}
 use Rattle.listing.specs.Texts.{moduleText}
-use Rattle.listing.proofs.Steps.{module-text}
 use Rattle.listing.proofs.put_steps.Statement.{statement}
 use Rattle.listing.proofs.put_steps.Tie as tie
 
 abbrev Inv-loop : tie.InvT-loop
-Inv-loop out₀ at row place₀ k₀ out place k = RowsWritten (moduleText row) (length row) at out₀ k out place
+Inv-loop out₀ at row place₀ k₀ out place k = RowsWritten (λ j. moduleText (getD row j off)) (length row) at out₀ k out place
 
 abbrev μ-loop : tie.MeasureT-loop
 μ-loop out₀ at row place₀ k₀ out place k = length row - k
@@ -23,7 +24,7 @@ put-step-requires : tie.Need-put-step-requires Inv-loop μ-loop
 put-step-requires c κs =
     let loop = c .before .before .before in
     let below = c .before .before .loop-test .taken in
-    rw (module-text _ _ below) at (rows-room (loop .before .before .before .pre) (loop .loop .inv) below)
+    rw (getD-within _ _ off 0 below) at (rows-room (loop .before .before .before .pre) (loop .loop .inv) below)
 
 add-k : tie.Need-add-k Inv-loop μ-loop
 add-k c = omega arith
@@ -35,7 +36,7 @@ loop-again : tie.Need-loop-again Inv-loop μ-loop
 loop-again c =
     let test = c .before .before .before .before .before in
     let below = test .loop-test .taken in
-    rows-more (test .before .loop .inv) below (rw (module-text _ _ below) (c .before .before .put-step .ensures))
+    rows-more (test .before .loop .inv) below (rw (getD-within _ _ off 0 below) (c .before .before .put-step .ensures))
 
 same-length : tie.Need-same-length Inv-loop μ-loop
 same-length c = search
