@@ -46,26 +46,3 @@ digits-most (suc a) (suc most) n h =
 pub decimal-most : (a n : ℕ) → n < 10 ^ suc a → length (decimal n) ≤ suc a
 unfolding decimal
 decimal-most a = digits-most a 20
-
--- a larger number has no fewer digits
-digits-rise : (most a b : ℕ) → a ≤ b → length (digits most a) ≤ length (digits most b)
-unfolding digits
-digits-rise zero a b h = omega arith
-digits-rise (suc most) a b h =
-    let rest = digits-rise most (a / 10) (b / 10) (omega arith) in
-    let long = length-append (digits most (a / 10)) (digit (a % 10) ∷ []) in
-    let longer = length-append (digits most (b / 10)) (digit (b % 10) ∷ []) in
-    ⊎-elim
-    (λ (more : 10 ≤ a).
-    let further : 10 ≤ b = omega arith in
-    rw (le-ltb a 10 more, le-ltb b 10 further) (omega arith))
-    (λ (one : a < 10).
-    ⊎-elim
-    (λ (further : 10 ≤ b). rw (lt-ltb a 10 one, le-ltb b 10 further) (omega arith))
-    (λ (also : b < 10). rw (lt-ltb a 10 one, lt-ltb b 10 also) (omega arith))
-    (le-or-lt 10 b))
-    (le-or-lt 10 a)
-
-pub decimal-rise : (a b : ℕ) → a ≤ b → length (decimal a) ≤ length (decimal b)
-unfolding decimal
-decimal-rise = digits-rise 20

@@ -83,12 +83,10 @@ listing-room {m} {cost} {p} {s} {out} a top counts steps =
             line-length (text "cost ") cost top,
             plan-length p counts,
             lines-length m (length p) s (r .slots) steps,
-            r .entries,
-            a .area,
           );
     }
 
 pub refusal-room : {n : ℕ} {out : List ℕ} → LineRoom out → n < 2 ^ 64 → Room (refusedLine n) 0 out
 unfolding refusedLine
 refusal-room {n} a top =
-    record { room = omega (arith, line-length (text "refused ") n top, a .area) }
+    record { room = omega (arith, line-length (text "refused ") n top) }

@@ -45,7 +45,7 @@ module _ (t : ℕ) where
   put-number-requires c κs =
       let start = c .before .before .before in
       let e = decimal-more _ (c .before .if1 .left) (start .fits .n .fits) in
-      (omega (arith, start .pre .0, c .before .if1 .left), room-first _ (rw e at (start .pre .1)))
+      (omega arith, room-first _ (rw e at (start .pre .1)))
 
   add-put-2 : lts.Need-add-put-2 callees Before own.Post
   add-put-2 c = omega arith
@@ -58,7 +58,7 @@ module _ (t : ℕ) where
       let rest = c .before .before .before in
       let start = rest .before .before .before .before in
       let e = decimal-more _ (rest .before .before .if1 .left) (start .fits .n .fits) in
-      room-less (omega arith) (room-rest {b = digit (start .args .n % 10) ∷ []} (rw e at (start .pre .1)) (rest .put-number .ensures))
+      room-rest (rw e at (start .pre .1)) (rest .put-number .ensures)
 
   same-length-2 : lts.Need-same-length-2 callees Before own.Post
   same-length-2 c = search needs

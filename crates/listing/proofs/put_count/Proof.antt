@@ -13,7 +13,7 @@ same-length : tie.Need-same-length
 same-length c = search needs
 
 returns : tie.Need-returns
-returns c = written-more (c .before .before .before .before .before .before .put .ensures) (c .before .before .put-number .ensures)
+returns c = search written-more
 
 pub put-count-spec : {M : Type 1} → statement M
 put-count-spec = tie.close (tie.spec put-requires put-number-requires same-length returns)

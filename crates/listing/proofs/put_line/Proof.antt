@@ -12,7 +12,7 @@ put-number-requires c κs =
     room-first _ (room-rest (word .before .before .before .before .pre) (word .put-word .ensures))
 
 put-requires : tie.Need-put-requires
-put-requires c κs = search (room-first, room-rest)
+put-requires c κs = search room-rest
 
 same-length : tie.Need-same-length
 same-length c = search needs

@@ -28,7 +28,7 @@ part-put-slot-start : tie.Need-part-put-slot-start Inv-loop μ-loop
 part-put-slot-start c = omega arith
 
 part-put-slot-end : tie.Need-part-put-slot-end Inv-loop μ-loop
-part-put-slot-end c = row-in-sheet (c .before .before .before .before .before .pre .0) (c .before .loop-test .taken)
+part-put-slot-end c = search row-in-sheet
 
 put-slot-requires : tie.Need-put-slot-requires Inv-loop μ-loop
 put-slot-requires c κs =

@@ -1,6 +1,5 @@
-use native.Mathlib.Omega.{arith}
-use Rattle.lists.specs.Writing.{room-less, room-first, room-rest, written-more}
-use Rattle.model.specs.Listing.{newline, slotLine}
+use Rattle.lists.specs.Writing.{room-first, room-rest, written-more}
+use Rattle.model.specs.Listing.{slotLine}
 use borrow.Author.Needs.{needs}
 use Rattle.listing.proofs.put_slot.Statement.{statement}
 use Rattle.listing.proofs.put_slot.Tie as tie
@@ -30,7 +29,7 @@ put-requires-2 c κs =
     let colon = steps .before .before .before .before in
     let number = colon .before .before .before .before in
     let rest = room-rest (number .before .before .before .before .pre .1) (number .put-slot-number .ensures) in
-    room-less (omega arith) (room-rest {b = newline} (room-rest rest (colon .put .ensures)) (steps .put-steps .ensures))
+    room-rest (room-rest rest (colon .put .ensures)) (steps .put-steps .ensures)
 
 same-length : tie.Need-same-length
 same-length c = search needs

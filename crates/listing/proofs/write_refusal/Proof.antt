@@ -10,7 +10,7 @@ slice-aggregate-put-line c = search needs
 
 put-line-requires : tie.Need-put-line-requires
 unfolding refusedLine
-put-line-requires c κs = refusal-room (c .before .before .before .pre) (c .before .before .before .fits .number .fits)
+put-line-requires c κs = search refusal-room
 
 same-length : tie.Need-same-length
 same-length c = search needs
