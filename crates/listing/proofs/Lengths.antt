@@ -14,19 +14,25 @@ use Rattle.listing.specs.Texts.{numberedLine, countText, countTexts, mod
 use Rattle.listing.specs.Texts.{Printable, LineRoom}
 use Rattle.listing.proofs.Digits.{decimal-most}
 
+-- A line of a word and a number has at most 20 digits and the line's end after the word.
 line-length : (word : List ℕ) (n : ℕ) → n < 2 ^ 64 → length (numberedLine word n) ≤ length word + 21
-line-length word n h =
-    omega (arith, length-append word (decimal n ++ newline), length-append (decimal n) newline, decimal-most 19 n (omega arith))
+line-length word n h = simp length-append (omega (arith, decimal-most 19 n (omega arith)))
 
+-- The line of the cost has at most 26 bytes.
+cost-length : (n : ℕ) → n < 2 ^ 64 → length (costLine n) ≤ 26
+unfolding costLine
+cost-length = line-length (text "cost ")
+
+-- The line of the plan has at most 4 bytes for each count.
 plan-length : (p : List ℕ) → ((t : ℕ) → getD p t 0 < 256) → length (planLine p) ≤ 5 + length p * 4
 unfolding planLine
 plan-length p byte =
-    omega
-    (arith, length-append (countTexts p) newline, rows-at-most 4 (length p) (λ t. countText (getD p t 0)) (λ t h. one t))
+    simp length-append (omega (arith, rows-at-most 4 (length p) (λ t. countText (getD p t 0)) (λ t h. count t)))
   where
-    one : (t : ℕ) → length (countText (getD p t 0)) ≤ 4
-    one t = omega (arith, decimal-most 2 (getD p t 0) (omega (arith, byte t)))
+    count : (t : ℕ) → length (countText (getD p t 0)) ≤ 4
+    count t = omega (arith, decimal-most 2 (getD p t 0) (omega (arith, byte t)))
 
+-- The text of a step, or of off, has at most 3 bytes.
 step-length : (b : ℕ) → b < 256 → length (stepText b) ≤ 3
 unfolding stepText
 step-length b h = go (isOff b)
@@ -35,22 +41,17 @@ step-length b h = go (isOff b)
     go true = omega arith
     go false = decimal-most 2 b (omega arith)
 
+-- The line of a slot has at most 4 bytes for each module, and 11 besides.
 slot-length :
     (t : ℕ) (row : List ℕ) → t < 1024 → ((k : ℕ) → k < length row → getD row k 0 < 256) → length (slotLine t row) ≤ 11 + length row * 4
 unfolding slotLine
 slot-length t row h byte =
-    let steps = moduleTexts row in
-    omega (
-      arith,
-      length-append (decimal (t + 1)) (text ":" ++ (steps ++ newline)),
-      length-append steps newline,
-      decimal-most 3 (t + 1) (omega arith),
-      rows-at-most 4 (length row) (λ k. moduleText (getD row k off)) one,
-    )
+    simp length-append (omega (arith, decimal-most 3 (t + 1) (omega arith), rows-at-most 4 (length row) (λ k. moduleText (getD row k off)) step))
   where
-    one : (k : ℕ) → k < length row → length (moduleText (getD row k off)) ≤ 4
-    one k l = rw (getD-within row k off 0 l) (omega (arith, step-length (getD row k 0) (byte k l)))
+    step : (k : ℕ) → k < length row → length (moduleText (getD row k off)) ≤ 4
+    step k l = rw (getD-within row k off 0 l) (omega (arith, step-length (getD row k 0) (byte k l)))
 
+-- The lines of n slots have at most 11 + 4 m bytes each.
 lines-length :
     (m n : ℕ) (s : List ℕ) → n ≤ 1024 → ((k : ℕ) → getD s k 0 < 256) → length (sheetLines m n s) ≤ n * (11 + m * 4)
 lines-length m n s few byte = rows-at-most (11 + m * 4) n (sheetLine m s) line
@@ -61,32 +62,23 @@ lines-length m n s few byte = rows-at-most (11 + m * 4) n (sheetLine m s) line
     inside : (t k : ℕ) → k < length (take m (drop (t * m) s)) → getD (take m (drop (t * m) s)) k 0 < 256
     inside t k h =
         let below : k < m = omega (arith, size t) in
-        rw (getD-take m (drop (t * m) s) k 0 below, getD-drop (t * m) s k 0) (byte (t * m + k))
+        rw (getD-take, getD-drop) (byte (t * m + k))
 
     line : (t : ℕ) → t < n → length (sheetLine m s t) ≤ 11 + m * 4
     line t h = omega (arith, slot-length t (take m (drop (t * m) s)) (omega arith) (inside t), size t)
 
--- the area that the public functions ask for has room for what they write
+-- The area that `write_listing` asks for has room for the listing.
 pub listing-room :
     {m cost : ℕ} {p s out : List ℕ} → Printable m p s out → cost < 2 ^ 64 → ((k : ℕ) → getD p k 0 < 256) →
     ((k : ℕ) → getD s k 0 < 256) → Room (listing m cost p s) 0 out
-unfolding listing costLine
-listing-room {m} {cost} {p} {s} {out} a top counts steps =
-    let r = a .rack in
-    let slots = sheetLines m (length p) s in
-    record {
-      room =
-          omega (
-            arith,
-            length-append (costLine cost) (planLine p ++ slots),
-            length-append (planLine p) slots,
-            line-length (text "cost ") cost top,
-            plan-length p counts,
-            lines-length m (length p) s (r .slots) steps,
-          );
-    }
+unfolding listing
+listing-room {m} {cost} {p} {s} a top counts steps =
+    let first = cost-length cost top in
+    let second = plan-length p counts in
+    let rest = lines-length m (length p) s (a .rack .slots) steps in
+    record { room = simp length-append (omega arith) }
 
+-- The area that `write_refusal` asks for has room for the line of every refusal.
 pub refusal-room : {n : ℕ} {out : List ℕ} → LineRoom out → n < 2 ^ 64 → Room (refusedLine n) 0 out
 unfolding refusedLine
-refusal-room {n} a top =
-    record { room = omega (arith, line-length (text "refused ") n top) }
+refusal-room {n} a top = record { room = omega (arith, line-length (text "refused ") n top) }

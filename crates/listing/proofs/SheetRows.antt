@@ -1,4 +1,4 @@
--- The rows of a sheet: each lies within it, and its line is made of the part that is lent.
+-- The rows of a sheet that `put_sheet` lends one by one.
 use Prim.Native.Nat.{ℕ, _+_, _-_, _*_, _≤_, _<_}
 use mathlib.Core.Path.{_≡_}
 use mathlib.Core.List.{List}
@@ -8,9 +8,10 @@ use Rattle.lists.specs.Rows.{row-within}
 use Rattle.model.specs.Listing.{slotLine}
 use Rattle.listing.specs.Texts.{InRows, sheetLine}
 
+-- Each row lies within the sheet.
 pub row-in-sheet : {m n t : ℕ} {sheet : List ℕ} → InRows m n sheet → t < n → t * m + m ≤ length sheet
 row-in-sheet {m} s h = row-within m h (omega (arith, s .entries))
 
--- the code's part from t × m to t × m + m is the row of the model's line
+-- The code's part from t * m to t * m + m is the row of the model's line of slot t.
 pub row-line : (m t : ℕ) (sheet : List ℕ) → slotLine t (take (t * m + m - t * m) (drop (t * m) sheet)) ≡ sheetLine m sheet t
 row-line m t sheet = let size : t * m + m - t * m ≡ m = omega arith in rw size

@@ -9,7 +9,7 @@ ghost use Rattle.model.specs.Listing.{decimal, planLine, slotLine, listing, ref
 ghost use Rattle.listing.specs.Texts.{numberedLine, countText, countTexts, moduleText, moduleTexts, slotNumber, sheetLines};
 ghost use Rattle.listing.specs.Texts.{InRows, Printable, LineRoom};
 
-// A byte.
+// Writes a byte.
 fn put(out: &mut [u8], at: usize, byte: u8) -> usize
     requires { ⌜ Room (byte ∷ []) at (now out) ⌝ }
     ensures { λ r. ⌜ Written (byte ∷ []) at (now (out .entry)) (now (out .exit)) r ⌝ }
@@ -18,7 +18,7 @@ fn put(out: &mut [u8], at: usize, byte: u8) -> usize
     at + 1
 }
 
-// A word.
+// Writes a word.
 fn put_word(out: &mut [u8], at: usize, word: &[u8]) -> usize
     requires { ⌜ Room (now word) at (now out) ⌝ }
     ensures { λ r. ⌜ Written (now (word .entry)) at (now (out .entry)) (now (out .exit)) r ⌝ }
@@ -32,7 +32,7 @@ fn put_word(out: &mut [u8], at: usize, word: &[u8]) -> usize
     place
 }
 
-// A number in decimal.
+// Writes a number in decimal.
 fn put_number(out: &mut [u8], at: usize, n: u64) -> usize
     requires { ⌜ Room (decimal n) at (now out) ⌝ }
     ensures { λ r. ⌜ Written (decimal n) at (now (out .entry)) (now (out .exit)) r ⌝ }
@@ -44,7 +44,7 @@ fn put_number(out: &mut [u8], at: usize, n: u64) -> usize
     put(out, last, (48 + n % 10) as u8)
 }
 
-// A blank and a count.
+// Writes a blank and a count.
 fn put_count(out: &mut [u8], at: usize, count: u8) -> usize
     requires { ⌜ Room (countText count) at (now out) ⌝ }
     ensures { λ r. ⌜ Written (countText count) at (now (out .entry)) (now (out .exit)) r ⌝ }
@@ -53,7 +53,7 @@ fn put_count(out: &mut [u8], at: usize, count: u8) -> usize
     put_number(out, number, count as u64)
 }
 
-// A blank and a module's step, or `-` for off.
+// Writes a blank and a module's step, or `-` for off.
 fn put_step(out: &mut [u8], at: usize, step: u8) -> usize
     requires { ⌜ Room (moduleText step) at (now out) ⌝ }
     ensures { λ r. ⌜ Written (moduleText step) at (now (out .entry)) (now (out .exit)) r ⌝ }
@@ -64,7 +64,7 @@ fn put_step(out: &mut [u8], at: usize, step: u8) -> usize
     put_count(out, at, step)
 }
 
-// The counts of a plan, a blank before each.
+// Writes the counts of a plan, a blank before each.
 fn put_counts(out: &mut [u8], at: usize, plan: &[u8]) -> usize
     requires { ⌜ Room (countTexts (now plan)) at (now out) ⌝ }
     ensures { λ r. ⌜ Written (countTexts (now (plan .entry))) at (now (out .entry)) (now (out .exit)) r ⌝ }
@@ -78,7 +78,7 @@ fn put_counts(out: &mut [u8], at: usize, plan: &[u8]) -> usize
     place
 }
 
-// The steps of a slot's modules, a blank before each.
+// Writes the steps of a slot's modules, a blank before each.
 fn put_steps(out: &mut [u8], at: usize, row: &[u8]) -> usize
     requires { ⌜ Room (moduleTexts (now row)) at (now out) ⌝ }
     ensures { λ r. ⌜ Written (moduleTexts (now (row .entry))) at (now (out .entry)) (now (out .exit)) r ⌝ }
@@ -92,7 +92,7 @@ fn put_steps(out: &mut [u8], at: usize, row: &[u8]) -> usize
     place
 }
 
-// A line of a word and a number.
+// Writes a line of a word and a number.
 fn put_line(out: &mut [u8], at: usize, word: &[u8], n: u64) -> usize
     requires { ⌜ Room (numberedLine (now word) n) at (now out) ⌝ }
     ensures { λ r. ⌜ Written (numberedLine (now (word .entry)) n) at (now (out .entry)) (now (out .exit)) r ⌝ }
@@ -102,7 +102,7 @@ fn put_line(out: &mut [u8], at: usize, word: &[u8], n: u64) -> usize
     put(out, end, b'\n')
 }
 
-// The line of the plan.
+// Writes the line of the plan.
 fn put_plan(out: &mut [u8], at: usize, plan: &[u8]) -> usize
     requires { ⌜ Room (planLine (now plan)) at (now out) ⌝ }
     ensures { λ r. ⌜ Written (planLine (now (plan .entry))) at (now (out .entry)) (now (out .exit)) r ⌝ }
@@ -112,7 +112,7 @@ fn put_plan(out: &mut [u8], at: usize, plan: &[u8]) -> usize
     put(out, end, b'\n')
 }
 
-// The word for a slot and its number: slot t (from 0) has the number t + 1.
+// Writes the word for a slot and its number: slot t (from 0) has the number t + 1.
 fn put_slot_number(out: &mut [u8], at: usize, t: usize) -> usize
     requires { ⌜ t < 1024 ⌝ }
     requires { ⌜ Room (slotNumber t) at (now out) ⌝ }
@@ -122,7 +122,7 @@ fn put_slot_number(out: &mut [u8], at: usize, t: usize) -> usize
     put_number(out, number, t as u64 + 1)
 }
 
-// The line of slot t (from 0), of its row of the sheet.
+// Writes the line of slot t (from 0), of its row of the sheet.
 fn put_slot(out: &mut [u8], at: usize, t: usize, row: &[u8]) -> usize
     requires { ⌜ t < 1024 ⌝ }
     requires { ⌜ Room (slotLine t (now row)) at (now out) ⌝ }
@@ -134,7 +134,7 @@ fn put_slot(out: &mut [u8], at: usize, t: usize, row: &[u8]) -> usize
     put(out, line_end, b'\n')
 }
 
-// The lines of a sheet in rows of m bytes.
+// Writes the lines of a sheet in rows of m bytes.
 fn put_sheet(out: &mut [u8], at: usize, m: usize, slots: usize, sheet: &[u8]) -> usize
     requires { ⌜ InRows m slots (now sheet) ⌝ }
     requires { ⌜ Room (sheetLines m slots (now sheet)) at (now out) ⌝ }
@@ -151,7 +151,7 @@ fn put_sheet(out: &mut [u8], at: usize, m: usize, slots: usize, sheet: &[u8]) ->
     place
 }
 
-// The listing of a plan and its sheet.
+// Writes the listing of a plan and its sheet at the front of the area, and returns its length.
 pub fn write_listing(out: &mut [u8], modules: u64, cost: u64, plan: &[u8], sheet: &[u8]) -> usize
     requires { ⌜ Printable modules (now plan) (now sheet) (now out) ⌝ }
     ensures size { λ r. ⌜ r ≡ length (listing modules cost (now (plan .entry)) (now (sheet .entry))) ⌝ }
@@ -162,7 +162,7 @@ pub fn write_listing(out: &mut [u8], modules: u64, cost: u64, plan: &[u8], sheet
     put_sheet(out, slot_lines, modules as usize, plan.len(), sheet)
 }
 
-// The line of a refusal.
+// Writes the line of a refusal at the front of the area, and returns its length.
 pub fn write_refusal(out: &mut [u8], number: u64) -> usize
     requires { ⌜ LineRoom (now out) ⌝ }
     ensures size { λ r. ⌜ r ≡ length (refusedLine number) ⌝ }

@@ -1,9 +1,7 @@
-use mathlib.Core.List.{[], _∷_}
-use Rattle.lists.specs.Writing.{room-less, room-first, room-rest, written-more}
-use Rattle.model.specs.Listing.{digit}
+use Rattle.lists.specs.Writing.{room-first, room-rest, written-more}
 use Rattle.listing.proofs.Digits.{decimal-one, decimal-more}
 use native.Mathlib.Omega.{arith}
-use Prim.Native.Nat.{ℕ, _%_, _<_}
+use Prim.Native.Nat.{ℕ, _<_}
 use borrow.Author.Needs.{needs}
 use borrow.Fn.Kinds.{In}
 use borrow.Fn.PlainCycle.{Measures, is, falls, and}
@@ -14,15 +12,16 @@ use Rattle.listing.proofs.put.Reads as put-reads
 use Rattle.listing.proofs.+put_number.{statement}
 use Rattle.listing.proofs.+put_number.Tie.{close}
 
--- the number falls from call to call
+-- The number falls from call to call.
 abbrev μ : Measures 1 kinds.ps ℕ
 μ κs a = a .1 .1 .0
 
 module _ (t : ℕ) where
-  -- what a call with the number t may assume, and what it knows of the functions that it calls, itself with a smaller number
+  -- What a call with the number t may assume.
   abbrev Before : In 1 kinds.ps
   Before = and 1 kinds.ps (is 1 kinds.ps μ t) own.Pre
 
+  -- What a call with the number t knows of the functions that it calls: of `put`, and of itself with a smaller number.
   abbrev callees : lts.Claims
   callees = (put-reads.Asked, put-reads.Learnt, and 1 kinds.ps (falls 1 kinds.ps _<_ μ t) own.Pre, own.Post)
 

@@ -5,7 +5,7 @@ use borrow.Author.Needs.{needs}
 use Rattle.listing.proofs.write_listing.Statement.{statement}
 use Rattle.listing.proofs.write_listing.Tie as tie
 
--- the area has room for the whole listing
+-- The area has room for the whole listing.
 whole : (c : tie.After-shared-slice-known2) →
     let a = c .before .before .before .args in
     Room (listing (a .modules) (a .cost) (a .plan .now) (a .sheet .now)) 0 (a .out .now)
