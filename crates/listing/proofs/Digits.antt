@@ -1,13 +1,15 @@
--- Laws of decimal numbers: what their digits are, and how many they have at most.
+-- Laws of decimal numbers: what their digits are, and how many they have.
 use Prim.Native.Nat.{ℕ, zero, suc, _*_, _/_, _%_, _^_, _≤_, _<_}
 use mathlib.Core.Path.{_≡_}
 use mathlib.Core.Bool.{Bool, true, false, cond}
+use mathlib.Core.Logic.{⊎-elim}
 use mathlib.Core.List.{[], _∷_, _++_}
 use native.Mathlib.Nat.{pow-suc}
 use native.Mathlib.Omega.{arith}
 use lib.Dec.{ltb}
 use lib.ListN.{length, length-append}
 use borrow.Author.Tests.{lt-ltb, le-ltb}
+use Rattle.lists.specs.Numbers.{le-or-lt}
 use Rattle.model.specs.Listing.{digit, digits, decimal}
 
 -- A tenth of a number has a digit less.
@@ -49,3 +51,33 @@ digits-most (suc a) (suc most) n h = go (ltb n 10) (digits-most a most (n / 10) 
 pub decimal-most : (a n : ℕ) → n < 10 ^ suc a → length (decimal n) ≤ suc a
 unfolding decimal
 decimal-most a = digits-most a 20
+
+digits-some : (most n : ℕ) → 1 ≤ length (digits (suc most) n)
+unfolding digits
+digits-some most n = go (ltb n 10)
+  where
+    go : (one : Bool) → 1 ≤ length (cond one (digit n ∷ []) (digits most (n / 10) ++ (digit (n % 10) ∷ [])))
+    go true = omega arith
+    go false = simp length-append (omega arith)
+
+-- Every number has a digit.
+pub decimal-some : (n : ℕ) → 1 ≤ length (decimal n)
+unfolding decimal
+decimal-some = digits-some 19
+
+digits-rise : (most a b : ℕ) → a ≤ b → length (digits most a) ≤ length (digits most b)
+unfolding digits
+digits-rise zero a b h = omega arith
+digits-rise (suc most) a b h =
+    let rest = digits-rise most (a / 10) (b / 10) (omega arith) in
+    ⊎-elim
+    (λ (more : 10 ≤ a).
+    let further : 10 ≤ b = omega arith in
+    rw (le-ltb a 10 more, le-ltb b 10 further) (simp length-append (omega arith)))
+    (λ (one : a < 10). rw (lt-ltb a 10 one) (digits-some most b))
+    (le-or-lt 10 a)
+
+-- A larger number has no fewer digits.
+pub decimal-rise : (a b : ℕ) → a ≤ b → length (decimal a) ≤ length (decimal b)
+unfolding decimal
+decimal-rise = digits-rise 20

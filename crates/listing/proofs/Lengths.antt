@@ -1,7 +1,7 @@
 -- How long the texts are at most.
 use Prim.Native.Nat.{ℕ, _+_, _*_, _^_, _≤_, _<_}
 use mathlib.Core.Bool.{Bool, true, false, cond}
-use mathlib.Core.List.{List, _++_}
+use mathlib.Core.List.{List}
 use native.Mathlib.Omega.{arith}
 use lib.ListN.{length, getD, take, drop, length-append, length-take}
 use lib.Seq.{getD-take, getD-drop}
@@ -9,8 +9,8 @@ use Rattle.lists.specs.Parts.{getD-within}
 use Rattle.lists.specs.Text.{text}
 use Rattle.lists.specs.Writing.{Room, rows-at-most}
 use Rattle.model.specs.Sheets.{off, isOff}
-use Rattle.model.specs.Listing.{decimal, newline, costLine, planLine, stepText, slotLine, listing, refusedLine}
-use Rattle.listing.specs.Texts.{numberedLine, countText, countTexts, moduleText, moduleTexts, sheetLine, sheetLines}
+use Rattle.model.specs.Listing.{decimal, costLine, planLine, stepText, slotLine, listing, refusedLine}
+use Rattle.listing.specs.Texts.{numberedLine, countText, moduleText, sheetLine, sheetLines}
 use Rattle.listing.specs.Texts.{Printable, LineRoom}
 use Rattle.listing.proofs.Digits.{decimal-most}
 
@@ -27,7 +27,8 @@ cost-length = line-length (text "cost ")
 plan-length : (p : List ℕ) → ((t : ℕ) → getD p t 0 < 256) → length (planLine p) ≤ 5 + length p * 4
 unfolding planLine
 plan-length p byte =
-    simp length-append (omega (arith, rows-at-most 4 (length p) (λ t. countText (getD p t 0)) (λ t h. count t)))
+    let counts = rows-at-most 4 (length p) (λ t. countText (getD p t 0)) (λ t h. count t) in
+    simp length-append (omega arith)
   where
     count : (t : ℕ) → length (countText (getD p t 0)) ≤ 4
     count t = omega (arith, decimal-most 2 (getD p t 0) (omega (arith, byte t)))
@@ -46,7 +47,8 @@ slot-length :
     (t : ℕ) (row : List ℕ) → t < 1024 → ((k : ℕ) → k < length row → getD row k 0 < 256) → length (slotLine t row) ≤ 11 + length row * 4
 unfolding slotLine
 slot-length t row h byte =
-    simp length-append (omega (arith, decimal-most 3 (t + 1) (omega arith), rows-at-most 4 (length row) (λ k. moduleText (getD row k off)) step))
+    let steps = rows-at-most 4 (length row) (λ k. moduleText (getD row k off)) step in
+    simp length-append (omega (arith, decimal-most 3 (t + 1) (omega arith)))
   where
     step : (k : ℕ) → k < length row → length (moduleText (getD row k off)) ≤ 4
     step k l = rw (getD-within row k off 0 l) (omega (arith, step-length (getD row k 0) (byte k l)))

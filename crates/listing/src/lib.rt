@@ -151,15 +151,15 @@ fn put_sheet(out: &mut [u8], at: usize, m: usize, slots: usize, sheet: &[u8]) ->
     place
 }
 
-// Writes the listing of a plan and its sheet at the front of the area, and returns its length.
-pub fn write_listing(out: &mut [u8], modules: u64, cost: u64, plan: &[u8], sheet: &[u8]) -> usize
-    requires { ⌜ Printable modules (now plan) (now sheet) (now out) ⌝ }
-    ensures size { λ r. ⌜ r ≡ length (listing modules cost (now (plan .entry)) (now (sheet .entry))) ⌝ }
-    ensures bytes { λ _. ⌜ now (out .exit) ≡ writtenOver (listing modules cost (now (plan .entry)) (now (sheet .entry))) (now (out .entry)) ⌝ }
+// Writes the listing of a plan and its sheet, in rows of m bytes, at the front of the area, and returns its length.
+pub fn write_listing(out: &mut [u8], m: u64, cost: u64, plan: &[u8], sheet: &[u8]) -> usize
+    requires { ⌜ Printable m (now plan) (now sheet) (now out) ⌝ }
+    ensures size { λ r. ⌜ r ≡ length (listing m cost (now (plan .entry)) (now (sheet .entry))) ⌝ }
+    ensures bytes { λ _. ⌜ now (out .exit) ≡ writtenOver (listing m cost (now (plan .entry)) (now (sheet .entry))) (now (out .entry)) ⌝ }
 {
     let plan_line = put_line(out, 0, b"cost ", cost);
     let slot_lines = put_plan(out, plan_line, plan);
-    put_sheet(out, slot_lines, modules as usize, plan.len(), sheet)
+    put_sheet(out, slot_lines, m as usize, plan.len(), sheet)
 }
 
 // Writes the line of a refusal at the front of the area, and returns its length.

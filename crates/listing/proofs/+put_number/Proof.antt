@@ -1,7 +1,9 @@
-use Rattle.lists.specs.Writing.{room-first, room-rest, written-more}
+use mathlib.Core.List.{[], _∷_}
+use Rattle.lists.specs.Writing.{room-less, room-first, room-rest, written-more}
+use Rattle.model.specs.Listing.{digit}
 use Rattle.listing.proofs.Digits.{decimal-one, decimal-more}
 use native.Mathlib.Omega.{arith}
-use Prim.Native.Nat.{ℕ, _<_}
+use Prim.Native.Nat.{ℕ, _%_, _<_}
 use borrow.Author.Needs.{needs}
 use borrow.Fn.Kinds.{In}
 use borrow.Fn.PlainCycle.{Measures, is, falls, and}
@@ -52,12 +54,13 @@ module _ (t : ℕ) where
   cast-put-2 : lts.Need-cast-put-2 callees Before own.Post
   cast-put-2 c = omega arith
 
+  -- There is room for the last digit, whatever the digit is.
   put-requires-2 : lts.Need-put-requires-2 callees Before own.Post
   put-requires-2 c κs =
       let rest = c .before .before .before in
       let start = rest .before .before .before .before in
       let e = decimal-more _ (rest .before .before .if1 .left) (start .fits .n .fits) in
-      room-rest (rw e at (start .pre .1)) (rest .put-number .ensures)
+      room-less (omega arith) (room-rest {b = digit (start .args .n % 10) ∷ []} (rw e at (start .pre .1)) (rest .put-number .ensures))
 
   same-length-2 : lts.Need-same-length-2 callees Before own.Post
   same-length-2 c = search needs

@@ -1,5 +1,6 @@
-use Rattle.lists.specs.Writing.{room-first, room-rest, written-more}
-use Rattle.model.specs.Listing.{slotLine}
+use native.Mathlib.Omega.{arith}
+use Rattle.lists.specs.Writing.{room-less, room-first, room-rest, written-more}
+use Rattle.model.specs.Listing.{newline, slotLine}
 use borrow.Author.Needs.{needs}
 use Rattle.listing.proofs.put_slot.Statement.{statement}
 use Rattle.listing.proofs.put_slot.Tie as tie
@@ -22,6 +23,7 @@ put-steps-requires c κs =
     let rest = room-rest (number .before .before .before .before .pre .1) (number .put-slot-number .ensures) in
     room-first _ (room-rest rest (colon .put .ensures))
 
+-- There is room for the last byte, whatever the byte is.
 put-requires-2 : tie.Need-put-requires-2
 unfolding slotLine
 put-requires-2 c κs =
@@ -29,7 +31,7 @@ put-requires-2 c κs =
     let colon = steps .before .before .before .before in
     let number = colon .before .before .before .before in
     let rest = room-rest (number .before .before .before .before .pre .1) (number .put-slot-number .ensures) in
-    room-rest (room-rest rest (colon .put .ensures)) (steps .put-steps .ensures)
+    room-less (omega arith) (room-rest {b = newline} (room-rest rest (colon .put .ensures)) (steps .put-steps .ensures))
 
 same-length : tie.Need-same-length
 same-length c = search needs

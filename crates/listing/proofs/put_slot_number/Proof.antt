@@ -1,4 +1,6 @@
-use Rattle.lists.specs.Writing.{room-first, room-rest, written-more}
+use native.Mathlib.Omega.{arith}
+use Rattle.lists.specs.Writing.{room-less, room-first, room-rest, written-more}
+use Rattle.listing.proofs.Digits.{decimal-rise}
 use borrow.Author.Needs.{needs}
 use Rattle.listing.proofs.put_slot_number.Statement.{statement}
 use Rattle.listing.proofs.put_slot_number.Tie as tie
@@ -12,8 +14,11 @@ put-word-requires c κs = search room-first
 add-put-number : tie.Need-add-put-number
 add-put-number c = search needs
 
+-- There is room for the slot's number, and for every smaller one.
 put-number-requires : tie.Need-put-number-requires
-put-number-requires c κs = search room-rest
+put-number-requires c κs =
+    let word = c .before .before .before in
+    room-less (decimal-rise _ _ (omega arith)) (room-rest (word .before .before .before .before .pre .1) (word .put-word .ensures))
 
 same-length : tie.Need-same-length
 same-length c = search needs

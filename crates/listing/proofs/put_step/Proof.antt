@@ -1,4 +1,6 @@
-use Rattle.listing.proofs.StepTexts.{step-off, step-on}
+use native.Mathlib.Omega.{arith}
+use Rattle.lists.specs.Writing.{room-less}
+use Rattle.listing.proofs.StepTexts.{step-off, step-on, step-some}
 use borrow.Author.Needs.{needs}
 use Rattle.listing.proofs.put_step.Statement.{statement}
 use Rattle.listing.proofs.put_step.Tie as tie
@@ -6,8 +8,11 @@ use Rattle.listing.proofs.put_step.Tie as tie
 slice-aggregate-put-word : tie.Need-slice-aggregate-put-word
 slice-aggregate-put-word c = search needs
 
+-- Where there is room for a blank and any step, there is room for two bytes.
 put-word-requires : tie.Need-put-word-requires
-put-word-requires c κs = rw (step-off (c .before .before .if1 .taken)) at (c .before .before .before .before .pre)
+put-word-requires c κs =
+    let step = c .before .before .before .before .args .step in
+    room-less (omega (arith, step-some step)) (c .before .before .before .before .pre)
 
 same-length : tie.Need-same-length
 same-length c = search needs

@@ -8,7 +8,7 @@ use Rattle.listing.proofs.write_listing.Tie as tie
 -- The area has room for the whole listing.
 whole : (c : tie.After-shared-slice-known2) →
     let a = c .before .before .before .args in
-    Room (listing (a .modules) (a .cost) (a .plan .now) (a .sheet .now)) 0 (a .out .now)
+    Room (listing (a .m) (a .cost) (a .plan .now) (a .sheet .now)) 0 (a .out .now)
 whole c =
     let start = c .before .before .before in
     listing-room (start .pre) (start .fits .cost .fits) (λ k. c .before .shared-slice-known .given k .fits)
