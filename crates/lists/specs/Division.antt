@@ -6,12 +6,12 @@ use native.Mathlib.Nat.{add-mul, sub-add-cancel, mod-zero, mod-lt, div-add-mod, 
 use native.Mathlib.Omega.{arith}
 use Rattle.lists.specs.Numbers.{le-or-lt}
 
--- what n parts of at most q each hold leaves a remainder of at most n,
+-- A number of at most n * q leaves a remainder of at most n by n, also where n is 0.
 pub remainder-le : (n l q : ℕ) → l ≤ n * q → l % n ≤ n
 remainder-le zero l q h = omega (arith, mod-zero l)
 remainder-le (suc n) l q h = le-of-lt (mod-lt l (omega arith))
 
--- and where some is left over, a quotient below q
+-- A number of at most n * q that leaves a remainder by n has a quotient below q.
 pub quotient-lt : (n l q : ℕ) → l ≤ n * q → 0 < l % n → l / n < q
 quotient-lt n l q h p =
     ⊎-elim
@@ -19,5 +19,6 @@ quotient-lt n l q h p =
     (λ (g : l / n < q). g)
     (le-or-lt q (l / n))
 
+-- A number taken n - r times and r times is taken n times.
 pub part-and-rest : (n r x : ℕ) → r ≤ n → (n - r) * x + r * x ≡ n * x
 part-and-rest n r x h = sym (add-mul (n - r) r x) ∙ ap (λ (y : ℕ). y * x) (sub-add-cancel h)

@@ -9,20 +9,22 @@ use lib.Seq.{getD-set-same, getD-set-other}
 use Rattle.lists.specs.Numbers.{le-or-lt}
 use Rattle.lists.specs.Lists.{tabulate, equal-tabulate}
 
--- below j the list holds f, from j on it is as it was
+-- Filling upwards: below j the list holds f, and from j on it is as it was.
 pub record Upto (f : ℕ → ℕ) (j : ℕ) (old new : List ℕ) : Type 0 where
   pub size : length new ≡ length old
   pub done : (k : ℕ) → k < j → k < length old → getD new k 0 ≡ f k
   pub kept : (k : ℕ) → j ≤ k → getD new k 0 ≡ getD old k 0
 
+-- Before the first store upwards nothing is filled.
 pub upto-none : (f : ℕ → ℕ) (old : List ℕ) → Upto f 0 old old
 upto-none f old = record { size = refl; done = λ k h g. absurd (omega arith); kept = λ k h. refl }
 
--- where the first entry is right already
+-- Where entry 0 is right already, the filling may begin at 1.
 pub upto-first : {f : ℕ → ℕ} (old : List ℕ) → getD old 0 0 ≡ f 0 → Upto f 1 old old
 upto-first old e =
     record { size = refl; done = λ k h _. let same : k ≡ 0 = omega arith in rw same e; kept = λ k _. refl }
 
+-- A store at j, where everything below j is done, fills the list up to j + 1.
 pub upto-more :
     {f : ℕ → ℕ} {j x : ℕ} {old new : List ℕ} → Upto f j old new → j < length old → x ≡ f j → Upto f (j + 1) old (set new j x)
 upto-more {f} {j} {x} {old} {new} u h e =
@@ -39,19 +41,21 @@ upto-more {f} {j} {x} {old} {new} u h e =
       kept = λ k g. getD-set-other new j k x 0 (omega arith) ∙ u .kept k (omega arith);
     }
 
+-- A list filled up to its length is the table of f.
 pub upto-all : {f : ℕ → ℕ} {j : ℕ} {old new : List ℕ} → Upto f j old new → length old ≤ j → new ≡ tabulate (length old) f
 upto-all u h = equal-tabulate (u .size) (λ k inside. u .done k (omega arith) inside)
 
--- from j on the list holds f, below j it is as it was
+-- Filling downwards: from j on the list holds f, and below j it is as it was.
 pub record Downto (f : ℕ → ℕ) (j : ℕ) (old new : List ℕ) : Type 0 where
   pub size : length new ≡ length old
   pub done : (k : ℕ) → j ≤ k → k < length old → getD new k 0 ≡ f k
   pub kept : (k : ℕ) → k < j → getD new k 0 ≡ getD old k 0
 
+-- Before the first store downwards nothing is filled.
 pub downto-none : (f : ℕ → ℕ) (old : List ℕ) → Downto f (length old) old old
 downto-none f old = record { size = refl; done = λ k h g. absurd (omega arith); kept = λ k h. refl }
 
--- the store at j, where everything above j is done
+-- A store at j, where everything above j is done, fills the list down to j.
 pub downto-more :
     {f : ℕ → ℕ} {j x : ℕ} {old new : List ℕ} → Downto f (j + 1) old new → j < length old → x ≡ f j → Downto f j old (set new j x)
 downto-more {f} {j} {x} {old} {new} u h e =
@@ -68,5 +72,6 @@ downto-more {f} {j} {x} {old} {new} u h e =
       kept = λ k g. getD-set-other new j k x 0 (omega arith) ∙ u .kept k (omega arith);
     }
 
+-- A list filled down to place 0 is the table of f.
 pub downto-all : {f : ℕ → ℕ} {old new : List ℕ} → Downto f 0 old new → new ≡ tabulate (length old) f
 downto-all u = equal-tabulate (u .size) (λ k inside. u .done k (omega arith) inside)

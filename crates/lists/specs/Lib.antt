@@ -1,4 +1,4 @@
--- General definitions and laws that know nothing of lamps. A module a subject.
+-- General definitions and laws that know nothing of lamps, a module for each subject.
 pub mod Numbers
 pub mod Products
 pub mod Division

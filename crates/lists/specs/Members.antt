@@ -14,25 +14,26 @@ use Rattle.lists.specs.Rising.{rises-to}
 use Rattle.lists.specs.Lists.{keep}
 
 module _ {A : Type 0} where
-  -- an element at a place below the length is a member
+  -- An element at a place below the length is a member.
   pub member-at : (l : List A) (j : ℕ) (d : A) → j < length l → List·Memᴰ (getD l j d) l
   member-at [] j d h = absurd (not-suc-le-zero h)
   member-at (x ∷ xs) zero d h = List·Memᴰ·head refl
   member-at (x ∷ xs) (suc j) d h = List·Memᴰ·tail (member-at xs j d (le-of-suc-le-suc h))
 
-  -- a member stands at a place
+  -- A member stands at a place below the length.
   pub place-of : {x : A} {l : List A} (d : A) → List·Memᴰ x l → (j : ℕ) × (j < length l) × (getD l j d ≡ x)
   place-of d (List·Memᴰ·head e) = (0, omega arith, sym e)
   place-of d (List·Memᴰ·tail m) = let (j, h, e) = place-of d m in (suc j, omega arith, e)
 
-  -- a list of n elements and one more after them
+  -- One more element after n leaves the n before it as they are.
   pub snoc-before : (l : List A) (x d : A) (n j : ℕ) → length l ≡ n → j < n → getD (l ++ (x ∷ [])) j d ≡ getD l j d
   snoc-before l x d n j e h = List·getD-append l (x ∷ []) d j (omega arith)
 
+  -- One more element makes a list one longer.
   pub snoc-length : (l : List A) (x : A) (n : ℕ) → length l ≡ n → length (l ++ (x ∷ [])) ≡ suc n
   snoc-length l x n e = omega (arith, length-append l (x ∷ []))
 
-  -- the members of `keep` are those at which the test holds
+  -- A member at which the test holds is a member of `keep`.
   pub to-keep : (f : A → Bool) {x : A} {l : List A} → List·Memᴰ x l → f x ≡ true → List·Memᴰ x (keep f l)
   unfolding keep
   to-keep f (List·Memᴰ·head h) e = rw (rw h at e) (List·Memᴰ·head h)
@@ -42,6 +43,7 @@ module _ {A : Type 0} where
       later true m = List·Memᴰ·tail m
       later false m = m
 
+  -- A member of `keep` is a member at which the test holds.
   pub from-keep : (f : A → Bool) {x : A} (l : List A) → List·Memᴰ x (keep f l) → List·Memᴰ x l × (f x ≡ true)
   unfolding keep
   from-keep f [] m = absurd (List·Memᴰ·not-nil m)
@@ -57,19 +59,19 @@ module _ {A : Type 0} where
           (List·Memᴰ·cases-cons m)
       split false e m below = let (n, g) = below m in (List·Memᴰ·tail n, g)
 
-  -- each element stands in the relation to every later one
+  -- A list in order: each element stands in the relation to every later one.
   pub data InOrder (R : A → A → Type 0) : List A → Type 0 where
     none : InOrder R []
     next : {x : A} {xs : List A} → ((y : A) → List·Memᴰ y xs → R x y) → InOrder R xs → InOrder R (x ∷ xs)
 
-  -- an element stands in it to each at a later place
+  -- In a list in order an element stands in the relation to each at a later place.
   pub in-order-at : {R : A → A → Type 0} {l : List A} → InOrder R l → (d : A) (j k : ℕ) → j < k → k < length l → R (getD l j d) (getD l k d)
   in-order-at none d j k h inside = absurd (not-suc-le-zero inside)
   in-order-at (next first later) d j zero h inside = absurd (not-suc-le-zero h)
   in-order-at (next {xs = xs} first later) d zero (suc k) h inside = first _ (member-at xs k d (omega arith))
   in-order-at (next first later) d (suc j) (suc k) h inside = in-order-at later d j k (omega arith) (omega arith)
 
-  -- order is kept by `keep`, and by `++` if all of the one list is related to all of the other
+  -- Order is kept by `keep`.
   pub in-order-keep : {R : A → A → Type 0} (f : A → Bool) {l : List A} → InOrder R l → InOrder R (keep f l)
   unfolding keep
   in-order-keep f none = none
@@ -79,6 +81,7 @@ module _ {A : Type 0} where
       split true o = next (λ y m. first y (from-keep f xs m .0)) o
       split false o = o
 
+  -- Two lists in order, joined, are in order if each of the first is related to each of the second.
   in-order-append :
       {R : A → A → Type 0} {xs ys : List A} → InOrder R xs → InOrder R ys →
       ((x y : A) → List·Memᴰ x xs → List·Memᴰ y ys → R x y) → InOrder R (xs ++ ys)
@@ -88,7 +91,7 @@ module _ {A : Type 0} where
       (λ y m. ⊎-elim (first y) (λ (h : List·Memᴰ y ys). across x y (List·Memᴰ·head refl) h) (List·Memᴰ·append-cases xs m))
       (in-order-append later p (λ a b m n. across a b (List·Memᴰ·tail m) n))
 
--- a list of numbers that rises at each step stands in order
+-- A list of numbers, each below the next, is in order.
 pub rising-in-order : (l : List ℕ) → ((j : ℕ) → j + 1 < length l → getD l j 0 < getD l (j + 1) 0) → InOrder _<_ l
 rising-in-order [] rises = none
 rising-in-order (x ∷ xs) rises =
@@ -99,7 +102,7 @@ rising-in-order (x ∷ xs) rises =
     rw e at (le-trans (rises 0 (omega arith)) (rise 1 (suc j) (omega arith) (omega arith))))
     (rising-in-order xs (λ j h. rw (add-one j) (rw (add-one (suc j)) at (rises (suc j) (omega arith)))))
 
--- and then an element is at most each that stands no earlier
+-- In an ascending list an element is at most each one that stands no earlier.
 pub in-order-le : {l : List ℕ} → InOrder _<_ l → (j k : ℕ) → j ≤ k → k < length l → getD l j 0 ≤ getD l k 0
 in-order-le order j k h inside =
     ⊎-elim
@@ -108,7 +111,7 @@ in-order-le order j k h inside =
     (le-or-lt k j)
 
 module _ {A B : Type 0} where
-  -- the members of `map`
+  -- A member of `map` is the function's value at a member of the list.
   pub from-map : (f : A → B) {y : B} (l : List A) → List·Memᴰ y (map f l) → (x : A) × List·Memᴰ x l × (y ≡ f x)
   from-map f [] m = absurd (List·Memᴰ·not-nil m)
   from-map f {y} (x ∷ xs) m =
@@ -117,7 +120,7 @@ module _ {A B : Type 0} where
       (λ (h : List·Memᴰ y (map f xs)). let (z, n, e) = from-map f xs h in (z, List·Memᴰ·tail n, e))
       (List·Memᴰ·cases-cons m)
 
-  -- order is kept by a function that keeps the relation
+  -- Order is kept by `map` of a function that keeps the relation.
   pub in-order-map :
       {R : B → B → Type 0} {S : A → A → Type 0} (f : A → B) {l : List A} →
       ((x y : A) → List·Memᴰ x l → List·Memᴰ y l → S x y → R (f x) (f y)) → InOrder S l → InOrder R (map f l)
@@ -129,12 +132,13 @@ module _ {A B : Type 0} where
       rw e (keeps x z (List·Memᴰ·head refl) (List·Memᴰ·tail n) (first z n)))
       (in-order-map f (λ a b m n. keeps a b (List·Memᴰ·tail m) (List·Memᴰ·tail n)) later)
 
-  -- the members of `flatMap`
+  -- A member of the list that the function gives for a member is a member of `flatMap`.
   pub to-flatMap : (f : A → List B) {x : A} {y : B} {l : List A} → List·Memᴰ x l → List·Memᴰ y (f x) → List·Memᴰ y (flatMap f l)
   unfolding flatMap
   to-flatMap f (List·Memᴰ·head {xs = xs} e) n = Memᴰ·append-left (flatMap f xs) (rw e at n)
   to-flatMap f (List·Memᴰ·tail {x = z} m) n = Memᴰ·append-right (f z) (to-flatMap f m n)
 
+  -- A member of `flatMap` is one of the list that the function gives for some member.
   pub from-flatMap :
       (f : A → List B) {y : B} (l : List A) → List·Memᴰ y (flatMap f l) → (x : A) × List·Memᴰ x l × List·Memᴰ y (f x)
   unfolding flatMap
@@ -145,7 +149,7 @@ module _ {A B : Type 0} where
       (λ (h : List·Memᴰ y (flatMap f xs)). let (z, n, g) = from-flatMap f xs h in (z, List·Memᴰ·tail n, g))
       (List·Memᴰ·append-cases (f x) m)
 
-  -- and by one that gives lists in order, those of related elements related throughout
+  -- Order is kept by `flatMap` of a function that gives lists in order, where those of related elements are related throughout.
   pub in-order-flatMap :
       {R : B → B → Type 0} {S : A → A → Type 0} (f : A → List B) {l : List A} → ((x : A) → InOrder R (f x)) →
       ((x y : A) (a b : B) → S x y → List·Memᴰ a (f x) → List·Memᴰ b (f y) → R a b) → InOrder S l → InOrder R (flatMap f l)

@@ -6,6 +6,7 @@ use mathlib.Core.Logic.{_⊎_, inl, inr}
 use native.Mathlib.Nat.{lt-of-not-le}
 use native.Mathlib.Decide.{decLe}
 
+-- Of two numbers, the first is at most the second, or the second is below the first.
 pub le-or-lt : (a b : ℕ) → (a ≤ b) ⊎ (b < a)
 le-or-lt a b = go (decLe a b)
   where
@@ -13,6 +14,7 @@ le-or-lt a b = go (decLe a b)
     go (yes h) = inl h
     go (no h) = inr (lt-of-not-le h)
 
+-- A test is true or false.
 pub true-or-false : (b : Bool) → (b ≡ true) ⊎ (b ≡ false)
 true-or-false true = inl refl
 true-or-false false = inr refl

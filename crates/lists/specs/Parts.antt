@@ -11,17 +11,17 @@ use native.Mathlib.Omega.{arith}
 use Rattle.lists.specs.Numbers.{le-or-lt}
 use Rattle.lists.specs.Filling.{Upto, upto-none}
 
--- inside a list it does not matter what is read beyond its end
+-- Within a list it does not matter what is read beyond its end.
 pub getD-within : (l : List ℕ) (k d e : ℕ) → k < length l → getD l k d ≡ getD l k e
 getD-within [] k d e h = absurd (not-suc-le-zero h)
 getD-within (x ∷ l) zero d e h = refl
 getD-within (x ∷ l) (suc k) d e h = getD-within l k d e (omega arith)
 
--- the length of the part of m entries from a on
+-- The part of m entries from a on has the length m.
 pub part-length : (a m : ℕ) (l : List ℕ) → a + m ≤ length l → length (midOf a (a + m - a) l) ≡ m
 part-length a m l h = mid-len a (a + m) l h ∙ add-sub-cancel-left a m
 
--- entry k of the part from a to e
+-- Entry k of the part from a to e is entry a + k of the list.
 pub part-at : (a e : ℕ) (l : List ℕ) (k d : ℕ) → k < e - a → getD (midOf a (e - a) l) k d ≡ getD l (a + k) d
 part-at a e l k d h = rw (getD-take (e - a) (drop a l) k d h, getD-drop a l k d)
 
@@ -42,7 +42,7 @@ module _ (a e : ℕ) (l new : List ℕ) (order : a ≤ e) (within : e ≤ length
   put-after k d =
       sym (getD-drop e (putMid a (e - a) l new) k d) ∙ rw (drop-put a e l new order within size) (getD-drop e l k d)
 
--- filling the part from a to e, where f is the same all over it
+-- Filling the part from a to e fills the list up to e, where f is the same all over that part.
 pub upto-part :
     {f : ℕ → ℕ} {a e x : ℕ} {old l new : List ℕ} → Upto f a old l → a ≤ e → e ≤ length old →
     new ≡ replicate (length (midOf a (e - a) l)) x → ((k : ℕ) → a ≤ k → k < e → f k ≡ x) → Upto f e old (putMid a (e - a) l new)
@@ -72,7 +72,7 @@ upto-part {f} {a} {e} {x} {old} {l} {new} u order within filled same =
     after : (k : ℕ) → (d : ℕ) × (e + d ≡ k) → getD (putMid a (e - a) l new) k 0 ≡ getD l k 0
     after k (d, p) = rw (← p) (put-after a e l new order long size d 0)
 
--- filling the part up to e
+-- Filling the part before e fills the list up to e, where f is the same all over that part.
 pub upto-front :
     {f : ℕ → ℕ} {e x : ℕ} {old new : List ℕ} → e ≤ length old → new ≡ replicate (length (take e old)) x →
     ((k : ℕ) → k < e → f k ≡ x) → Upto f e old (new ++ drop e old)

@@ -6,11 +6,13 @@ use mathlib.Core.List.{List, [], _∷_, _++_}
 use native.Mathlib.Omega.{arith}
 use Rattle.lists.specs.Lists.{tabulate, keep}
 
+-- A table of one element more is the table and then that element.
 pub tabulate-more : (n : ℕ) (f : ℕ → ℕ) → tabulate (suc n) f ≡ tabulate n f ++ (f n ∷ [])
 unfolding tabulate
 tabulate-more zero f = refl
 tabulate-more (suc n) f = ap (λ (l : List ℕ). f 0 ∷ l) (tabulate-more n (λ k. f (suc k)))
 
+-- What is kept of two lists joined is what is kept of each.
 pub keep-append : (f : ℕ → Bool) (xs ys : List ℕ) → keep f (xs ++ ys) ≡ keep f xs ++ keep f ys
 unfolding keep
 keep-append f [] ys = refl
@@ -22,7 +24,7 @@ keep-append f (x ∷ xs) ys = rw (keep-append f xs ys) (split (f x))
     split true = refl
     split false = refl
 
--- tests that agree at each element
+-- Tests that agree at each element of a table keep the same of it.
 pub keep-tabulate :
     (n : ℕ) (f : ℕ → ℕ) (t u : ℕ → Bool) → ((k : ℕ) → k < n → t (f k) ≡ u (f k)) →
     keep t (tabulate n f) ≡ keep u (tabulate n f)

@@ -7,7 +7,7 @@ use native.Mathlib.Numerals.{add-one}
 use native.Mathlib.Omega.{arith}
 use Rattle.lists.specs.Numbers.{le-or-lt}
 
--- what rises from each index to the next rises from each to every later one
+-- What rises from each index to the next rises from each to every later one.
 pub rises-to : (f : ℕ → ℕ) (n : ℕ) → ((k : ℕ) → k < n → f k ≤ f (k + 1)) → (j k : ℕ) → j ≤ k → k ≤ n → f j ≤ f k
 rises-to f n h j zero before top = let e : j ≡ 0 = omega arith in rw e (le-refl (f 0))
 rises-to f n h j (suc k) before top =
@@ -16,7 +16,7 @@ rises-to f n h j (suc k) before top =
     (λ (less : j < suc k). le-trans (rises-to f n h j k (omega arith) (omega arith)) (rw add-one at (h k (omega arith))))
     (le-or-lt (suc k) j)
 
--- a number between the first value and a later one lies between two neighbours
+-- A number between the first value and a later one lies between two neighbouring values.
 pub between : (f : ℕ → ℕ) (y n : ℕ) → f 0 ≤ y → y ≤ f (n + 1) → (j : ℕ) × (j ≤ n) × (f j ≤ y) × (y ≤ f (j + 1))
 between f y zero low high = (0, le-refl 0, low, high)
 between f y (suc n) low high =

@@ -12,18 +12,18 @@ use lib.Seq.{take-at, drop-at, drop-drop}
 use borrow.Rule.Slice.PartMut.{putMid}
 use Rattle.lists.specs.Lists.{rows, length-rows, getD-rows}
 
--- row t of n rows lies inside
+-- Each of n rows of m entries lies within a list that is long enough for all of them.
 pub row-within : (m : ℕ) {n t size : ℕ} → t < n → m * n ≤ size → t * m + m ≤ size
 row-within m h g = omega (arith, mul-le-mul-left m h)
 
 module _ (m : ℕ) (f : ℕ → List ℕ) (sized : (t : ℕ) → length (f t) ≡ m) where
-  -- entry k of row t
+  -- Entry k of row t stands at place t * m + k, whatever comes after the rows.
   pub front-row : (n t k d : ℕ) (rest : List ℕ) → t < n → k < m → getD (rows n f ++ rest) (t * m + k) d ≡ getD (f t) k d
   front-row n t k d rest h g =
       List·getD-append (rows n f) rest d (t * m + k) (omega (arith, length-rows m n f sized, digits-lt h g)) ∙
       getD-rows m n f sized t k d h g
 
-  -- each entry stands in its row
+  -- Each entry before the rows' end stands in its row, at the place's quotient and remainder by m.
   pub front-entry : (n k d : ℕ) (rest : List ℕ) → k < n * m → getD (rows n f ++ rest) k d ≡ getD (f (k / m)) (k % m) d
   front-entry n k d rest h =
       ⊎-elim
@@ -31,11 +31,11 @@ module _ (m : ℕ) (f : ℕ → List ℕ) (sized : (t : ℕ) → length (f t) �
       (λ (some : 0 < m). rw (div-add-mod' k m) at (front-row n (k / m) (k % m) d rest (div-lt-iff-lt-mul some .1 h) (mod-lt k some)))
       (eq-zero-or-pos m)
 
-  -- Filling row by row: the first n rows are written, the rest is as it was.
+  -- Filling row by row, the first n rows written and the rest as it was, keeps the length.
   pub rows-size : (n : ℕ) (old : List ℕ) → n * m ≤ length old → length (rows n f ++ drop (n * m) old) ≡ length old
   rows-size n old h = omega (arith, length-append (rows n f) (drop (n * m) old), length-rows m n f sized, length-drop (n * m) old)
 
-  -- the next row, put in the place of the k entries from a on
+  -- The next row, put in the place of the k entries from a on, makes the filled rows one more.
   pub next-row :
       (n : ℕ) (old : List ℕ) {a k : ℕ} {area : List ℕ} → a ≡ n * m → k ≡ m → area ≡ rows n f ++ drop (n * m) old →
       putMid a k area (f n) ≡ rows (n + 1) f ++ drop ((n + 1) * m) old

@@ -4,33 +4,36 @@ use mathlib.Core.Path.{_≡_, refl}
 use native.Mathlib.Nat.{add-suc, add-zero, zero-add, suc-mul, zero-mul, le-refl}
 use native.Mathlib.Omega.{arith}
 
--- f 0 + .. + f (n - 1)
+-- The sum f 0 + .. + f (n - 1).
 unfoldable pub sum : ℕ → (ℕ → ℕ) → ℕ
 sum zero f = 0
 sum (suc n) f = sum n f + f n
 
--- terms that agree, or are ordered, below n
+-- Sums of terms that agree are equal.
 pub sum-ext : (n : ℕ) {f g : ℕ → ℕ} → ((k : ℕ) → k < n → f k ≡ g k) → sum n f ≡ sum n g
 unfolding sum
 sum-ext zero h = refl
 sum-ext (suc n) h = omega (arith, sum-ext n (λ k l. h k (omega arith)), h n (omega arith))
 
+-- A sum whose terms are at most those of another is at most the other.
 pub sum-mono : (n : ℕ) {f g : ℕ → ℕ} → ((k : ℕ) → k < n → f k ≤ g k) → sum n f ≤ sum n g
 unfolding sum
 sum-mono zero h = le-refl 0
 sum-mono (suc n) h = omega (arith, sum-mono n (λ k l. h k (omega arith)), h n (omega arith))
 
+-- The sum of all f k + g k is the sum of f and the sum of g.
 pub sum-add : (n : ℕ) (f g : ℕ → ℕ) → sum n (λ k. f k + g k) ≡ sum n f + sum n g
 unfolding sum
 sum-add zero f g = refl
 sum-add (suc n) f g = omega (arith, sum-add n f g)
 
+-- A factor of each term is a factor of the sum.
 pub sum-scale : (n c : ℕ) (f : ℕ → ℕ) → sum n (λ k. c * f k) ≡ c * sum n f
 unfolding sum
 sum-scale zero c f = omega arith
 sum-scale (suc n) c f = omega (arith, sum-scale n c f)
 
--- the d terms from a to b are all c
+-- Where the d terms from a to b are all c, a sum up to b is d * c more than one up to a.
 pub sum-from : (a d b : ℕ) {f : ℕ → ℕ} {c : ℕ} → a + d ≡ b → ((k : ℕ) → a ≤ k → k < b → f k ≡ c) → sum b f ≡ sum a f + d * c
 unfolding sum
 sum-from a zero b e h = rw (← e, add-zero a) (omega arith)
@@ -38,22 +41,24 @@ sum-from a (suc d) b e h =
     let rest = sum-from a d (a + d) refl (λ k g l. h k g (omega arith)) in
     rw (← e, add-suc a d) (omega (arith, h (a + d) (omega arith) (omega arith)))
 
+-- A sum of n terms that are all c is n * c.
 pub sum-const : (n : ℕ) {f : ℕ → ℕ} {c : ℕ} → ((k : ℕ) → k < n → f k ≡ c) → sum n f ≡ n * c
 unfolding sum
 sum-const n h = omega (arith, sum-from 0 n n (zero-add n) (λ k g. h k))
 
+-- A sum of n terms of at most c each is at most n * c.
 pub sum-at-most : (n : ℕ) {f : ℕ → ℕ} {c : ℕ} → ((k : ℕ) → k < n → f k ≤ c) → sum n f ≤ n * c
 unfolding sum
 sum-at-most zero h = omega arith
 sum-at-most (suc n) h = omega (arith, sum-at-most n (λ k l. h k (omega arith)), h n (omega arith))
 
--- the first a terms and the b after them
+-- A sum of a + b terms is that of the first a and that of the b after them.
 pub sum-join : (a b : ℕ) (f : ℕ → ℕ) → sum (a + b) f ≡ sum a f + sum b (λ k. f (a + k))
 unfolding sum
 sum-join a zero f = rw (add-zero a) (omega arith)
 sum-join a (suc b) f = rw (add-suc a b) (omega (arith, sum-join a b f))
 
--- n blocks of m terms
+-- A sum of n sums over blocks of m terms is the sum of all n * m terms.
 pub sum-blocks : (n m : ℕ) (f : ℕ → ℕ) → sum n (λ t. sum m (λ k. f (t * m + k))) ≡ sum (n * m) f
 unfolding sum
 sum-blocks zero m f = rw (zero-mul m)
