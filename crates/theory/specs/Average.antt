@@ -1,4 +1,4 @@
--- The running cost under a table that never falls: more light costs no less, and the average over the modules falls with their number.
+-- The operating cost under a table that never falls: more light costs no less, and the average over the modules falls with their number.
 use Prim.Native.Nat.{ℕ, zero, suc, _+_, _-_, _*_, _/_, _%_, _≤_, _<_}
 use mathlib.Core.Path.{_≡_, refl, ap, _∙_}
 use mathlib.Core.Logic.{_↔_, ⊎-elim}
@@ -10,8 +10,8 @@ use Rattle.lists.specs.Products.{exchange, mul-le-mul-some}
 use Rattle.lists.specs.Rising.{rises-to}
 use Rattle.model.specs.Instance.{Instance}
 use Rattle.model.specs.Counts.{operatingCost}
-use Rattle.theory.specs.Setting.{NeverFalls}
-use Rattle.laws.specs.Running.{running-some}
+use Rattle.theory.specs.Hypotheses.{NeverFalls}
+use Rattle.laws.specs.Operating.{operating-some}
 
 -- A load over n modules: `high` of them at step + 1, and the others, at least one, at `step`.
 record Shares (n l : ℕ) : Type 0 where
@@ -31,15 +31,15 @@ shares n l h =
       light = div-add-mod l n;
     }
 
--- the cost with r modules at step q + 1 and the others, at least one, at step q
+-- The cost with r modules at step q + 1 and the others, at least one, at step q.
 cost-below : (i : Instance) (n l q r : ℕ) → r < n → n * q + r ≡ l → operatingCost i n l ≡ (n - r) * i .table q + r * i .table (q + 1)
 cost-below i n l q r h e =
     let some : 0 < n = omega arith in
     let quotient : l / n ≡ q = rw (← e, mul-add-div some q r, div-eq-of-lt h) (add-zero q) in
     let remainder : l % n ≡ r = rw (← e, mul-add-mod-self-left n q r) (mod-eq-of-lt h) in
-    rw (running-some i n l some, quotient, remainder)
+    rw (operating-some i n l some, quotient, remainder)
 
--- the cost with s modules at step q and r at step q + 1, where either may be none
+-- The cost with s modules at step q and r at step q + 1, where either may be none.
 cost-shared :
     (i : Instance) (n l q r s : ℕ) → 0 < n → s + r ≡ n → n * q + r ≡ l → operatingCost i n l ≡ s * i .table q + r * i .table (q + 1)
 cost-shared i n l q r zero some all light =
@@ -50,7 +50,7 @@ cost-shared i n l q r (suc s) some all light =
     rw (cost-below i n l q r (omega arith) light, rest)
 
 module _ (i : Instance) where
-  -- the cost of a load so shared
+  -- The cost of a load shared over modules.
   abbrev shared : {n l : ℕ} → Shares n l → ℕ
   shared σ = (σ .others + 1) * i .table (σ .step) + σ .high * i .table (σ .step + 1)
 
@@ -67,17 +67,17 @@ module _ (i : Instance) where
         omega (arith, rises (σ .step) (lt-of-mul-lt-mul-left n (omega arith)))
 
     module _ {x a l : ℕ} (fewer : x ≤ a) (fits : l ≤ x * i .topStep) (σ : Shares x l) (τ : Shares a l) where
-      -- the next step costs no less, if a module is at it: beyond the top step the table says nothing
+      -- The next step costs no less if a module is at it: beyond the top step the table says nothing.
       high-rises : σ .high * i .table (σ .step) ≤ σ .high * i .table (σ .step + 1)
       high-rises = mul-le-mul-some (σ .high) (λ some. rises (σ .step) (lt-of-mul-lt-mul-left x (omega arith)))
 
-      -- more modules run no higher
+      -- More modules burn at no higher step.
       step-falls : τ .step ≤ σ .step
       step-falls =
           let h : τ .step < σ .step + 1 = lt-of-mul-lt-mul-left a (omega (arith, mul-le-mul-right (σ .step + 1) fewer)) in
           omega arith
 
-      -- where the steps differ, the table at the fewer modules' step lies between the averages
+      -- Where the steps differ, the table at the fewer modules' step lies between the averages.
       average-apart : τ .step < σ .step → x * shared τ ≤ a * shared σ
       average-apart h =
           let top : σ .step ≤ i .topStep = le-of-mul-le-mul-left {k = x} (omega arith) (omega arith) in
@@ -87,7 +87,7 @@ module _ (i : Instance) where
           let less : x * i .table (σ .step) ≤ shared σ = rw (← σ .all) (omega (arith, high-rises)) in
           omega (arith, mul-le-mul-left x more, mul-le-mul-left a less)
 
-      -- where they agree, fewer modules have no smaller part at the next step
+      -- Where the steps agree, fewer modules have no smaller part at the next step.
       average-level : τ .step ≡ σ .step → x * shared τ ≤ a * shared σ
       average-level h =
           let f = i .table (σ .step) in
@@ -107,7 +107,7 @@ module _ (i : Instance) where
         (average-apart fewer fits σ τ)
         (le-or-lt (σ .step) (τ .step)))
 
-  -- one module costs the table's entry
+  -- One module costs the table's entry.
   one-module : (k : ℕ) → k ≤ i .topStep → operatingCost i 1 k ≡ i .table k
   one-module k h = cost-shared i 1 k k 0 1 (omega arith) refl (omega arith) ∙ omega arith
 

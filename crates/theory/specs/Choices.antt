@@ -1,4 +1,4 @@
--- The best of several places, a step at a time: what each pass over the places does.
+-- The best of several places, a place at a time: what each pass over the places does.
 use Prim.Native.Nat.{ℕ, _+_, _≤_, _<_}
 use mathlib.Core.Path.{_≡_, refl, sym, ap, _∙_}
 use mathlib.Core.Bool.{Bool, true, false, cond}
@@ -16,11 +16,11 @@ pub record Best (ok : ℕ → Type 0) (value : ℕ → ℕ) (c : Choice) : Type 
   pub least : (k : ℕ) → ok k → c .cost ≤ value k
   pub first : (k : ℕ) → ok k → value k ≡ c .cost → c .at ≤ k
 
--- the downward pass at a place that serves: its own value, or the best above it
-pub best-own :
+-- The downward pass at a place that serves takes its own value or the best above it.
+pub best-here :
     {ok : ℕ → Type 0} {value : ℕ → ℕ} {c : Choice} (j : ℕ) → ok j → Best (λ k. (j < k) × ok k) value c →
     Best (λ k. (j ≤ k) × ok k) value (cheaper (record { cost = value j; at = j }) c)
-best-own {ok} {value} {c} j serves above = go (leb (value j) (c .cost)) refl
+best-here {ok} {value} {c} j serves above = go (leb (value j) (c .cost)) refl
   where
     mine : Choice
     mine = record { cost = value j; at = j }
@@ -54,7 +54,7 @@ best-own {ok} {value} {c} j serves above = go (leb (value j) (c .cost)) refl
               (le-or-lt k j);
         }
 
--- the downward pass at a place that does not serve
+-- The downward pass at a place that does not serve takes the best above it.
 pub best-skip :
     {ok : ℕ → Type 0} {value : ℕ → ℕ} {c : Choice} (j : ℕ) → ¬ ok j → Best (λ k. (j < k) × ok k) value c →
     Best (λ k. (j ≤ k) × ok k) value c
@@ -73,7 +73,8 @@ best-skip {ok} j stuck above =
         (λ (g : j < k). (g, h .1))
         (le-or-lt k j)
 
--- the upward pass: from place j to the one above, which costs g more; `now` and `later` are the values up to the one and the other
+-- The upward pass goes from place j to the one above, which costs g more. There `now` and `later` are the values up to the one and the
+-- other.
 pub best-raised :
     {ok : ℕ → Type 0} {value now later : ℕ → ℕ} {low high : Choice} (j g : ℕ) →
     ((k : ℕ) → k ≤ j → later k ≡ now k + g) → ((k : ℕ) → j < k → ok k → now k ≡ value k) →
@@ -86,7 +87,7 @@ best-raised {ok} {value} {now} {later} {low} {high} j g up-to above above′ L H
     up : Choice
     up = record { cost = low .cost + g; at = low .at }
 
-    -- where the lower place's choice lies above it and still wins, switching on costs nothing
+    -- Where the lower place's choice lies above it and still wins, switching on costs nothing.
     free : low .cost + g ≤ high .cost → j < low .at → g ≡ 0
     free h far = omega (arith, L .cost-is, above (low .at) far (L .found), H .least (low .at) (omega arith, L .found))
 

@@ -5,31 +5,28 @@ use mathlib.Core.Bool.{true, false}
 use mathlib.Core.List.{List}
 use native.Mathlib.Nat.{mul-le-mul-left}
 use native.Mathlib.Omega.{arith}
-use lib.ListN.{length}
-use borrow.Author.Tests.{not-false}
-use Rattle.model.specs.declared.Refusal.the-variants.{NotMonotone}
-use Rattle.model.specs.declared.Answer.the-variants.{Cost}
 use Rattle.model.specs.Instance.{Instance, instanceOf}
 use Rattle.model.specs.Counts.{allCounts, coarseCounts}
-use Rattle.model.specs.Sheets.{serves, sheetCost}
+use Rattle.model.specs.Sheets.{serves, sheetCost, countsOf}
 use Rattle.model.specs.Thesis.{countsCost}
-use Rattle.model.specs.Plans.{Allowed, LeastPlan, sheetOf, planCost, leastPlan}
-use Rattle.model.specs.Calls.{checkCard, planCoarse, requestOf, applies, answer}
+use Rattle.model.specs.Plans.{Allowed, LeastPlan, sheetOf, planCost, leastPlan, leastCost}
+use Rattle.model.specs.Planners.{Planner, exact, coarse, allowedCounts, ratioOf}
+use Rattle.model.specs.Calls.{Accepted}
 use Rattle.laws.specs.Acceptance.{modules-range, top-range, load-range, table-convex}
-use Rattle.columns.specs.Column.{countAtPlace, searchedPlan, searchedCost, Ascending}
-use Rattle.theory.specs.Setting.{NeverFalls, PlanFits, Plannable, LeastByCounts}
+use Rattle.columns.specs.Column.{searchedPlan, searchedCost, Ascending, GrowsBy}
+use Rattle.theory.specs.Hypotheses.{NeverFalls, PlanFits, Plannable, TableAllowed, LeastByCounts}
 use Rattle.theory.specs.Tables.{convex-test, never-falls-test}
-use Rattle.theory.specs.Sheets.{countsOf, sheet-counts-fit, sheet-at-least, plan-sheet-serves, plan-cost-counts}
+use Rattle.theory.specs.SheetLaws.{sheet-counts-fit, sheet-at-least, plan-sheet-serves, plan-cost-counts}
 use Rattle.columns.specs.Places.{count-fits}
 use Rattle.theory.specs.Least.{searched-least, searched-cost}
 use Rattle.theory.specs.Enumeration.{least-plan, least-plan-unique}
 use Rattle.theory.specs.Ratio.{ratio}
-use Rattle.theory.specs.Lists.{all-member, all-ascending, coarse-ascending, coarse-doubling}
+use Rattle.theory.specs.CountLists.{all-member, all-ascending, coarse-ascending, coarse-doubling}
 
 module _ {i : Instance} (ready : Plannable i) where
   -- Plans over any list of allowed counts.
   module _ (counts : List ℕ) (asc : Ascending counts (i .modules)) where
-    -- an allowed plan has a sheet, and costs what its counts cost
+    -- An allowed plan has a sheet that can be written.
     allowed-fits : {p : List ℕ} → Allowed i counts p → PlanFits i p
     allowed-fits a =
         record {
@@ -39,10 +36,11 @@ module _ {i : Instance} (ready : Plannable i) where
           served = a .served;
         }
 
+    -- An allowed plan costs what its counts cost.
     allowed-cost : (p : List ℕ) → Allowed i counts p → planCost i p ≡ countsCost i 0 p
     allowed-cost p a = plan-cost-counts i p (allowed-fits a)
 
-    -- the least plan by counts is the least plan
+    -- The least plan by counts is the least plan.
     by-counts-least : {p : List ℕ} → LeastByCounts i counts 0 p → LeastPlan i counts p
     by-counts-least {p} L =
         record {
@@ -52,26 +50,25 @@ module _ {i : Instance} (ready : Plannable i) where
         }
 
     -- The search over the list finds the least plan and its cost (thesis 4.12, 5.7).
-    pub searched-plan : (searchedPlan i counts 0 ≡ leastPlan i counts) × (searchedCost i counts 0 ≡ planCost i (leastPlan i counts))
+    pub searched-plan : (searchedPlan i counts 0 ≡ leastPlan i counts) × (searchedCost i counts 0 ≡ leastCost i counts)
     searched-plan =
         let L = searched-least i counts 0 asc (ready .loads) in
         let same = least-plan-unique i counts _ _ (by-counts-least L) (least-plan i counts asc (ready .loads)) in
         let cost = searched-cost i counts 0 asc (ready .loads) ∙ sym (allowed-cost (searchedPlan i counts 0) (L .allowed)) in
         (same, cost ∙ ap (planCost i) same)
 
-    -- The least plan has a sheet that can be written;
+    -- The least plan has a sheet that can be written.
     pub least-plan-fits : PlanFits i (leastPlan i counts)
     least-plan-fits = allowed-fits (least-plan i counts asc (ready .loads) .allowed)
 
-    -- that sheet serves, and costs what the plan costs.
+    -- The sheet of the least plan serves, and costs what the plan costs.
     pub least-sheet :
-        (serves i (sheetOf i (leastPlan i counts)) ≡ true) ×
-        (sheetCost i (sheetOf i (leastPlan i counts)) ≡ planCost i (leastPlan i counts))
+        (serves i (sheetOf i (leastPlan i counts)) ≡ true) × (sheetCost i (sheetOf i (leastPlan i counts)) ≡ leastCost i counts)
     unfolding planCost
     least-sheet = (plan-sheet-serves i (leastPlan i counts) least-plan-fits, refl)
 
   -- Condition 3, exact: no sheet that serves costs less than the least plan over all counts (thesis 3.8).
-  pub exact-least : (s : List ℕ) → serves i s ≡ true → planCost i (leastPlan i (allCounts (i .modules))) ≤ sheetCost i s
+  pub exact-least : (s : List ℕ) → serves i s ≡ true → leastCost i (allCounts (i .modules)) ≤ sheetCost i s
   exact-least s e =
       let fit = sheet-counts-fit i s (ready .steps) e in
       let counted : Allowed i (allCounts (i .modules)) (countsOf i s) =
@@ -79,27 +76,33 @@ module _ {i : Instance} (ready : Plannable i) where
       let least = least-plan i (allCounts (i .modules)) (all-ascending (i .modules) (ready .some)) (ready .loads) .least _ counted in
       omega (arith, plan-cost-counts i (countsOf i s) fit, sheet-at-least i (ready .convex) s e)
 
-  -- Over a list in which each count is at most r times one more than the one before it, the least plan costs at most r times as
-  -- much as any sheet that serves, if the table never falls (thesis 5.5 and 5.11, for whole ratios).
+  -- Over a list that grows by r the least plan costs at most r times as much as any sheet that serves, if the table never falls
+  -- (thesis 5.5 and 5.11, for whole ratios).
   pub list-ratio :
-      NeverFalls (i .topStep) (i .table) → (counts : List ℕ) → Ascending counts (i .modules) → (r : ℕ) → 1 ≤ r →
-      ((j : ℕ) → j + 1 < length counts → countAtPlace counts (j + 1) ≤ r * (countAtPlace counts j + 1)) →
-      (s : List ℕ) → serves i s ≡ true → planCost i (leastPlan i counts) ≤ r * sheetCost i s
+      NeverFalls (i .topStep) (i .table) → (counts : List ℕ) → Ascending counts (i .modules) → (r : ℕ) → 1 ≤ r → GrowsBy r counts →
+      (s : List ℕ) → serves i s ≡ true → leastCost i counts ≤ r * sheetCost i s
   list-ratio rises counts asc r one gaps s e =
       let fit = sheet-counts-fit i s (ready .steps) e in
       let bound = ratio i counts 0 asc (ready .loads) rises r one gaps (countsOf i s) (fit .in-rack) (fit .served) in
       omega (arith, searched-plan counts asc .1, mul-le-mul-left r (sheet-at-least i (ready .convex) s e))
 
-  -- Condition 3, coarse: over the coarse counts it costs at most twice as much (thesis 5.8).
+  -- Condition 3, coarse: the least plan over the coarse counts costs at most twice as much as any sheet that serves (thesis 5.8).
   pub coarse-twice :
-      NeverFalls (i .topStep) (i .table) → (s : List ℕ) → serves i s ≡ true →
-      planCost i (leastPlan i (coarseCounts (i .modules))) ≤ 2 * sheetCost i s
+      NeverFalls (i .topStep) (i .table) → (s : List ℕ) → serves i s ≡ true → leastCost i (coarseCounts (i .modules)) ≤ 2 * sheetCost i s
   coarse-twice rises =
       list-ratio rises (coarseCounts (i .modules)) (coarse-ascending (i .modules) (ready .some)) 2 (omega arith)
       (coarse-doubling (i .modules) (ready .some))
 
--- An accepted card meets the hypotheses;
-pub accepted-plannable : (c : List ℕ) → answer (checkCard c) ≡ Cost 0 → Plannable (instanceOf c)
+-- Condition 3: where a planner's table is allowed, its cost is at most its ratio times what any sheet that serves costs.
+pub planner-bound :
+    (k : Planner) {i : Instance} → Plannable i → TableAllowed k i → (s : List ℕ) → serves i s ≡ true →
+    leastCost i (allowedCounts k (i .modules)) ≤ ratioOf k * sheetCost i s
+unfolding TableAllowed allowedCounts
+planner-bound exact ready allowed s e = omega (arith, exact-least ready s e)
+planner-bound coarse ready allowed s e = coarse-twice ready (never-falls-test _ _ .0 allowed) s e
+
+-- An accepted card meets the hypotheses.
+pub accepted-plannable : (c : List ℕ) → Accepted c → Plannable (instanceOf c)
 accepted-plannable c e =
     record {
       some = modules-range c e .0;
@@ -107,9 +110,3 @@ accepted-plannable c e =
       loads = load-range c e;
       convex = convex-test _ _ .0 (table-convex c e);
     }
-
--- and where refusal 9 does not apply, its table never falls.
-pub monotone-never-falls :
-    (c p w : List ℕ) → applies (requestOf (planCoarse c p w)) NotMonotone ≡ false → NeverFalls (instanceOf c .topStep) (instanceOf c .table)
-unfolding applies requestOf
-monotone-never-falls c p w e = never-falls-test _ _ .0 (not-false _ e)

@@ -18,25 +18,25 @@ use Rattle.lists.specs.Members.{to-keep, from-keep, in-order-keep, from-map, in
 use Rattle.model.specs.Instance.{Instance}
 use Rattle.model.specs.Plans.{Allowed, Member, LeastPlan, planCost, planServes, plansInOrder, cheapest, cheapestOf, leastPlan}
 use Rattle.columns.specs.Column.{lastPlace, Ascending}
-use Rattle.theory.specs.Setting.{LoadsFit}
+use Rattle.theory.specs.Hypotheses.{LoadsFit}
 use Rattle.columns.specs.Places.{last-inside, last-serves}
-use Rattle.theory.specs.Places.{allowed-of}
+use Rattle.theory.specs.PlacedPlans.{allowed-of}
 use Rattle.theory.specs.Ties.{NotAfterIn, not-after-snoc, not-after-equal}
 
 -- What `cheapest` finds in a list whose elements stand in a relation R to those after them.
 module _ (cost : List ℕ → ℕ) (R : List ℕ → List ℕ → Type 0) where
-  -- p is the cheapest of a list, before all others that cost as much
+  -- The element p is the cheapest of a list, before all others that cost as much.
   record CheapestIn (l : List (List ℕ)) (p : List ℕ) : Type 0 where
     member : List·Memᴰ p l
     least : (q : List ℕ) → List·Memᴰ q l → cost p ≤ cost q
     first : (q : List ℕ) → List·Memᴰ q l → cost q ≡ cost p → R p q
 
-  -- and is the head if that costs as much
+  -- The element p is the cheapest of a list, and its head if that costs as much.
   record CheapestFrom (best : List ℕ) (ps : List (List ℕ)) (p : List ℕ) : Type 0 where
     cheapest-in : CheapestIn (best ∷ ps) p
     keeps : cost best ≡ cost p → p ≡ best
 
-  -- a cheaper element takes the place of the best so far
+  -- A cheaper element takes the place of the best so far.
   replaced : {best q p : List ℕ} {ps : List (List ℕ)} → cost q < cost best → CheapestFrom q ps p → CheapestFrom best (q ∷ ps) p
   replaced {best} {q} {p} {ps} less C =
       record {
@@ -62,7 +62,7 @@ module _ (cost : List ℕ → ℕ) (R : List ℕ → List ℕ → Type 0) where
       dearer : cost p < cost best
       dearer = omega (arith, C .cheapest-in .least q (List·Memᴰ·head refl))
 
-  -- an element that is no cheaper changes nothing
+  -- An element that is no cheaper changes nothing.
   kept :
       {best q p : List ℕ} {ps : List (List ℕ)} → cost best ≤ cost q → R best q → CheapestFrom best ps p →
       CheapestFrom best (q ∷ ps) p
@@ -117,7 +117,7 @@ module _ (cost : List ℕ → ℕ) (R : List ℕ → List ℕ → Type 0) where
       go true e new old = replaced (ltb-true (cost q) (cost best) e) new
       go false e new old = kept (ltb-false (cost q) (cost best) e) (ahead q (List·Memᴰ·head refl)) old
 
-  -- of a list in order that is not empty, `cheapestOf` gives the first of the cheapest
+  -- Of a list in order that is not empty `cheapestOf` gives the first of the cheapest.
   cheapest-of :
       ((p : List ℕ) → R p p) → (l : List (List ℕ)) (r : List ℕ) → List·Memᴰ r l → InOrder R l →
       CheapestIn l (cheapestOf cost l)
@@ -126,15 +126,15 @@ module _ (cost : List ℕ → ℕ) (R : List ℕ → List ℕ → Type 0) where
   cheapest-of self (p ∷ ps) r m (next first order) = cheapest-from self p ps first order .cheapest-in
 
 module _ (counts : List ℕ) where
-  -- a plan of t slots with counts from the list
+  -- A plan of t slots with counts from the list.
   abbrev PlanFrom : ℕ → List ℕ → Type 0
   PlanFrom t p = (length p ≡ t) × ((u : ℕ) → u < t → Member (getD p u 0) counts)
 
-  -- the enumerated plans of t slots, each with the count n after them
+  -- The enumerated plans of t slots, each with the count n after them.
   abbrev thenCount : ℕ → ℕ → List (List ℕ)
   thenCount t n = map (λ p. p ++ (n ∷ [])) (plansInOrder counts t)
 
-  -- the enumeration holds such plans only,
+  -- The enumeration holds plans of t slots with counts from the list only.
   enumerated : (t : ℕ) (p : List ℕ) → List·Memᴰ p (plansInOrder counts t) → PlanFrom t p
   unfolding plansInOrder
   enumerated zero p m = (ap length (List·Memᴰ·eq-of-singleton m), λ u h. absurd (not-suc-le-zero h))
@@ -150,7 +150,7 @@ module _ (counts : List ℕ) where
       (le-or-lt t u) in
       rw e (snoc-length q n t size, member)
 
-  -- all of them,
+  -- The enumeration holds all plans of t slots with counts from the list.
   enumerates : (t : ℕ) (p : List ℕ) → PlanFrom t p → List·Memᴰ p (plansInOrder counts t)
   unfolding plansInOrder
   enumerates zero [] over = List·Memᴰ·head refl
@@ -164,7 +164,7 @@ module _ (counts : List ℕ) where
       let longer = Memᴰ·map (λ p. p ++ (n ∷ [])) (enumerates t (take t p) front) in
       Memᴰ·cast whole (to-flatMap (thenCount t) (rw here at (member-at counts k 0 inside)) longer)
 
-  -- in tie order
+  -- The enumeration is in tie order.
   enumerated-in-order :
       ((j : ℕ) → j + 1 < length counts → getD counts j 0 < getD counts (j + 1) 0) → (t : ℕ) →
       InOrder (NotAfterIn t) (plansInOrder counts t)
@@ -193,7 +193,7 @@ module _ (counts : List ℕ) where
           rw (e, f)
           (not-after-snoc t p q x y (enumerated t p in-p .0) (enumerated t q in-q .0) (omega arith) (λ g. absurd (omega arith)))
 
--- the full rack in every slot is allowed
+-- The full rack in every slot is allowed.
 full-rack :
     (i : Instance) (counts : List ℕ) → Ascending counts (i .modules) → LoadsFit i →
     Allowed i counts (replicate (i .slots) (i .modules))
@@ -203,7 +203,7 @@ full-rack i counts asc loads =
     let here = asc .last ∙ sym (getD-replicate (i .slots) t (i .modules) 0 h) in
     (lastPlace counts, last-inside asc, here, last-serves asc i (i .load t) (loads t h)))
 
--- Document 01's least plan, as the function `leastPlan`, is the least plan as a predicate;
+-- Document 01's least plan as the function `leastPlan` is the least plan as the predicate `LeastPlan`.
 pub least-plan : (i : Instance) (counts : List ℕ) → Ascending counts (i .modules) → LoadsFit i → LeastPlan i counts (leastPlan i counts)
 unfolding leastPlan
 least-plan i counts asc loads =
@@ -227,7 +227,7 @@ least-plan i counts asc loads =
         (listed _ (full-rack i counts asc loads))
         (in-order-keep (planServes i) (enumerated-in-order counts (asc .rises) (i .slots)))
 
--- and there is only one.
+-- There is only one least plan.
 pub least-plan-unique : (i : Instance) (counts p r : List ℕ) → LeastPlan i counts p → LeastPlan i counts r → p ≡ r
 least-plan-unique i counts p r P R =
     let same : planCost i p ≡ planCost i r = omega (arith, P .least r (R .allowed), R .least p (P .allowed)) in

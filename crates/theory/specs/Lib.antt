@@ -1,23 +1,24 @@
--- The theorems, a module a subject. Every statement is over instances and lists of any size. The end theorems are in Sheets,
--- Enumeration, Average, Lists, Condition3, Refusals, Outcomes and Reading; the other modules lead to them, and Bites shows that their
--- hypotheses are needed and can be met.
-pub mod Setting
+-- The theorems, a module a subject. Every statement is over instances and lists of any size. The end theorems are in SheetLaws,
+-- Enumeration, Average, CountLists, Condition3, Refusals, Outcomes and LongInput, and the other modules lead to them. Counterexamples
+-- shows that their hypotheses are needed, and Applications that they can be met.
+pub mod Hypotheses
 pub mod Tables
-pub mod Running
+pub mod RowCosts
 pub mod Switching
-pub mod Sheets
-pub mod Places
+pub mod SheetLaws
+pub mod PlacedPlans
 pub mod Ties
 pub mod Choices
-pub mod Steps
+pub mod SlotColumns
 pub mod Least
 pub mod Enumeration
 pub mod Average
 pub mod Potential
 pub mod Ratio
-pub mod Lists
+pub mod CountLists
 pub mod Condition3
 pub mod Refusals
 pub mod Outcomes
-pub mod Bites
-pub mod Reading
+pub mod LongInput
+pub mod Counterexamples
+pub mod Applications

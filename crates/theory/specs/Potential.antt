@@ -12,12 +12,12 @@ use Rattle.lists.specs.Rising.{between}
 use Rattle.columns.specs.Column.{countAtPlace, lastPlace, Ascending}
 use Rattle.columns.specs.Places.{count-rises}
 
--- a column that rises with the places, by at most the price a module
+-- A column that rises with the places, by at most the price a module.
 pub record Gradual (price : ℕ) (counts : List ℕ) (f : ℕ → ℕ) : Type 0 where
   pub rises : (j k : ℕ) → j ≤ k → k < length counts → f j ≤ f k
   pub slope : (j k : ℕ) → j ≤ k → k < length counts → f k ≤ f j + price * (countAtPlace counts k - countAtPlace counts j)
 
--- two neighbouring counts around y, and y's distances to them
+-- Two neighbouring counts around y, and y's distances to them.
 pub record Block (counts : List ℕ) (y : ℕ) : Type 0 where
   pub place : ℕ
   pub inside : place + 1 < length counts
@@ -26,23 +26,24 @@ pub record Block (counts : List ℕ) (y : ℕ) : Type 0 where
   pub from : countAtPlace counts place + under ≡ y
   pub to : y + over ≡ countAtPlace counts (place + 1)
 
+-- The distance of the two counts.
 abbrev pub width : {counts : List ℕ} {y : ℕ} → Block counts y → ℕ
 width s = s .under + s .over
 
--- the line through a column's values at the two counts, taken at y and multiplied by the width
+-- The line through a column's values at the two counts, taken at y and multiplied by the width.
 abbrev pub lineAt : {counts : List ℕ} {y : ℕ} → Block counts y → (ℕ → ℕ) → ℕ
 lineAt s f = s .over * f (s .place) + s .under * f (s .place + 1)
 
--- at y the line is at most c
+-- At y the line is at most c.
 pub record LineBelow (counts : List ℕ) (f : ℕ → ℕ) (y c : ℕ) : Type 0 where
   pub line : (s : Block counts y) → lineAt s f ≤ width s * c
 
--- the line through the counts themselves
+-- The line through the counts themselves is y.
 pub line-of-counts : {counts : List ℕ} {y : ℕ} (s : Block counts y) → lineAt s (countAtPlace counts) ≡ width s * y
 line-of-counts s = omega (arith, ap (λ (n : ℕ). s .over * n) (s .from), ap (λ (n : ℕ). s .under * n) (s .to))
 
 module _ {counts : List ℕ} {m : ℕ} (asc : Ascending counts m) where
-  -- every y in the rack lies in a block
+  -- Every y in the rack lies in a block.
   block : (y : ℕ) → y ≤ m → Block counts y
   block y h =
       let last : lastPlace counts - 1 + 1 ≡ lastPlace counts = omega arith in
@@ -73,7 +74,7 @@ module _ {counts : List ℕ} {m : ℕ} (asc : Ascending counts m) where
           let high = mul-le-mul-left (s .under) (slope-by (s .place + 1) j e (omega arith) b (omega arith)) in
           omega (arith, below .line s, ap (λ (n : ℕ). s .under * price * n) rest)
 
-      -- There the column is at most the bound and the price of d modules.
+      -- At place j the column is at most the bound and the price of d modules.
       pub value-below : y ≤ m → f j ≤ c + price * d
       value-below h =
           let s : Block counts y = block y h in
@@ -81,14 +82,14 @@ module _ {counts : List ℕ} {m : ℕ} (asc : Ascending counts m) where
           le-of-mul-le-mul-left (⊎-elim (value-before s) (value-after s) (le-or-lt j (s .place))) some
 
     module _ {y z c : ℕ} (d : ℕ) (h : y ≤ m) (near : z ≤ y + d) (below : LineBelow counts f y c) (t : Block counts z) where
-      -- z's block ends at or before y
+      -- The block of z ends at y or before it.
       move-before : countAtPlace counts (t .place + 1) ≤ y → lineAt t f ≤ width t * (c + price * d)
       move-before before =
           let low = value-below below (t .place) 0 (omega arith) (omega arith) h in
           let high = value-below below (t .place + 1) 0 (t .inside) (omega arith) h in
           omega (arith, mul-le-mul-left (t .over) low, mul-le-mul-left (t .under) high)
 
-      -- it begins at y or after it
+      -- The block of z begins at y or after it.
       move-after : y ≤ countAtPlace counts (t .place) → lineAt t f ≤ width t * (c + price * d)
       move-after after =
           let (e, gap) = le-dest after in
@@ -97,7 +98,7 @@ module _ {counts : List ℕ} {m : ℕ} (asc : Ascending counts m) where
           let reach : e + t .under ≤ d = omega arith in
           omega (arith, mul-le-mul-left (t .over) low, mul-le-mul-left (t .under) high, mul-le-mul-left (width t * price) reach)
 
-      -- y lies in it
+      -- The block of z has y inside.
       move-within :
           countAtPlace counts (t .place) < y → y < countAtPlace counts (t .place + 1) → lineAt t f ≤ width t * (c + price * d)
       move-within after before =

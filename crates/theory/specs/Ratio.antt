@@ -14,19 +14,19 @@ use Rattle.lists.specs.Tests.{every-at}
 use Rattle.lists.specs.Sums.{sum}
 use Rattle.model.specs.Instance.{Instance}
 use Rattle.model.specs.Counts.{canServe, operatingCost}
-use Rattle.model.specs.Thesis.{switchingPrice, countAt, stepUp, countsCost}
+use Rattle.model.specs.Thesis.{switchingPrice, countAt, slotCost, countsCost}
 use Rattle.model.specs.Plans.{planServes}
-use Rattle.columns.specs.Column.{countAtPlace, column, searchedCost, Ascending}
-use Rattle.theory.specs.Setting.{NeverFalls, LoadsFit, costOfFirst}
+use Rattle.columns.specs.Column.{countAtPlace, column, searchedCost, Ascending, GrowsBy}
+use Rattle.theory.specs.Hypotheses.{NeverFalls, LoadsFit, costOfFirst}
 use Rattle.columns.specs.Places.{count-fits}
-use Rattle.theory.specs.Steps.{column-step, column-rises, column-slope}
+use Rattle.theory.specs.SlotColumns.{column-best, column-rises, column-slope}
 use Rattle.theory.specs.Average.{average-falls}
 use Rattle.theory.specs.Potential.{Gradual, Block, width, lineAt, LineBelow, line-of-counts, value-below, move}
 
 module _ (i : Instance) (counts : List ℕ) (start : ℕ) (asc : Ascending counts (i .modules)) (loads : LoadsFit i)
     (rises : NeverFalls (i .topStep) (i .table)) (r : ℕ) (one : 1 ≤ r)
-    (gaps : (j : ℕ) → j + 1 < length counts → countAtPlace counts (j + 1) ≤ r * (countAtPlace counts j + 1)) where
-  -- the column after t slots
+    (gaps : GrowsBy r counts) where
+  -- The column after t slots.
   abbrev after : ℕ → ℕ → ℕ
   after t = column i counts start t
 
@@ -34,15 +34,16 @@ module _ (i : Instance) (counts : List ℕ) (start : ℕ) (asc : Ascending count
   gradual t h =
       record { rises = λ j k. column-rises i counts start asc loads t j k h; slope = λ j k. column-slope i counts start asc loads t j k h }
 
-  -- r times a count, or the full rack: where the column is compared with a plan that has the count
+  -- The point at which the column is compared with a plan that has the count x: r times x, or the full rack.
   abbrev point : ℕ → ℕ
   point x = min (r * x) (i .modules)
 
-  -- before the first slot
+  -- Before the first slot the column is at most the price of the count.
   start-at-most : (k : ℕ) → after 0 k ≤ switchingPrice i * countAtPlace counts k
   unfolding column
   start-at-most k = mul-le-mul-left (switchingPrice i) (sub-le _ start)
 
+  -- Before the first slot the line at the start's point is at most r times the price of the start.
   line-start : LineBelow counts (after 0) (point start) (r * (switchingPrice i * start))
   line-start = record { line = at }
     where
@@ -80,17 +81,17 @@ module _ (i : Instance) (counts : List ℕ) (start : ℕ) (asc : Ascending count
         (λ (less : countAtPlace counts (s .place) < x). rw (upper-alone s less) (omega arith))
         (le-or-lt x (countAtPlace counts (s .place)))
 
-    -- serving and staying at a place
+    -- A place costs at most what serving and staying there costs.
     stay : (k : ℕ) → k < length counts → x ≤ countAtPlace counts k → after (suc t) k ≤ after t k + costs k
     unfolding canServe
     stay k b above =
         let serves = le-leb _ _ (le-trans fits (mul-le-mul-right (i .topStep) above)) in
-        simp (sub-self, mul-zero, add-zero) at (column-step i counts start asc loads t h .at-most k k b b serves)
+        simp (sub-self, mul-zero, add-zero) at (column-best i counts start asc loads t h .at-most k k b b serves)
 
     costs-fall : 0 < x → (k : ℕ) → k < length counts → x ≤ countAtPlace counts k → x * costs k ≤ countAtPlace counts k * cost x
     costs-fall some k b above = average-falls i rises x (countAtPlace counts k) (i .load t) some above fits
 
-    -- serving from the counts around the point costs at most r times as much as from x
+    -- Where no module has to be active, serving from the counts around the point costs nothing.
     costs-none : (s : Block counts (point x)) → x ≤ 0 → lineAt s costs ≤ width s * (r * cost x)
     unfolding operatingCost
     costs-none s none =
@@ -99,13 +100,14 @@ module _ (i : Instance) (counts : List ℕ) (start : ℕ) (asc : Ascending count
         let under : s .under ≡ 0 = omega arith in
         rw (lower, under) (omega arith)
 
+    -- Serving from the counts around the point costs at most r times as much as from x.
     costs-some : (s : Block counts (point x)) → 0 < x → lineAt s costs ≤ width s * (r * cost x)
     costs-some s some =
         let average = line-le s (λ k. x * costs k) (λ k. countAtPlace counts k * cost x) (costs-fall some) in
         let small = mul-le-mul-left (cost x * width s) (min-le-left (r * x) (i .modules)) in
         le-of-mul-le-mul-left {k = x} (omega (arith, ap (λ (n : ℕ). cost x * n) (line-of-counts s))) some
 
-    -- so the slot raises the bound by r times the cost of x
+    -- The slot raises the bound by r times the cost of x.
     line-served : {c : ℕ} → LineBelow counts (after t) (point x) c → LineBelow counts (after (suc t)) (point x) (c + r * cost x)
     line-served {c} below = record { line = at }
       where
@@ -115,11 +117,11 @@ module _ (i : Instance) (counts : List ℕ) (start : ℕ) (asc : Ascending count
             omega (arith, below .line s, ⊎-elim (costs-none s) (costs-some s) (le-or-lt x 0))
 
   module _ (p : List ℕ) (in-rack : (t : ℕ) → t < i .slots → getD p t 0 ≤ i .modules) (served : planServes i p ≡ true) where
-    -- after t slots the column, at the point of the plan's last count, is at most r times what the plan has cost
+    -- After t slots the line at the point of the plan's last count is at most r times what the plan has cost.
     line-after :
         (t : ℕ) → t ≤ i .slots →
         LineBelow counts (after t) (point (countAt start p t)) (r * (costOfFirst i start p t + switchingPrice i * start))
-    unfolding sum countAt stepUp planServes canServe
+    unfolding sum countAt slotCost planServes canServe
     line-after zero h = rw zero-add line-start
     line-after (suc t) h =
         let price = switchingPrice i in

@@ -16,28 +16,29 @@ use Rattle.model.specs.declared.Refusal.{Refusal}
 use Rattle.model.specs.declared.Answer.{Answer}
 use Rattle.model.specs.declared.Answer.the-variants.{Cost, Refused}
 use Rattle.model.specs.Answers.{refusalNumber, numberOf}
-use Rattle.model.specs.Calls.{Call, checkCard, runningCost, planExact, planCoarse, makeSheet, markSheet, roundCount}
-use Rattle.model.specs.Calls.{requestOf, applies, refusals, lowest, successCost, answer, atExit}
-use Rattle.laws.specs.Answers.{number-zero}
+use Rattle.model.specs.Planners.{exact, coarse, plannerRefusals}
+use Rattle.model.specs.Calls.{Call, checkCard, runningCost, planShow, makeSheet, markSheet, roundCount}
+use Rattle.model.specs.Calls.{requestOf, applies, refusals, lowest, successCost, answer, Buffer, buffersOf, atExit, lent, buffersAtExit}
+use Rattle.laws.specs.AnswerNumber.{number-zero}
 use Rattle.laws.specs.Lowest.{lowest-hit, lowest-skip, lowest-passed, lowest-through}
 
--- a list that rises at each step
+-- A list that rises at each place is in order.
 ascends : (l : List ℕ) → every (length l - 1) (λ j. ltb (getD l j 0) (getD l (j + 1) 0)) ≡ true → InOrder _<_ l
 ascends l e = rising-in-order l (λ j h. ltb-true _ _ (every-at (length l - 1) _ e j (omega arith)))
 
 -- The refusals of each call stand in the order of their numbers.
 pub refusals-ascend : (c : Call) → InOrder _<_ (map refusalNumber (refusals c))
-unfolding refusals every
+unfolding refusals plannerRefusals every
 refusals-ascend (checkCard c) = ascends _ refl
 refusals-ascend (runningCost c n l) = ascends _ refl
-refusals-ascend (planExact c p w) = ascends _ refl
-refusals-ascend (planCoarse c p w) = ascends _ refl
+refusals-ascend (planShow exact c p w) = ascends _ refl
+refusals-ascend (planShow coarse c p w) = ascends _ refl
 refusals-ascend (makeSheet c p s) = ascends _ refl
 refusals-ascend (markSheet c s) = ascends _ refl
 refusals-ascend (roundCount n m) = ascends _ refl
 
--- The first of a list that applies.
 module _ (test : Refusal → Bool) where
+  -- The lowest refusal applies, and is one of the list.
   first-applies :
       (xs : List Refusal) (n : ℕ) {x : Refusal} → lowest test xs (Cost n) ≡ Refused x → (test x ≡ true) × List·Memᴰ x xs
   unfolding lowest
@@ -50,6 +51,7 @@ module _ (test : Refusal → Bool) where
       (holds, List·Memᴰ·tail later))
       (true-or-false (test y))
 
+  -- In a list in order no refusal below the lowest one applies.
   first-least :
       (xs : List Refusal) (a : Answer) {x y : Refusal} → InOrder _<_ (map refusalNumber xs) → lowest test xs a ≡ Refused x →
       List·Memᴰ y xs → test y ≡ true → refusalNumber x ≤ refusalNumber y
@@ -69,6 +71,7 @@ module _ (test : Refusal → Bool) where
       (List·Memᴰ·cases-cons m))
       (true-or-false (test z))
 
+  -- Where the answer is a cost, no refusal of the list applies.
   none-applies :
       (xs : List Refusal) (a : Answer) {n : ℕ} {x : Refusal} → lowest test xs a ≡ Cost n → List·Memᴰ x xs → test x ≡ false
   none-applies [] a e m = absurd (List·Memᴰ·not-nil m)
@@ -77,31 +80,35 @@ module _ (test : Refusal → Bool) where
       ⊎-elim (λ (same : x ≡ y). ap test same ∙ first) (none-applies ys a rest) (List·Memᴰ·cases-cons m)
 
 module _ (c : Call) where
-  -- A refusal that is answered is one of the call's and applies,
+  -- A refusal that is answered is one of the call's and applies.
   pub lowest-applies : {x : Refusal} → answer c ≡ Refused x → (applies (requestOf c) x ≡ true) × List·Memᴰ x (refusals c)
   unfolding answer
   lowest-applies e = first-applies (applies (requestOf c)) (refusals c) (successCost c) e
 
-  -- and is the lowest that does.
+  -- A refusal that is answered is the lowest of the call's that applies.
   pub lowest-least :
       {x : Refusal} → answer c ≡ Refused x → (y : Refusal) → List·Memᴰ y (refusals c) → applies (requestOf c) y ≡ true →
       refusalNumber x ≤ refusalNumber y
   unfolding answer
   lowest-least e y m h = first-least (applies (requestOf c)) (refusals c) (Cost (successCost c)) (refusals-ascend c) e m h
 
-  -- an answer with number 0 is the cost of the call
+  -- An answer with number 0 is the cost of the call.
   pub succeeded : numberOf (answer c) ≡ 0 → answer c ≡ Cost (successCost c)
   unfolding answer
   succeeded e = lowest-through _ (refusals c) (Cost (successCost c)) _ (number-zero _ e)
 
-  -- Where a cost is answered, none of the call's refusals applies, and it is the cost of the call.
+  -- Where a cost is answered, none of the call's refusals applies, and the cost is that of the call.
   pub accepted-none :
       {n : ℕ} → answer c ≡ Cost n →
       ((x : Refusal) → List·Memᴰ x (refusals c) → applies (requestOf c) x ≡ false) × (n ≡ successCost c)
   unfolding answer
   accepted-none e = (λ x. none-applies _ (refusals c) _ e, let full = succeeded (ap numberOf e) in cc)
 
-  -- A refusal leaves every buffer as it was.
-  pub refused-unchanged : {x : Refusal} → answer c ≡ Refused x → (written entry : List ℕ) → atExit (answer c) written entry ≡ entry
-  unfolding atExit
-  refused-unchanged e written entry = rw e
+-- 'A refusal .. alters no lent byte': every lent buffer is at exit as it was lent.
+pub refused-unchanged : (c : Call) {x : Refusal} → answer c ≡ Refused x → buffersAtExit c ≡ lent c
+unfolding buffersAtExit lent atExit
+refused-unchanged c {x} e = rw e (entries (buffersOf c))
+  where
+    entries : (bs : List Buffer) → map (atExit (Refused x)) bs ≡ map (λ b. b .entry) bs
+    entries [] = refl
+    entries (b ∷ bs) = rw (entries bs)

@@ -10,22 +10,23 @@ use Rattle.lists.specs.Sums.{sum, sum-mono, sum-const}
 use Rattle.model.specs.Instance.{Instance}
 use Rattle.model.specs.Sheets.{off, isOff, changeCost}
 use Rattle.model.specs.Plans.{moduleByte}
-use Rattle.laws.specs.Running.{byte-off}
-use Rattle.theory.specs.Setting.{activeIn}
-use Rattle.theory.specs.Running.{byte-active, plan-row-active}
+use Rattle.laws.specs.Operating.{byte-off}
+use Rattle.theory.specs.Hypotheses.{activeIn}
+use Rattle.theory.specs.RowCosts.{byte-active, plan-row-active}
 
--- 1 for a module that was off and is not, else 0
+-- This is 1 for a module that was off and is not, else 0.
 abbrev pub started : (wasOff nowOff : Bool) → ℕ
 started a b = cond a (cond b 0 1) 0
 
--- the modules that go on from row a to row b, and those that go off
+-- The number of modules that go on from row a to row b.
 unfoldable pub startedIn : ℕ → (ℕ → ℕ) → (ℕ → ℕ) → ℕ
 startedIn m a b = sum m (λ k. started (isOff (a k)) (isOff (b k)))
 
+-- The number of modules that go off from row a to row b.
 unfoldable pub stoppedIn : ℕ → (ℕ → ℕ) → (ℕ → ℕ) → ℕ
 stoppedIn m a b = sum m (λ k. started (isOff (b k)) (isOff (a k)))
 
--- Those active before and those that go on are those active now and those that go off:
+-- Those active before and those that go on are as many as those active now and those that go off.
 switch-balance : (m : ℕ) (a b : ℕ → ℕ) → activeIn m a + startedIn m a b ≡ activeIn m b + stoppedIn m a b
 unfolding sum activeIn startedIn stoppedIn
 switch-balance zero a b = refl
@@ -37,7 +38,7 @@ switch-balance (suc m) a b = omega (arith, switch-balance m a b, byte (isOff (a 
     byte false true = refl
     byte false false = refl
 
--- and so over n changes of rows.
+-- The same holds over n changes of rows.
 pub switches-balance : (m : ℕ) (r : ℕ → ℕ → ℕ) (n : ℕ) →
     activeIn m (r 0) + sum n (λ t. startedIn m (r t) (r (suc t))) ≡ activeIn m (r n) + sum n (λ t. stoppedIn m (r t) (r (suc t)))
 unfolding sum
@@ -58,10 +59,11 @@ change-cost i (suc m) a b = omega (arith, change-cost i m a b, byte (isOff (a m)
     byte false true = omega arith
     byte false false = omega arith
 
--- At least the difference of the active modules goes on (thesis 3.1), and at most those active now.
+-- At least the difference of the active modules goes on (thesis 3.1).
 pub started-at-least : (m : ℕ) (a b : ℕ → ℕ) → activeIn m b - activeIn m a ≤ startedIn m a b
 started-at-least m a b = omega (arith, switch-balance m a b)
 
+-- At most the modules active now go on.
 pub started-at-most : (m : ℕ) (a b : ℕ → ℕ) → startedIn m a b ≤ activeIn m b
 unfolding startedIn activeIn
 started-at-most m a b = sum-mono m (λ k h. byte (isOff (a k)) (isOff (b k)))
@@ -70,7 +72,7 @@ started-at-most m a b = sum-mono m (λ k h. byte (isOff (a k)) (isOff (b k)))
     byte true y = le-refl (cond y 0 1)
     byte false y = omega arith
 
--- Between two rows of plans none goes on where the second has no more active modules,
+-- Between two rows of plans none goes on where the second has no more active modules.
 plan-none-started : (i : Instance) (m n l n′ l′ : ℕ) → i .topStep < off → l ≤ n * i .topStep → n′ ≤ n →
     startedIn m (moduleByte n l) (moduleByte n′ l′) ≡ 0
 unfolding startedIn
@@ -83,7 +85,7 @@ plan-none-started i m n l n′ l′ steps fits h = sum-const m (λ k _. byte k) 
         (λ (g : k < n). rw (byte-active i n l fits steps k g))
         (le-or-lt n k)
 
--- and else just the difference.
+-- Between two rows of plans just the difference of their counts goes on.
 pub plan-started : (i : Instance) (m n l n′ l′ : ℕ) →
     i .topStep < off → n ≤ m → n′ ≤ m → l ≤ n * i .topStep → l′ ≤ n′ * i .topStep →
     startedIn m (moduleByte n l) (moduleByte n′ l′) ≡ n′ - n

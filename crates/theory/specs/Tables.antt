@@ -10,7 +10,7 @@ use native.Mathlib.Omega.{arith}
 use Rattle.lists.specs.Numbers.{le-or-lt}
 use Rattle.lists.specs.Tests.{every-at, every-all}
 use Rattle.model.specs.Instance.{convexAt, convex, neverFalls}
-use Rattle.theory.specs.Setting.{Convex, NeverFalls}
+use Rattle.theory.specs.Hypotheses.{Convex, NeverFalls}
 
 -- A table passes a test exactly if it has the property.
 pub convex-test : (q : ℕ) (f : ℕ → ℕ) → convex q f ≡ true ↔ Convex q f
@@ -28,7 +28,7 @@ never-falls-test q f = (
 )
 
 module _ (q : ℕ) (f : ℕ → ℕ) (c : Convex q f) where
-  -- the slopes of a convex table rise
+  -- The slopes of a convex table rise.
   slopes-rise : (j d : ℕ) → j + d < q → f (j + 1) + f (j + d) ≤ f j + f (j + d + 1)
   slopes-rise j zero h = rw (add-zero j) (omega arith)
   slopes-rise j (suc d) h =
@@ -36,21 +36,21 @@ module _ (q : ℕ) (f : ℕ → ℕ) (c : Convex q f) where
       let next : j + d + 1 + 1 ≡ j + d + 2 = omega arith in
       rw (here, next) (omega (arith, slopes-rise j d (omega arith), c (j + d) (omega arith)))
 
-  -- it lies above the line through two neighbouring entries: d steps up
+  -- A convex table lies above the line through two neighbouring entries d steps up from them.
   above-line-up : (j d : ℕ) → j + d ≤ q → f j + d * f (j + 1) ≤ f (j + d) + d * f j
   above-line-up j zero h = rw (add-zero j) (omega arith)
   above-line-up j (suc d) h =
       let here : j + suc d ≡ j + d + 1 = omega arith in
       rw here (omega (arith, above-line-up j d (omega arith), slopes-rise j d (omega arith)))
 
-  -- and d steps down
+  -- It lies above that line d steps down from them too.
   above-line-down : (k d : ℕ) → k + d < q → f (k + d) + d * f (k + d) ≤ f k + d * f (k + d + 1)
   above-line-down k zero h = rw (add-zero k) (omega arith)
   above-line-down k (suc d) h =
       let here : k + 1 + d ≡ k + suc d = omega arith in
       omega (arith, rw here at (above-line-down (k + 1) d (omega arith)), slopes-rise k (suc d) h)
 
--- A convex table lies above the line through the entries at j and j + 1: without subtraction, so the table may fall.
+-- A convex table lies above the line through the entries at j and j + 1. It is stated without subtraction, so that the table may fall.
 pub supporting-line :
     (q : ℕ) (f : ℕ → ℕ) → Convex q f → (j k : ℕ) → j < q → k ≤ q → f j + k * f (j + 1) + j * f j ≤ f k + k * f j + j * f (j + 1)
 supporting-line q f c j k h l =

@@ -10,11 +10,11 @@ use lib.Seq.{ext-getD, getD-at}
 use Rattle.lists.specs.Numbers.{le-or-lt}
 use Rattle.lists.specs.Members.{snoc-before}
 
--- `NotAfter` over the first t slots
+-- The order `NotAfter` over the first t slots.
 abbrev pub NotAfterIn : ℕ → List ℕ → List ℕ → Type 0
 NotAfterIn t p r = (u : ℕ) → u < t → ((v : ℕ) → u < v → v < t → getD p v 0 ≡ getD r v 0) → getD p u 0 ≤ getD r u 0
 
--- the last slot decides, or if it is the same the slots before it
+-- The last slot decides, or where it is the same the slots before it.
 pub not-after-suc :
     (t : ℕ) (p r : List ℕ) → getD p t 0 ≤ getD r t 0 → (getD p t 0 ≡ getD r t 0 → NotAfterIn t p r) → NotAfterIn (suc t) p r
 not-after-suc t p r last before u h agree =
@@ -23,7 +23,7 @@ not-after-suc t p r last before u h agree =
     (λ (g : u < t). before (agree t g (omega arith)) u g (λ v a b. agree v a (omega arith)))
     (le-or-lt t u)
 
--- and with the same last slot those before it decide
+-- Two plans in order with the same last slot are in order in the slots before it.
 not-after-pred : (t : ℕ) (p r : List ℕ) → getD p t 0 ≡ getD r t 0 → NotAfterIn (suc t) p r → NotAfterIn t p r
 not-after-pred t p r last order u h agree =
     order u (omega arith)
@@ -33,14 +33,14 @@ not-after-pred t p r last order u h agree =
     (λ (g : v < t). agree v a g)
     (le-or-lt t v))
 
--- it sees the first t slots only
+-- The order depends on the first t slots only.
 pub not-after-same :
     (t : ℕ) (p q r s : List ℕ) → ((u : ℕ) → u < t → getD p u 0 ≡ getD q u 0) → ((u : ℕ) → u < t → getD r u 0 ≡ getD s u 0) →
     NotAfterIn t q s → NotAfterIn t p r
 not-after-same t p q r s left right order u h agree =
     rw (left u h, right u h) (order u h (λ v a b. sym (left v b) ∙ agree v a b ∙ right v b))
 
--- two plans with one slot more
+-- Two plans with one slot more are in order by their last slots, or where these are the same by the slots before.
 pub not-after-snoc :
     (t : ℕ) (p r : List ℕ) (x y : ℕ) → length p ≡ t → length r ≡ t → x ≤ y → (x ≡ y → NotAfterIn t p r) →
     NotAfterIn (suc t) (p ++ (x ∷ [])) (r ++ (y ∷ []))
@@ -55,7 +55,7 @@ not-after-snoc t p r x y e f last before =
     (λ u h. snoc-before r y 0 t u f h)
     (before (omega arith)))
 
--- two plans of which neither comes first are the same
+-- Two plans of which neither comes after the other are the same.
 pub not-after-equal : (t : ℕ) (p r : List ℕ) → length p ≡ t → length r ≡ t → NotAfterIn t p r → NotAfterIn t r p → p ≡ r
 not-after-equal t p r e f a b = ext-getD 0 p r (e ∙ sym f) (λ u h. slots t a b u (rw e at h))
   where

@@ -1,4 +1,4 @@
--- The two lists of allowed counts: what is in them, that they rise from 0 to m, and that the coarse one at most about doubles.
+-- The two lists of allowed counts: what is in them, that they ascend from 0 to m, and that the coarse one at most about doubles.
 use Prim.Native.Nat.{ℕ, zero, suc, _+_, _*_, _^_, _≤_, _<_}
 use mathlib.Core.Path.{_≡_, refl}
 use mathlib.Core.Bool.{Bool, true, false, not, or-true}
@@ -15,16 +15,17 @@ use Rattle.lists.specs.Lists.{keep, length-tabulate, getD-tabulate, head-is-fir
 use Rattle.lists.specs.Members.{InOrder, member-at, place-of, to-keep, from-keep, rising-in-order, in-order-at, in-order-le, in-order-keep}
 use Rattle.model.specs.Counts.{allCounts, powerOfTwo, isCoarse, coarseCounts, roundedCount}
 use Rattle.model.specs.Plans.{Member}
-use Rattle.columns.specs.Column.{countAtPlace, lastPlace, Ascending}
+use Rattle.model.specs.Planners.{Planner, exact, coarse, allowedCounts}
+use Rattle.columns.specs.Column.{countAtPlace, lastPlace, Ascending, GrowsBy}
 
--- what is kept of a list
+-- The elements kept of a list are those of the list at which the test holds.
 kept-member : (f : ℕ → Bool) (l : List ℕ) (n : ℕ) → Member n (keep f l) ↔ (Member n l × (f n ≡ true))
 kept-member f l n = (
   λ (j, b, e). let (member, t) = from-keep f l (rw e at (member-at (keep f l) j 0 b)) in (place-of 0 member, t),
   λ ((j, b, e), t). place-of 0 (to-keep f (rw e at (member-at l j 0 b)) t),
 )
 
--- 'all from 0 to m'
+-- 'all from 0 to m': these and no others are in the list.
 pub all-member : (m n : ℕ) → n ≤ m ↔ Member n (allCounts m)
 unfolding allCounts
 all-member m n = (
@@ -34,11 +35,12 @@ all-member m n = (
       omega (arith, getD-tabulate (m + 1) (λ k. k) j 0 in-list),
 )
 
--- Powers of two.
+-- A power of two exceeds its exponent.
 below-power : (e : ℕ) → e < 2 ^ e
 below-power zero = omega arith
 below-power (suc e) = omega (arith, below-power e)
 
+-- The test finds the powers of two.
 power-iff : (n : ℕ) → (powerOfTwo n ≡ true) ↔ ((e : ℕ) × (n ≡ 2 ^ e))
 unfolding powerOfTwo
 power-iff n = (
@@ -48,7 +50,7 @@ power-iff n = (
       rw (every-fails n (λ j. not (eqb n (2 ^ j))) e (rw same (below-power e)) fails),
 )
 
--- a power of two above c, at most 2 * (c + 1)
+-- Above c there is a power of two that is at most 2 * (c + 1).
 power-above : (c : ℕ) → (e : ℕ) × (c < 2 ^ e) × (2 ^ e ≤ 2 * (c + 1))
 power-above zero = (0, omega arith, omega arith)
 power-above (suc c) =
@@ -58,7 +60,7 @@ power-above (suc c) =
     (λ (high : suc c < 2 ^ e). (e, high, omega arith))
     (le-or-lt (2 ^ e) (suc c))
 
--- 'only the allowed counts 0, each power of two up to m, and m'
+-- 'the allowed counts 0, each power of two up to m, and m': these and no others are in the list.
 pub coarse-member : (m n : ℕ) → Member n (coarseCounts m) ↔ ((n ≤ m) × ((n ≡ 0) ⊎ ((n ≡ m) ⊎ ((e : ℕ) × (n ≡ 2 ^ e)))))
 unfolding coarseCounts
 coarse-member m n =
@@ -86,7 +88,7 @@ coarse-in-order : (m : ℕ) → InOrder _<_ (coarseCounts m)
 unfolding coarseCounts
 coarse-in-order m = in-order-keep _ (all-in-order m)
 
--- a list in order with 0 and m, and nothing above m
+-- A list in order with 0 and m, and nothing above m, ascends from 0 to m.
 ascending : (l : List ℕ) (m : ℕ) → InOrder _<_ l → Member 0 l → Member m l → ((n : ℕ) → Member n l → n ≤ m) → 1 ≤ m → Ascending l m
 ascending l m order (j, b, e) (k, c, f) top some =
     let first = in-order-le order 0 j (omega arith) b in
@@ -98,18 +100,25 @@ ascending l m order (j, b, e) (k, c, f) top some =
       rises = λ j h. in-order-at order 0 j (j + 1) (omega arith) h;
     }
 
--- Both lists rise from 0 to m.
+-- All counts ascend from 0 to m.
 pub all-ascending : (m : ℕ) → 1 ≤ m → Ascending (allCounts m) m
 all-ascending m some =
     ascending (allCounts m) m (all-in-order m) (all-member m 0 .0 (omega arith))
     (all-member m m .0 (le-refl m)) (λ n. all-member m n .1) some
 
+-- The coarse counts ascend from 0 to m.
 pub coarse-ascending : (m : ℕ) → 1 ≤ m → Ascending (coarseCounts m) m
 coarse-ascending m some =
     ascending (coarseCounts m) m (coarse-in-order m) (coarse-member m 0 .1 (omega arith, inl refl))
     (coarse-member m m .1 (le-refl m, inr (inl refl))) (λ n h. coarse-member m n .0 h .0) some
 
--- the next element of a list in order is the least above an element
+-- The counts allowed a planner ascend from 0 to m.
+pub planner-counts-ascending : (k : Planner) (m : ℕ) → 1 ≤ m → Ascending (allowedCounts k m) m
+unfolding allowedCounts
+planner-counts-ascending exact = all-ascending
+planner-counts-ascending coarse = coarse-ascending
+
+-- The next element of a list in order is the least above an element.
 next-least : (l : List ℕ) → InOrder _<_ l → (j n : ℕ) → j + 1 < length l → Member n l → getD l j 0 < n → getD l (j + 1) 0 ≤ n
 next-least l order j n h (k, c, e) above =
     ⊎-elim
@@ -118,9 +127,7 @@ next-least l order j n h (k, c, e) above =
     (le-or-lt k j)
 
 -- Each coarse count is at most twice one more than the one before.
-pub coarse-doubling :
-    (m : ℕ) → 1 ≤ m → (j : ℕ) → j + 1 < length (coarseCounts m) →
-    countAtPlace (coarseCounts m) (j + 1) ≤ 2 * (countAtPlace (coarseCounts m) j + 1)
+pub coarse-doubling : (m : ℕ) → 1 ≤ m → GrowsBy 2 (coarseCounts m)
 coarse-doubling m some j b =
     let l = coarseCounts m in
     let (e, above, most) = power-above (countAtPlace l j) in
@@ -131,7 +138,7 @@ coarse-doubling m some j b =
     (λ (beyond : m < 2 ^ e). omega (arith, coarse-member m (countAtPlace l (j + 1)) .0 (j + 1, b, refl) .0))
     (le-or-lt (2 ^ e) m)
 
--- 'the smallest allowed count not below n': the rounded count is it.
+-- 'the smallest allowed count not below n': this the rounded count is.
 pub rounded-least :
     (m n : ℕ) → 1 ≤ m → n ≤ m →
     Member (roundedCount m n) (coarseCounts m) × (n ≤ roundedCount m n) ×

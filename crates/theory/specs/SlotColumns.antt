@@ -1,4 +1,4 @@
--- One slot's two passes give the least over all places that serve, and the smallest place that attains it; what follows for columns.
+-- One slot's two passes give the least over all places that serve, and the smallest place that attains it. So columns rise gradually.
 use Prim.Native.Nat.{ℕ, zero, suc, _+_, _-_, _*_, _≤_, _<_}
 use mathlib.Core.Path.{_≡_, refl, sym, _∙_}
 use mathlib.Core.Bool.{Bool, true, false, cond, false≢true}
@@ -10,15 +10,13 @@ use Rattle.model.specs.Instance.{Instance}
 use Rattle.model.specs.Counts.{canServe, operatingCost}
 use Rattle.model.specs.Thesis.{switchingPrice}
 use Rattle.columns.specs.Column.{countAtPlace, lastPlace, Ascending, Choice, cheaper, servedOrAbove, rising}
-use Rattle.columns.specs.Column.{own, fromTop, downward, upward, column, selection}
-use Rattle.columns.specs.Laws as laws
-use Rattle.theory.specs.Setting.{LoadsFit, SlotStep}
-use Rattle.laws.specs.Running.{running-bound}
-use Rattle.theory.specs.Choices.{Best, best-own, best-skip, best-raised}
-use Rattle.columns.specs.Places.{count-rises, count-fits, last-inside, last-serves}
+use Rattle.columns.specs.Column.{servedHere, fromTop, downward, upward, column, selection}
+use Rattle.theory.specs.Hypotheses.{LoadsFit, SlotBest}
+use Rattle.theory.specs.Choices.{Best, best-here, best-skip, best-raised}
+use Rattle.columns.specs.Places.{count-rises, last-inside, last-serves}
 
 module _ (i : Instance) (counts : List ℕ) (asc : Ascending counts (i .modules)) where
-  -- the price of switching on from place k up to place j
+  -- The price of switching on from place k up to place j.
   abbrev rise : ℕ → ℕ → ℕ
   rise j k = switchingPrice i * (countAtPlace counts j - countAtPlace counts k)
 
@@ -38,17 +36,18 @@ module _ (i : Instance) (counts : List ℕ) (asc : Ascending counts (i .modules)
     abbrev Serves : ℕ → Type 0
     Serves k = (k < length counts) × (canServe i (countAtPlace counts k) l ≡ true)
 
-    -- the cost of serving at place k, and of then switching on up to place j
+    -- The cost of serving at place k.
     abbrev served : ℕ → ℕ
     served k = before k + operatingCost i (countAtPlace counts k) l
 
+    -- The cost of serving at place k and of then switching on up to place j.
     abbrev servedUpTo : ℕ → ℕ → ℕ
     servedUpTo j k = served k + rise j k
 
     served-above : (j k : ℕ) → j ≤ k → Serves k → servedUpTo j k ≡ served k
     served-above j k h serves = omega (arith, no-rise j k h (serves .0))
 
-    -- the downward pass at the place d below the last
+    -- The downward pass at the place d below the last finds the best of the places from there up.
     from-top-best : (d j : ℕ) → j + d ≡ lastPlace counts → Best (λ k. (j ≤ k) × Serves k) served (fromTop i counts l before d)
     unfolding fromTop servedOrAbove
     from-top-best zero j e =
@@ -67,15 +66,16 @@ module _ (i : Instance) (counts : List ℕ) (asc : Ascending counts (i .modules)
 
         pick :
             (b : Bool) → canServe i (countAtPlace counts j) l ≡ b → Best (λ k. (j < k) × Serves k) served rest →
-            Best (λ k. (j ≤ k) × Serves k) served (cond b (cheaper (own i counts l before j) rest) rest)
-        pick true can above = best-own j (omega arith, can) above
+            Best (λ k. (j ≤ k) × Serves k) served (cond b (cheaper (servedHere i counts l before j) rest) rest)
+        pick true can above = best-here j (omega arith, can) above
         pick false cannot above = best-skip j (λ h. false≢true (sym cannot ∙ h .1)) above
 
-    -- each pass finds the best of its places
+    -- The downward pass finds the best of the places from its own up.
     down-best : (j : ℕ) → j < length counts → Best (λ k. (j ≤ k) × Serves k) served (downward i counts l before j)
     unfolding downward
     down-best j inside = from-top-best (lastPlace counts - j) j (omega arith)
 
+    -- The upward pass finds the best of all places.
     up-best : (j : ℕ) → j < length counts → Best Serves (servedUpTo j) (upward i counts l before j)
     unfolding upward rising
     up-best zero inside =
@@ -94,9 +94,9 @@ module _ (i : Instance) (counts : List ℕ) (asc : Ascending counts (i .modules)
         (up-best j (omega arith))
         (down-best (suc j) inside)
 
-    -- the two passes give the least over all places that serve, and the smallest place that attains it
-    pub slot-step : SlotStep i counts l before (λ j. upward i counts l before j .cost) (λ j. upward i counts l before j .at)
-    slot-step =
+    -- The two passes give the least over all places that serve, and the smallest place that attains it.
+    pub slot-best : SlotBest i counts l before (λ j. upward i counts l before j .cost) (λ j. upward i counts l before j .at)
+    slot-best =
         record {
           at-most = λ j k h inside serves. up-best j h .least k (inside, serves);
           chosen-in = λ j h. up-best j h .found .0;
@@ -105,16 +105,16 @@ module _ (i : Instance) (counts : List ℕ) (asc : Ascending counts (i .modules)
           smallest = λ j k h inside serves e. up-best j h .first k (inside, serves) (sym e);
         }
 
--- switching on directly costs no more than by way of another count
+-- Switching on directly costs no more than by way of another count.
 triangle : (b x y z : ℕ) → b * (x - z) ≤ b * (y - z) + b * (x - y)
 triangle b x y z = let less : x - z ≤ y - z + (x - y) = omega arith in omega (arith, mul-le-mul-left b less)
 
--- Laws of a slot's step, by what it is alone.
+-- Laws of the column after a slot.
 module _
     {i : Instance} {counts : List ℕ} {l : ℕ} {before after chosen : ℕ → ℕ} (asc : Ascending counts (i .modules))
-    (step : SlotStep i counts l before after chosen)
+    (best : SlotBest i counts l before after chosen)
   where
-    -- the column after a slot rises with the place
+    -- The column after a slot rises with the place.
     after-rises : (j k : ℕ) → j ≤ k → k < length counts → after j ≤ after k
     after-rises j k h inside =
         let c = chosen k in
@@ -122,12 +122,12 @@ module _
         let less : countAtPlace counts j - countAtPlace counts c ≤ countAtPlace counts k - countAtPlace counts c = omega arith in
         omega (
           arith,
-          step .at-most j c (omega arith) (step .chosen-in k inside) (step .chosen-serves k inside),
-          step .attained k inside,
+          best .at-most j c (omega arith) (best .chosen-in k inside) (best .chosen-serves k inside),
+          best .attained k inside,
           mul-le-mul-left (switchingPrice i) less,
         )
 
-    -- and by at most the switching price a module
+    -- The column after a slot rises by at most the switching price a module.
     after-slope :
         (j k : ℕ) → j ≤ k → k < length counts →
         after k ≤ after j + switchingPrice i * (countAtPlace counts k - countAtPlace counts j)
@@ -136,41 +136,33 @@ module _
         let here : j < length counts = omega arith in
         omega (
           arith,
-          step .at-most k c inside (step .chosen-in j here) (step .chosen-serves j here),
-          step .attained j here,
+          best .at-most k c inside (best .chosen-in j here) (best .chosen-serves j here),
+          best .attained j here,
           triangle (switchingPrice i) (countAtPlace counts k) (countAtPlace counts j) (countAtPlace counts c),
         )
 
 -- The columns from a start count.
 module _ (i : Instance) (counts : List ℕ) (start : ℕ) (asc : Ascending counts (i .modules)) (loads : LoadsFit i) where
-  -- each slot's column and selections are a step
-  pub column-step :
+  -- Each slot's column and selections are the best of the places after the column before it.
+  pub column-best :
       (t : ℕ) → t < i .slots →
-      SlotStep i counts (i .load t) (column i counts start t) (column i counts start (suc t)) (selection i counts start t)
+      SlotBest i counts (i .load t) (column i counts start t) (column i counts start (suc t)) (selection i counts start t)
   unfolding column selection
-  column-step t h = slot-step i counts asc (i .load t) (loads t h) (column i counts start t)
+  column-best t h = slot-best i counts asc (i .load t) (loads t h) (column i counts start t)
 
-  -- a column rises with the place
+  -- A column rises with the place.
   pub column-rises :
       (t j k : ℕ) → t ≤ i .slots → j ≤ k → k < length counts → column i counts start t j ≤ column i counts start t k
   unfolding column
   column-rises zero j k h le inside =
       let low = count-rises asc j k le inside in
       mul-le-mul-left (switchingPrice i) (omega arith)
-  column-rises (suc t) j k h le inside = after-rises asc (column-step t h) j k le inside
+  column-rises (suc t) j k h le inside = after-rises asc (column-best t h) j k le inside
 
-  -- and by at most the switching price a module
+  -- A column rises by at most the switching price a module.
   pub column-slope :
       (t j k : ℕ) → t ≤ i .slots → j ≤ k → k < length counts →
       column i counts start t k ≤ column i counts start t j + switchingPrice i * (countAtPlace counts k - countAtPlace counts j)
   unfolding column
   column-slope zero j k h le inside = triangle (switchingPrice i) (countAtPlace counts k) (countAtPlace counts j) start
-  column-slope (suc t) j k h le inside = after-slope asc (column-step t h) j k le inside
-
-  -- a column's values are bounded: the full rack is switched on once and serves every slot
-  pub column-bound :
-      (f : ℕ) → ((k : ℕ) → k ≤ i .topStep → i .table k ≤ f) → (t j : ℕ) → t ≤ i .slots → j < length counts →
-      column i counts start t j ≤ switchingPrice i * i .modules + t * (i .modules * f)
-  column-bound f table =
-      laws.column-bound i counts start (i .modules) (i .modules * f) (omega (arith, asc .two)) (count-fits asc)
-      (λ t h. rw (asc .last) (running-bound i f table (i .modules) (i .load t) (loads t h)))
+  column-slope (suc t) j k h le inside = after-slope asc (column-best t h) j k le inside

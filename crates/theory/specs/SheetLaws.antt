@@ -13,53 +13,57 @@ use native.Mathlib.Numerals.{add-one}
 use native.Mathlib.Omega.{arith}
 use Rattle.lists.specs.Tests.{every-at, every-all, and-left, and-right, and-both}
 use Rattle.lists.specs.Sums.{sum, sum-ext, sum-mono, sum-add, sum-scale, sum-const}
-use Rattle.lists.specs.Lists.{tabulate, length-tabulate, getD-tabulate, length-rows, getD-rows}
+use Rattle.lists.specs.Lists.{length-tabulate, getD-tabulate, length-rows, getD-rows}
 use Rattle.model.specs.Instance.{Instance}
 use Rattle.model.specs.Counts.{canServe, operatingCost}
 use Rattle.model.specs.Sheets.{off, isOff, stepOf, stateAt, sheetLength, sheetEntries, lightAt, sheetLight, serves}
-use Rattle.model.specs.Sheets.{stepCost, changeCost, sheetCost}
-use Rattle.model.specs.Thesis.{switchingPrice, scheduleCost, scheduleOf, Feasible, countAt, stepUp, countsCost}
+use Rattle.model.specs.Sheets.{stepCost, sheetOperatingCost, sheetSwitchingCost, sheetCost, activeAt, countsOf}
+use Rattle.model.specs.Thesis.{switchingPrice, scheduleCost, scheduleOf, Feasible, countAt, slotCost, countsCost}
 use Rattle.model.specs.Plans.{moduleByte, slotRow, sheetOf, planCost, planServes}
-use Rattle.laws.specs.Running.{byte-off, slot-row-length}
-use Rattle.theory.specs.Setting.{Convex, Entry, activeIn, lightIn, rowCost, PlanFits}
-use Rattle.theory.specs.Running.{active-le, row-fits, row-at-least, plan-row-entry, plan-row-light, plan-row-cost}
+use Rattle.laws.specs.Operating.{byte-off, slot-row-length}
+use Rattle.theory.specs.Hypotheses.{Convex, Entry, activeIn, lightIn, rowCost, PlanFits}
+use Rattle.theory.specs.RowCosts.{active-le, row-fits, row-at-least, plan-row-entry, plan-row-light, plan-row-cost}
 use Rattle.theory.specs.Switching.{started, startedIn, stoppedIn, change-cost, switches-balance}
 use Rattle.theory.specs.Switching.{started-at-least, started-at-most, plan-started}
 
+-- A row that is off has no active module.
 off-row-active : (m : ℕ) (b : ℕ → ℕ) → ((k : ℕ) → b k ≡ off) → activeIn m b ≡ 0
 unfolding activeIn
 off-row-active m b e = sum-const m (λ k h. rw (e k)) ∙ mul-zero m
 
 module _ (i : Instance) (s : List ℕ) where
-  -- all are off before slot 1 and after the last
+  -- No module is active before slot 1.
   off-before : activeIn (i .modules) (stateAt i s 0) ≡ 0
   unfolding stateAt
   off-before = off-row-active (i .modules) (stateAt i s 0) (λ k. refl)
 
+  -- No module is active after the last slot.
   off-after : activeIn (i .modules) (stateAt i s (suc (i .slots))) ≡ 0
   unfolding stateAt
   off-after = off-row-active (i .modules) (stateAt i s (suc (i .slots))) (λ k. rw (le-ltb (i .slots) (i .slots) (le-refl (i .slots))))
 
-  -- the modules that go on and off after time t
+  -- The number of modules that go on after time t.
   abbrev startedAt : ℕ → ℕ
   startedAt t = startedIn (i .modules) (stateAt i s t) (stateAt i s (suc t))
 
+  -- The number of modules that go off after time t.
   abbrev stoppedAt : ℕ → ℕ
   stoppedAt t = stoppedIn (i .modules) (stateAt i s t) (stateAt i s (suc t))
 
-  -- each goes off as often as on
+  -- Modules go off as often as on.
   stopped-as-started : sum (i .slots + 1) stoppedAt ≡ sum (i .slots + 1) startedAt
   stopped-as-started = rw add-one (omega (arith, switches-balance (i .modules) (stateAt i s) (suc (i .slots)), off-before, off-after))
 
-  -- none goes on after the last slot
+  -- No module goes on after the last slot.
   started-in-slots : sum (i .slots + 1) startedAt ≡ sum (i .slots) startedAt
   unfolding sum
   started-in-slots =
       rw add-one (omega (arith, started-at-most (i .modules) (stateAt i s (i .slots)) (stateAt i s (suc (i .slots))), off-after))
 
-  changes-cost : sum (i .slots + 1) (λ t. sum (i .modules) (λ k. changeCost i (stateAt i s t k) (stateAt i s (suc t) k))) ≡
-      switchingPrice i * sum (i .slots) startedAt
-  changes-cost =
+  -- The switching cost is the switching price, both prices together, for each module that goes on.
+  switching-cost : sheetSwitchingCost i s ≡ switchingPrice i * sum (i .slots) startedAt
+  unfolding sheetSwitchingCost
+  switching-cost =
       let n : ℕ = i .slots + 1 in
       let priced = sum-ext n (λ t h. change-cost i (i .modules) (stateAt i s t) (stateAt i s (suc t))) in
       let apart = sum-add n (λ t. i .powerUp * startedAt t) (λ t. i .powerDown * stoppedAt t) in
@@ -67,21 +71,21 @@ module _ (i : Instance) (s : List ℕ) where
       let down = sum-scale n (i .powerDown) stoppedAt ∙ ap (λ (x : ℕ). i .powerDown * x) (stopped-as-started ∙ started-in-slots) in
       omega arith
 
-  -- 'By thesis chapter 2 this equals charging both at warm-up' (01): a sheet costs what its rows cost and the switching price, both
-  -- prices together, for each module that goes on;
+  -- 'By thesis chapter 2 this equals charging both at warm-up' (01): a sheet costs what its rows cost and the switching price for each
+  -- module that goes on.
   pub sheet-cost-starts : sheetCost i s ≡
       sum (i .slots) (λ t. rowCost i (i .modules) (stateAt i s (suc t))) +
       switchingPrice i * sum (i .slots) (λ t. startedIn (i .modules) (stateAt i s t) (stateAt i s (suc t)))
-  unfolding sheetCost rowCost
-  sheet-cost-starts = omega (arith, changes-cost)
+  unfolding sheetCost sheetOperatingCost rowCost
+  sheet-cost-starts = omega (arith, switching-cost)
 
-  -- the same slot by slot
+  -- A sheet's cost is the sum over its slots of what their rows and the modules that go on there cost.
   sheet-cost-slots : sheetCost i s ≡ sum (i .slots) (λ t. rowCost i (i .modules) (stateAt i s (suc t)) + switchingPrice i * startedAt t)
   sheet-cost-slots =
       let apart = sum-add (i .slots) (λ t. rowCost i (i .modules) (stateAt i s (suc t))) (λ t. switchingPrice i * startedAt t) in
       omega (arith, sheet-cost-starts, sum-scale (i .slots) (switchingPrice i) startedAt)
 
--- In a schedule a byte's step times its state is its step, F of its step times its state is its cost,
+-- In a schedule a byte's step times its state is its step.
 assigned-active : (b : ℕ) → stepOf b * cond (isOff b) 0 1 ≡ stepOf b
 assigned-active b = go (isOff b)
   where
@@ -89,6 +93,7 @@ assigned-active b = go (isOff b)
     go true = refl
     go false = omega arith
 
+-- In a schedule F of a byte's step times its state is its cost.
 cost-active : (i : Instance) (b : ℕ) → i .table (stepOf b) * cond (isOff b) 0 1 ≡ stepCost i b
 unfolding stepCost
 cost-active i b = go (isOff b)
@@ -97,7 +102,7 @@ cost-active i b = go (isOff b)
     go true = omega arith
     go false = omega arith
 
--- and the truncated difference of two states says whether it goes on.
+-- The truncated difference of two states says whether a module goes on.
 state-difference : (a b : Bool) → cond b 0 1 - cond a 0 1 ≡ started a b
 state-difference true true = refl
 state-difference true false = refl
@@ -124,7 +129,7 @@ module _ (i : Instance) (s : List ℕ) where
   unfolding scheduleOf lightAt
   schedule-light t = simp assigned-active
 
-  -- Its steps sum to the loads exactly if its states and steps satisfy the thesis's 2.3.
+  -- The steps of a list of bytes sum to the loads exactly if its states and steps satisfy the thesis's 2.3.
   pub thesis-feasible : sheetLight i s ≡ true ↔ Feasible i (scheduleOf i s)
   unfolding sheetLight
   thesis-feasible = (
@@ -137,17 +142,14 @@ module _ (i : Instance) (s : List ℕ) where
   serves-feasible size entries =
       (λ e. thesis-feasible .0 (serves-parts .0 e .2), λ f. serves-parts .1 (size, entries, thesis-feasible .1 f))
 
--- The counts of a sheet: its active modules, slot by slot.
-unfoldable pub countsOf : Instance → List ℕ → List ℕ
-countsOf i s = tabulate (i .slots) (λ t. activeIn (i .modules) (stateAt i s (suc t)))
-
+-- The counts of a sheet.
 module _ (i : Instance) (s : List ℕ) where
   counts-at : (t : ℕ) → t ≤ i .slots → countAt 0 (countsOf i s) t ≡ activeIn (i .modules) (stateAt i s t)
-  unfolding countAt countsOf
+  unfolding countAt countsOf activeAt activeIn
   counts-at zero h = sym (off-before i s)
   counts-at (suc t) h = getD-tabulate (i .slots) _ t 0 h
 
-  -- each slot of a sheet that serves is a row of entries whose light is the load
+  -- Each slot of a sheet that serves is a row of entries.
   row-entries : serves i s ≡ true → (t : ℕ) → t < i .slots → (k : ℕ) → k < i .modules → Entry i (stateAt i s (suc t) k)
   unfolding stateAt sheetLength sheetEntries
   row-entries e t h k g =
@@ -155,6 +157,7 @@ module _ (i : Instance) (s : List ℕ) where
       let size : length s ≡ i .modules * i .slots = eqb-true _ _ sized in
       rw (lt-ltb t (i .slots) h) (every-at (length s) _ entries (t * i .modules + k) (omega (arith, digits-lt h g)))
 
+  -- The light of each slot of a sheet that serves is the load.
   row-light : serves i s ≡ true → (t : ℕ) → t < i .slots → lightIn (i .modules) (stateAt i s (suc t)) ≡ i .load t
   unfolding lightIn sheetLight lightAt
   row-light e t h = eqb-true _ _ (every-at (i .slots) _ (serves-parts i s .0 e .2) t h)
@@ -162,17 +165,17 @@ module _ (i : Instance) (s : List ℕ) where
 -- On a convex table a sheet that serves costs at least what its counts cost by 3.9 to 3.13 (thesis 3.8).
 pub sheet-at-least : (i : Instance) → Convex (i .topStep) (i .table) → (s : List ℕ) → serves i s ≡ true →
     countsCost i 0 (countsOf i s) ≤ sheetCost i s
-unfolding countsCost stepUp
+unfolding countsCost slotCost
 sheet-at-least i c s e = rw sheet-cost-slots (sum-mono (i .slots) slot)
   where
     slot : (t : ℕ) → t < i .slots →
-        stepUp i (countAt 0 (countsOf i s) t) (countAt 0 (countsOf i s) (suc t)) (i .load t) ≤
+        slotCost i (countAt 0 (countsOf i s) t) (countAt 0 (countsOf i s) (suc t)) (i .load t) ≤
         rowCost i (i .modules) (stateAt i s (suc t)) + switchingPrice i * startedAt i s t
     slot t h =
-        let running = row-at-least i c (i .modules) (stateAt i s (suc t)) (row-entries i s e t h) in
+        let operating = row-at-least i c (i .modules) (stateAt i s (suc t)) (row-entries i s e t h) in
         let switching = started-at-least (i .modules) (stateAt i s t) (stateAt i s (suc t)) in
         rw (counts-at i s t (omega arith), counts-at i s (suc t) h, ← row-light i s e t h)
-        (add-le-add running (mul-le-mul-left (switchingPrice i) switching))
+        (add-le-add operating (mul-le-mul-left (switchingPrice i) switching))
 
 -- The counts of a sheet that serves are a plan whose sheet can be written.
 pub sheet-counts-fit : (i : Instance) (s : List ℕ) → i .topStep < off → serves i s ≡ true → PlanFits i (countsOf i s)
@@ -190,7 +193,7 @@ sheet-counts-fit i s steps e =
         let row = row-fits i (i .modules) (stateAt i s (suc t)) (row-entries i s e t h) in
         rw (counts-at i s (suc t) h, ← row-light i s e t h) row
 
--- the load at time t, none at time 0
+-- The load at a time, none at time 0.
 abbrev loadAt : Instance → ℕ → ℕ
 loadAt i zero = 0
 loadAt i (suc t) = i .load t
@@ -201,13 +204,13 @@ module _ (i : Instance) (p : List ℕ) where
   unfolding sheetOf
   sheet-length = length-rows (i .modules) (i .slots) _ (λ t. slot-row-length i _ _) ∙ mul-comm (i .slots) (i .modules)
 
-  -- its byte for slot t and module k
+  -- The byte for slot t and module k is that of the count and the load of slot t.
   sheet-entry : (t k : ℕ) → t < i .slots → k < i .modules →
       getD (sheetOf i p) (t * i .modules + k) off ≡ moduleByte (getD p t 0) (i .load t) k
   unfolding sheetOf slotRow
   sheet-entry t k h g = getD-rows (i .modules) (i .slots) _ (λ t. slot-row-length i _ _) t k off h g ∙ getD-tabulate (i .modules) _ k off g
 
-  -- a place in it is that of a slot and a module
+  -- A place in the sheet is that of a slot and a module.
   place-slot : (j : ℕ) → j < length (sheetOf i p) → (j / i .modules < i .slots) × (j % i .modules < i .modules)
   place-slot j h =
       ⊎-elim
@@ -215,13 +218,14 @@ module _ (i : Instance) (p : List ℕ) where
       (λ (some : 0 < i .modules). (div-lt-iff-lt-mul some .1 (omega (arith, sheet-length)), mod-lt j some))
       (eq-zero-or-pos (i .modules))
 
-  -- at time t it has the row of the count and the load
+  -- At time t the sheet has the row of the count and the load.
   state-row : (t : ℕ) → t ≤ i .slots → (k : ℕ) → k < i .modules →
       stateAt i (sheetOf i p) t k ≡ moduleByte (countAt 0 p t) (loadAt i t) k
   unfolding stateAt countAt
   state-row zero h k g = sym (byte-off 0 0 k (omega arith))
   state-row (suc t) h k g = rw (lt-ltb t (i .slots) h) (sheet-entry t k h g)
 
+-- The sheet of a plan whose sheet can be written.
 module _ (i : Instance) (p : List ℕ) (fit : PlanFits i p) where
   fits-at : (t : ℕ) → t ≤ i .slots → loadAt i t ≤ countAt 0 p t * i .topStep
   unfolding countAt planServes canServe
@@ -254,15 +258,15 @@ module _ (i : Instance) (p : List ℕ) (fit : PlanFits i p) where
           sum-ext (i .modules) (λ k g. ap stepOf (state-row i p (suc t) h k g)) ∙
           plan-row-light i (i .modules) (countAt 0 p (suc t)) (i .load t) (fit .steps) (rack-at (suc t) h) (fits-at (suc t) h)
 
-  -- The sheet of a plan whose counts serve the loads serves the show,
+  -- The sheet of a plan whose counts serve the loads serves the show.
   pub plan-sheet-serves : serves i (sheetOf i p) ≡ true
   unfolding sheetLength
   plan-sheet-serves = serves-parts i (sheetOf i p) .1 (eq-eqb _ _ (sheet-length i p), plan-entries, plan-light)
 
-  plan-running : (t : ℕ) → t < i .slots →
+  plan-operating : (t : ℕ) → t < i .slots →
       rowCost i (i .modules) (stateAt i (sheetOf i p) (suc t)) ≡ operatingCost i (countAt 0 p (suc t)) (i .load t)
   unfolding rowCost
-  plan-running t h =
+  plan-operating t h =
       sum-ext (i .modules) (λ k g. ap (stepCost i) (state-row i p (suc t) h k g)) ∙
       plan-row-cost i (i .modules) (countAt 0 p (suc t)) (i .load t) (fit .steps) (rack-at (suc t) h) (fits-at (suc t) h)
 
@@ -275,9 +279,9 @@ module _ (i : Instance) (p : List ℕ) (fit : PlanFits i p) where
       plan-started i (i .modules) (countAt 0 p t) (loadAt i t) (countAt 0 p (suc t)) (i .load t)
       (fit .steps) (rack-at t l) (rack-at (suc t) h) (fits-at t l) (fits-at (suc t) h)
 
-  -- and the plan costs what its counts cost by 3.9 to 3.13.
+  -- A plan costs what its counts cost by 3.9 to 3.13.
   pub plan-cost-counts : planCost i p ≡ countsCost i 0 p
-  unfolding planCost countsCost stepUp
+  unfolding planCost countsCost slotCost
   plan-cost-counts =
       sheet-cost-slots i (sheetOf i p) ∙
-      sum-ext (i .slots) (λ t h. ap₂ (λ a b. a + switchingPrice i * b) (plan-running t h) (plan-switching t h))
+      sum-ext (i .slots) (λ t h. ap₂ (λ a b. a + switchingPrice i * b) (plan-operating t h) (plan-switching t h))

@@ -1,4 +1,4 @@
--- What is read of a long input: the longest card has 2,869 bytes, so the first 2,870 bytes decide the answer.
+-- What is read of a long input: the 2870 card has 2,869 bytes, so the first 2,870 bytes decide the answer.
 use Prim.Native.Nat.{ℕ, _+_, _*_, _≤_}
 use mathlib.Core.Path.{_≡_, _∙_, ap}
 use mathlib.Core.Bool.{Bool, true, false, not}
@@ -10,18 +10,19 @@ use lib.ListN.{length, take, replicate}
 use lib.Seq.{length-take-le, take-take}
 use borrow.Author.Tests.{le-ltb, leb-true, ltb-false, ne-eqb, not-false}
 use Rattle.lists.specs.Numbers.{true-or-false}
-use Rattle.lists.specs.Tests.{and-right}
+use Rattle.lists.specs.Tests.{allOf, and-left, and-right}
 use Rattle.lists.specs.Bytes.{little-take}
 use Rattle.model.specs.declared.Refusal.{Refusal}
 use Rattle.model.specs.declared.Refusal.the-variants.{NotACard, Version, RackSize, SlotCount, CardLength}
 use Rattle.model.specs.declared.Answer.the-variants.{Cost, Refused}
-use Rattle.model.specs.Instance.{instanceOf, cardLength}
-use Rattle.model.specs.Calls.{checkCard, answer, applies, requestOf, cardRefusals, refusals, successCost, lowest, rackNumber}
+use Rattle.model.specs.Instance.{instanceOf, headLength, versionPlace, modulesPlace, topStepPlace, slotsPlace, loadPlace, cardLength, rackNumber}
+use Rattle.model.specs.Planners.{exact}
+use Rattle.model.specs.Calls.{checkCard, answer, applies, requestOf, cardRefusals, refusals, successCost, lowest}
 use Rattle.model.specs.Listing.{printed, printedFor}
 use Rattle.laws.specs.Lowest.{lowest-hit, lowest-skip}
-use Rattle.theory.specs.Outcomes.{exact-refused}
+use Rattle.theory.specs.Outcomes.{planner-refused}
 
--- of some refusals the lowest is the same one by two tests
+-- Of some refusals the lowest is the same one by two tests.
 record SameRefusal (f g : Refusal → Bool) (xs : List Refusal) : Type 0 where
   refusal : Refusal
   one : lowest f xs (Cost 0) ≡ Refused refusal
@@ -44,45 +45,49 @@ module _ {f g : Refusal → Bool} {x : Refusal} {xs : List Refusal} where
       })
       (true-or-false (f x))
 
--- a card longer than any is refused by 3, 4 or 5
+-- A card longer than any that is accepted is refused by 3, 4 or 5.
 long-card :
     (s : List ℕ) → 2870 ≤ length s → applies (requestOf (checkCard s)) RackSize ≡ false →
     applies (requestOf (checkCard s)) SlotCount ≡ false → applies (requestOf (checkCard s)) CardLength ≡ true
-unfolding applies requestOf cardLength
+unfolding applies requestOf allOf cardLength
 long-card s long rack slots =
     let i = instanceOf s in
-    let top = and-right (rackNumber (i .modules)) (rackNumber (i .topStep)) (not-false _ rack) in
+    let top = and-left (rackNumber (i .topStep)) true (and-right (rackNumber (i .modules)) _ (not-false _ rack)) in
     let most = leb-true (i .topStep) 200 (and-right (leb 1 (i .topStep)) (leb (i .topStep) 200) top) in
     let few = ltb-false 1024 (i .slots) slots in
-    ap not (ne-eqb (length s) (17 + 4 * (i .topStep + 1) + 2 * i .slots) (omega arith))
+    ap not (ne-eqb (length s) (loadPlace (i .topStep) (i .slots)) (omega arith))
 
 module _ (x : List ℕ) (long : 2870 ≤ length x) where
-  -- what is read of a longer input
+  -- The part of a longer input that is read.
   abbrev front : List ℕ
   front = take 2870 x
 
   front-long : 2870 ≤ length front
   front-long = omega (arith, length-take-le 2870 x long)
 
-  -- refusals 1 to 4 see the first 17 bytes alone
+  -- Refusals 1 to 4 see the first 17 bytes alone.
   same-mark : applies (requestOf (checkCard front)) NotACard ≡ applies (requestOf (checkCard x)) NotACard
   unfolding applies requestOf
   same-mark =
-      rw (le-ltb (length x) 17 (omega arith), le-ltb (length front) 17 (omega (arith, front-long)), take-take 3 2870 x (omega arith))
+      rw (
+        le-ltb (length x) headLength (omega arith),
+        le-ltb (length front) headLength (omega (arith, front-long)),
+        take-take versionPlace 2870 x (omega arith),
+      )
 
   same-version : applies (requestOf (checkCard front)) Version ≡ applies (requestOf (checkCard x)) Version
   unfolding applies requestOf
-  same-version = rw (little-take 2 2870 x 3 (omega arith))
+  same-version = rw (little-take 2 2870 x versionPlace (omega arith))
 
   same-rack : applies (requestOf (checkCard front)) RackSize ≡ applies (requestOf (checkCard x)) RackSize
   unfolding applies requestOf instanceOf
-  same-rack = rw (little-take 1 2870 x 5 (omega arith), little-take 1 2870 x 6 (omega arith))
+  same-rack = rw (little-take 1 2870 x modulesPlace (omega arith), little-take 1 2870 x topStepPlace (omega arith))
 
   same-slots : applies (requestOf (checkCard front)) SlotCount ≡ applies (requestOf (checkCard x)) SlotCount
   unfolding applies requestOf instanceOf
-  same-slots = rw (little-take 2 2870 x 7 (omega arith))
+  same-slots = rw (little-take 2 2870 x slotsPlace (omega arith))
 
-  -- input and front are refused, with the same number
+  -- The input and its front are refused with the same number.
   long-refused : SameRefusal (applies (requestOf (checkCard x))) (applies (requestOf (checkCard front))) cardRefusals
   long-refused =
       same-next same-mark λ _.
@@ -96,6 +101,6 @@ pub long-printed : (x : List ℕ) → 2870 ≤ length x → printed x ≡ printe
 unfolding printed printedFor answer refusals successCost
 long-printed x long =
     let r = long-refused x long in
-    let whole = exact-refused x (replicate 1024 0) (replicate 65536 0) (r .one) in
-    let front = exact-refused (take 2870 x) (replicate 1024 0) (replicate 65536 0) (r .other) in
+    let whole = planner-refused exact x (replicate 1024 0) (replicate 65536 0) (r .one) in
+    let front = planner-refused exact (take 2870 x) (replicate 1024 0) (replicate 65536 0) (r .other) in
     rw (whole, front)

@@ -16,12 +16,13 @@ use Rattle.model.specs.Plans.{Allowed, planServes}
 use Rattle.columns.specs.Column.{countAtPlace}
 
 module _ (i : Instance) (counts : List ℕ) where
-  -- in the first t slots each count stands at a place that serves
+  -- In the first t slots each count of a plan stands at a place that serves.
   abbrev pub Placed : List ℕ → ℕ → Type 0
   Placed p t =
       (u : ℕ) → u < t →
       (k : ℕ) × (k < length counts) × (countAtPlace counts k ≡ getD p u 0) × (canServe i (countAtPlace counts k) (i .load u) ≡ true)
 
+  -- A place that serves slot t may follow the first t slots.
   pub placed-snoc :
       (p : List ℕ) (t k : ℕ) → length p ≡ t → Placed p t → k < length counts →
       canServe i (countAtPlace counts k) (i .load t) ≡ true → Placed (p ++ (countAtPlace counts k ∷ [])) (suc t)
@@ -35,13 +36,14 @@ module _ (i : Instance) (counts : List ℕ) where
       (c, within, here ∙ sym (snoc-before p (countAtPlace counts k) 0 t u e before), can))
       (le-or-lt t u)
 
-  -- over all slots that is to be allowed
+  -- The counts of an allowed plan stand at places that serve.
   pub placed-of : {p : List ℕ} → Allowed i counts p → Placed p (i .slots)
   unfolding planServes
   placed-of {p} a u h =
       let (k, inside, here) = a .member u h in
       (k, inside, here, rw here (every-at (i .slots) (λ t. canServe i (getD p t 0) (i .load t)) (a .served) u h))
 
+  -- A plan whose counts stand at places that serve is allowed.
   pub allowed-of : (p : List ℕ) → length p ≡ i .slots → Placed p (i .slots) → Allowed i counts p
   unfolding planServes
   allowed-of p e placed =

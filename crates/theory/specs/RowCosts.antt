@@ -1,4 +1,4 @@
--- The running cost of a count: one formula, the least cost of a row of bytes, and the row that attains it.
+-- The operating cost of a count is the least cost of a row of bytes, and the row of a plan attains it.
 use Prim.Native.Nat.{ℕ, zero, suc, _+_, _-_, _*_, _/_, _%_, _≤_, _<_}
 use mathlib.Core.Path.{_≡_, refl, ap, sym, _∙_}
 use mathlib.Core.Bool.{Bool, true, false, cond, or-true, or-false}
@@ -15,21 +15,21 @@ use Rattle.model.specs.Instance.{Instance}
 use Rattle.model.specs.Counts.{operatingCost}
 use Rattle.model.specs.Sheets.{off, isOff, stepOf, stepCost}
 use Rattle.model.specs.Plans.{moduleByte}
-use Rattle.laws.specs.Running.{running-formula, byte-above, byte-at, byte-off}
-use Rattle.theory.specs.Setting.{Convex, Entry, activeIn, lightIn, rowCost}
+use Rattle.laws.specs.Operating.{operating-formula, byte-above, byte-at, byte-off}
+use Rattle.theory.specs.Hypotheses.{Convex, Entry, activeIn, lightIn, rowCost}
 use Rattle.theory.specs.Tables.{supporting-line}
 
--- 'the thesis's n·f(L/n) with straight lines between table entries' (01): for n modules the running cost is n times the line from
--- F(q) to F(q + 1), taken at l / n; stated without division.
+-- 'the thesis's n·f(L/n) with straight lines between table entries' (01): the operating cost of n modules is n times the line from
+-- F(q) to F(q + 1), taken at l / n. It is stated without division.
 pub straight-line : (i : Instance) (n l : ℕ) → 0 < n → l ≤ n * i .topStep →
     operatingCost i n l + l % n * i .table (l / n) ≡ n * i .table (l / n) + l % n * i .table (l / n + 1)
-straight-line i n l p h = omega (arith, running-formula i n l h, part-and-rest n (l % n) (i .table (l / n)) (le-of-lt (mod-lt l p)))
+straight-line i n l p h = omega (arith, operating-formula i n l h, part-and-rest n (l % n) (i .table (l / n)) (le-of-lt (mod-lt l p)))
 
--- The table lies above the line u + k x - k y - z, stated without subtraction.
+-- The table lies above the line u + k x - k y - z. It is stated without subtraction.
 abbrev AboveLine : Instance → ℕ → ℕ → ℕ → ℕ → Type 0
 AboveLine i u x y z = (k : ℕ) → k ≤ i .topStep → u + k * x ≤ i .table k + k * y + z
 
--- a steep line through the last entry
+-- The table lies above a steep line through its last entry.
 line-at-top : (i : Instance) → AboveLine i (i .table (i .topStep)) (i .table (i .topStep)) 0 (i .topStep * i .table (i .topStep))
 line-at-top i k h =
     ⊎-elim
@@ -37,10 +37,10 @@ line-at-top i k h =
     (λ (g : k < i .topStep). omega (arith, mul-le-mul-right (i .table (i .topStep)) g))
     (eq-or-lt-of-le h)
 
--- A cost that is n times above each such line at l / n is at least the running cost.
+-- A cost that is n times above each such line at l / n is at least the operating cost.
 module _ (i : Instance) (n l cost : ℕ) (fits : l ≤ n * i .topStep)
     (above : (u x y z : ℕ) → AboveLine i u x y z → n * u + l * x ≤ cost + l * y + n * z) where
-  -- all at the top step
+  -- All modules are at the top step.
   at-top : 0 < n → i .topStep ≤ l / n → operatingCost i n l ≤ cost
   at-top p h =
       let top : l / n ≡ i .topStep = omega (arith, div-le-of-le-mul n fits) in
@@ -67,12 +67,12 @@ module _ (i : Instance) (n l cost : ℕ) (fits : l ≤ n * i .topStep)
       (λ (p : 0 < n). ⊎-elim (at-top p) (below-top c p) (le-or-lt (i .topStep) (l / n)))
       (eq-zero-or-pos n)
 
--- an entry is off or a step
+-- An entry is off or a step.
 entry-cases : (i : Instance) (b : ℕ) → Entry i b → (isOff b ≡ true) ⊎ ((isOff b ≡ false) × (b ≤ i .topStep))
 entry-cases i b e =
     ⊎-elim inl (λ (g : isOff b ≡ false). inr (g, leb-true b (i .topStep) (rw (g, or-false) at e))) (true-or-false (isOff b))
 
--- no more modules are active than there are
+-- No more modules are active than there are.
 pub active-le : (m : ℕ) (b : ℕ → ℕ) → activeIn m b ≤ m
 unfolding activeIn
 active-le m b = omega (arith, sum-at-most m (λ k h. at-most-one (isOff (b k))))
@@ -92,7 +92,7 @@ module _ (i : Instance) where
       (λ (g : (isOff b ≡ false) × (b ≤ i .topStep)). rw (g .0) (omega (arith, h b (g .1))))
       (entry-cases i b e)
 
-  -- where the table lies above a line, so does the cost of a row
+  -- Where the table lies above a line, so does the cost of a row.
   row-above-line : (m : ℕ) (b : ℕ → ℕ) → ((k : ℕ) → k < m → Entry i (b k)) → (u x y z : ℕ) → AboveLine i u x y z →
       activeIn m b * u + lightIn m b * x ≤ rowCost i m b + lightIn m b * y + activeIn m b * z
   unfolding sum activeIn lightIn rowCost
@@ -113,15 +113,16 @@ module _ (i : Instance) where
   row-fits zero b e = omega arith
   row-fits (suc m) b e = omega (arith, row-fits m b (λ k l. e k (omega arith)), byte-fits (b m) (e m (omega arith)))
 
-  -- On a convex table any row of entries costs at least the running cost of its active modules and its light (thesis 3.4).
+  -- On a convex table any row of entries costs at least the operating cost of its active modules and its light (thesis 3.4).
   pub row-at-least : Convex (i .topStep) (i .table) → (m : ℕ) (b : ℕ → ℕ) → ((k : ℕ) → k < m → Entry i (b k)) →
       operatingCost i (activeIn m b) (lightIn m b) ≤ rowCost i m b
   row-at-least c m b e = above-lines i (activeIn m b) (lightIn m b) (rowCost i m b) (row-fits m b e) (row-above-line m b e) c
 
--- The row of a plan.
+-- A step below the byte for off is active.
 step-active : (b : ℕ) → b < off → isOff b ≡ false
 step-active b h = ne-eqb b off (λ e. omega arith)
 
+-- The row of a plan with count n and load l.
 module _ (i : Instance) (n l : ℕ) (fits : l ≤ n * i .topStep) where
   above-step : 0 < l % n → l / n + 1 ≤ i .topStep
   above-step h = omega (arith, quotient-lt n l (i .topStep) fits h)
@@ -144,7 +145,7 @@ module _ (i : Instance) (n l : ℕ) (fits : l ≤ n * i .topStep) where
       (λ (g : k < n). rw (le-leb (moduleByte n l k) (i .topStep) (byte-step k g)))
       (le-or-lt n k)
 
-  -- the sum over the row of a function of the byte, 0 at off and h at the steps
+  -- The sum over the row of a function of the byte that is 0 at off and h at the steps.
   plan-row-sum : (g h : ℕ → ℕ) → g off ≡ 0 → ((b : ℕ) → b ≤ i .topStep → g b ≡ h b) → (m : ℕ) → n ≤ m →
       sum m (λ k. g (moduleByte n l k)) ≡ (n - l % n) * h (l / n) + l % n * h (l / n + 1)
   plan-row-sum g h e steps m rack =
@@ -160,7 +161,7 @@ module _ (i : Instance) (n l : ℕ) (fits : l ≤ n * i .topStep) where
       at-step : (k : ℕ) → l % n ≤ k → k < n → g (moduleByte n l k) ≡ h (l / n)
       at-step k a c = ap g (byte-at n l k a c) ∙ steps (l / n) (div-le-of-le-mul n fits)
 
--- In a rack of m, where no step is the byte for off, it has n active modules, its light is l and its cost the running cost.
+-- In a rack of m, where no step is the byte for off, the row of a plan has n active modules, the light l and the operating cost.
 module _ (i : Instance) (m n l : ℕ) (steps : i .topStep < off) (rack : n ≤ m) (fits : l ≤ n * i .topStep) where
   pub plan-row-active : activeIn m (moduleByte n l) ≡ n
   unfolding activeIn
@@ -178,4 +179,4 @@ module _ (i : Instance) (m n l : ℕ) (steps : i .topStep < off) (rack : n ≤ m
   unfolding rowCost stepCost
   plan-row-cost =
       plan-row-sum i n l fits (stepCost i) (i .table) refl (λ b h. rw (step-active b (omega arith))) m rack ∙
-      sym (running-formula i n l fits)
+      sym (operating-formula i n l fits)

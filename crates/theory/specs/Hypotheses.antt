@@ -6,22 +6,23 @@ use mathlib.Core.List.{List}
 use lib.ListN.{length, getD}
 use lib.Dec.{leb}
 use Rattle.lists.specs.Sums.{sum}
-use Rattle.model.specs.Instance.{Instance}
+use Rattle.model.specs.Instance.{Instance, neverFalls}
 use Rattle.model.specs.Counts.{canServe, operatingCost}
 use Rattle.model.specs.Sheets.{isOff, stepOf, stepCost, off}
-use Rattle.model.specs.Thesis.{switchingPrice, countAt, stepUp, countsCost}
+use Rattle.model.specs.Thesis.{switchingPrice, countAt, slotCost, countsCost}
 use Rattle.model.specs.Plans.{Allowed, NotAfter, planServes}
+use Rattle.model.specs.Planners.{Planner, exact, coarse}
 use Rattle.columns.specs.Column.{countAtPlace}
 
--- Tables with the entries f 0 to f q: no entry lies above the middle of its neighbours;
+-- Of a table with the entries f 0 to f q no entry lies above the middle of its neighbours.
 abbrev pub Convex : ℕ → (ℕ → ℕ) → Type 0
 Convex q f = (k : ℕ) → k + 1 < q → 2 * f (k + 1) ≤ f k + f (k + 2)
 
--- no entry lies above the next one.
+-- Of a table with the entries f 0 to f q no entry lies above the next one.
 abbrev pub NeverFalls : ℕ → (ℕ → ℕ) → Type 0
 NeverFalls q f = (k : ℕ) → k < q → f k ≤ f (k + 1)
 
--- the full rack serves every load
+-- The full rack serves every load.
 abbrev pub LoadsFit : Instance → Type 0
 LoadsFit i = (t : ℕ) → t < i .slots → i .load t ≤ i .modules * i .topStep
 
@@ -32,17 +33,24 @@ pub record Plannable (i : Instance) : Type 0 where
   pub loads : LoadsFit i
   pub convex : Convex (i .topStep) (i .table)
 
--- Rows of bytes, one for each of m modules. An entry is a step of the table or off;
+-- What a planner asks of the table of an accepted card: the exact one nothing, the coarse one that refusal 9 does not apply.
+unfoldable pub TableAllowed : Planner → Instance → Type 0
+TableAllowed exact i = Unit {0}
+TableAllowed coarse i = neverFalls (i .topStep) (i .table) ≡ true
+
+-- An entry of a row is a step of the table or off.
 abbrev pub Entry : Instance → ℕ → Type 0
 Entry i b = (leb b (i .topStep) || isOff b) ≡ true
 
--- a row has so many active modules, so much light, and a running cost.
+-- The active modules of a row of bytes, one byte for each of m modules.
 unfoldable pub activeIn : ℕ → (ℕ → ℕ) → ℕ
 activeIn m b = sum m (λ k. cond (isOff (b k)) 0 1)
 
+-- The light of a row.
 unfoldable pub lightIn : ℕ → (ℕ → ℕ) → ℕ
 lightIn m b = sum m (λ k. stepOf (b k))
 
+-- The operating cost of a row.
 unfoldable pub rowCost : Instance → ℕ → (ℕ → ℕ) → ℕ
 rowCost i m b = sum m (λ k. stepCost i (b k))
 
@@ -54,7 +62,7 @@ pub record PlanFits (i : Instance) (p : List ℕ) : Type 0 where
   pub served : planServes i p ≡ true
 
 -- What one slot with load l makes of a column: the least over all places that serve, and the smallest place that attains it.
-pub record SlotStep (i : Instance) (counts : List ℕ) (l : ℕ) (before after chosen : ℕ → ℕ) : Type 0 where
+pub record SlotBest (i : Instance) (counts : List ℕ) (l : ℕ) (before after chosen : ℕ → ℕ) : Type 0 where
   pub at-most :
       (j k : ℕ) → j < length counts → k < length counts → canServe i (countAtPlace counts k) l ≡ true →
       after j ≤ before k + operatingCost i (countAtPlace counts k) l + switchingPrice i * (countAtPlace counts j - countAtPlace counts k)
@@ -70,9 +78,9 @@ pub record SlotStep (i : Instance) (counts : List ℕ) (l : ℕ) (before after c
       after j ≡ before k + operatingCost i (countAtPlace counts k) l + switchingPrice i * (countAtPlace counts j - countAtPlace counts k) →
       chosen j ≤ k
 
--- the cost by counts of a plan's first t slots
+-- The cost by counts of a plan's first t slots.
 abbrev pub costOfFirst : Instance → ℕ → List ℕ → ℕ → ℕ
-costOfFirst i start p t = sum t (λ u. stepUp i (countAt start p u) (countAt start p (suc u)) (i .load u))
+costOfFirst i start p t = sum t (λ u. slotCost i (countAt start p u) (countAt start p (suc u)) (i .load u))
 
 -- The least plan by counts from a start count, with the tie rule.
 pub record LeastByCounts (i : Instance) (counts : List ℕ) (start : ℕ) (p : List ℕ) : Type 0 where

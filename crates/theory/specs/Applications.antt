@@ -1,0 +1,90 @@
+-- The hypotheses of the theorems can be met: they hold of document 01's example E.
+use Prim.Native.Nat.{ℕ, _+_, _*_, _≤_}
+use mathlib.Core.Path.{_≡_, refl}
+use mathlib.Core.Bool.{true}
+use mathlib.Core.List.{List, [], _∷_, flatMap}
+use native.Mathlib.Omega.{arith}
+use lib.Dec.{leb, ltb}
+use borrow.Author.Tests.{leb-true, ltb-true}
+use Rattle.lists.specs.Tests.{every, every-at}
+use Rattle.lists.specs.Sums.{sum}
+use Rattle.lists.specs.Lists.{tabulate, rows, keep}
+use Rattle.model.specs.Counts.{canServe, operatingCost, allCounts, coarseCounts}
+use Rattle.model.specs.Sheets.{off, stateAt, sheetLength, sheetEntries, lightAt, sheetLight, serves, stepCost, changeCost}
+use Rattle.model.specs.Sheets.{sheetOperatingCost, sheetSwitchingCost, sheetCost, activeAt, countsOf}
+use Rattle.model.specs.Thesis.{countAt, slotCost, countsCost}
+use Rattle.model.specs.Plans.{moduleByte, slotRow, sheetOf, planCost, planServes, plansInOrder, cheapest, cheapestOf, leastPlan, leastCost}
+use Rattle.columns.specs.Column.{countAtPlace, Ascending, GrowsBy}
+use Rattle.theory.specs.Hypotheses.{NeverFalls, Plannable}
+use Rattle.theory.specs.SheetLaws.{sheet-at-least}
+use Rattle.theory.specs.Condition3.{exact-least, list-ratio, coarse-twice}
+use Rattle.theory.specs.Counterexamples.{exampleE, steadySheet, steady-serves, at-places}
+
+-- Example E meets the hypotheses.
+pub example-plannable : Plannable exampleE
+unfolding every
+example-plannable =
+    record {
+      some = omega arith;
+      steps = omega arith;
+      loads = λ t h. leb-true _ _ (every-at 3 (λ t. leb (exampleE .load t) 8) refl t h);
+      convex = λ k h. absurd (omega arith);
+    }
+
+example-never-falls : NeverFalls (exampleE .topStep) (exampleE .table)
+example-never-falls k h = omega arith
+
+-- A sheet that has other modules active in the last slot than before.
+abbrev movedSheet : List ℕ
+movedSheet =
+    1 ∷ 1 ∷ 1 ∷ 1 ∷ 1 ∷ off ∷ off ∷ off ∷
+    1 ∷ 1 ∷ 1 ∷ off ∷ off ∷ off ∷ off ∷ off ∷
+    off ∷ off ∷ off ∷ 1 ∷ 1 ∷ 1 ∷ 1 ∷ 1 ∷ []
+
+moved-serves : serves exampleE movedSheet ≡ true
+unfolding every sum stateAt sheetLength sheetEntries lightAt sheetLight serves
+moved-serves = refl
+
+-- A list of allowed counts whose gaps are as wide as the ratio 2 lets them be.
+abbrev wideCounts : List ℕ
+wideCounts = 0 ∷ 2 ∷ 6 ∷ 8 ∷ []
+
+wide-ascending : Ascending wideCounts (exampleE .modules)
+unfolding every
+wide-ascending =
+    record {
+      two = omega arith;
+      first = refl;
+      last = refl;
+      rises = λ j h. ltb-true _ _ (at-places wideCounts (λ j. ltb (countAtPlace wideCounts j) (countAtPlace wideCounts (j + 1))) refl j h);
+    }
+
+wide-gaps : GrowsBy 2 wideCounts
+unfolding every
+wide-gaps j h =
+    leb-true _ _ (at-places wideCounts (λ j. leb (countAtPlace wideCounts (j + 1)) (2 * (countAtPlace wideCounts j + 1))) refl j h)
+
+-- The moved sheet costs 10 and its counts 7, and the least cost over the wide counts is 6.
+costs-computed :
+    (sheetCost exampleE movedSheet ≡ 10) × (countsCost exampleE 0 (countsOf exampleE movedSheet) ≡ 7) × (leastCost exampleE wideCounts ≡ 6)
+unfolding every sum tabulate rows keep flatMap canServe operatingCost stateAt stepCost changeCost sheetOperatingCost sheetSwitchingCost
+    sheetCost activeAt countsOf countAt slotCost countsCost moduleByte slotRow sheetOf planCost planServes plansInOrder cheapest
+    cheapestOf leastPlan
+costs-computed = (refl, refl, refl)
+
+-- The counts of the moved sheet cost no more than the sheet: 7 ≤ 10.
+pub sheet-at-least-applied : countsCost exampleE 0 (countsOf exampleE movedSheet) ≤ sheetCost exampleE movedSheet
+sheet-at-least-applied = sheet-at-least exampleE (example-plannable .convex) movedSheet moved-serves
+
+-- The exact plan costs no more than the steady sheet: 5 ≤ 5.
+pub exact-least-applied : leastCost exampleE (allCounts (exampleE .modules)) ≤ sheetCost exampleE steadySheet
+exact-least-applied = exact-least example-plannable steadySheet steady-serves
+
+-- The least plan over the wide counts costs at most twice as much as the steady sheet: 6 ≤ 10.
+pub list-ratio-applied : leastCost exampleE wideCounts ≤ 2 * sheetCost exampleE steadySheet
+list-ratio-applied =
+    list-ratio example-plannable example-never-falls wideCounts wide-ascending 2 (omega arith) wide-gaps steadySheet steady-serves
+
+-- The coarse plan costs at most twice as much as the steady sheet: 8 ≤ 10.
+pub coarse-twice-applied : leastCost exampleE (coarseCounts (exampleE .modules)) ≤ 2 * sheetCost exampleE steadySheet
+coarse-twice-applied = coarse-twice example-plannable example-never-falls steadySheet steady-serves

@@ -1,0 +1,185 @@
+-- Shows on which the conclusion of a theorem fails without one of its hypotheses, or with a stronger conclusion.
+use Prim.Native.Nat.{ℕ, zero, suc, _+_, _*_, _≤_, _<_}
+use mathlib.Core.Path.{_≡_, refl}
+use mathlib.Core.Bool.{Bool, true}
+use mathlib.Core.List.{List, [], _∷_, flatMap}
+use native.Mathlib.Omega.{arith}
+use lib.ListN.{length, getD}
+use lib.Dec.{ltb, lit<}
+use borrow.Author.Tests.{ltb-true}
+use Rattle.lists.specs.Tests.{every, every-at}
+use Rattle.lists.specs.Sums.{sum}
+use Rattle.lists.specs.Lists.{tabulate, rows, keep}
+use Rattle.model.specs.Instance.{Instance, convexAt, convex}
+use Rattle.model.specs.Counts.{canServe, operatingCost, allCounts, powerOfTwo, coarseCounts}
+use Rattle.model.specs.Sheets.{off, stateAt, sheetLength, sheetEntries, lightAt, sheetLight, serves, stepCost, changeCost}
+use Rattle.model.specs.Sheets.{sheetOperatingCost, sheetSwitchingCost, sheetCost}
+use Rattle.model.specs.Thesis.{countAt, slotCost, countsCost}
+use Rattle.model.specs.Plans.{moduleByte, slotRow, sheetOf, planCost, planServes, plansInOrder, cheapest, cheapestOf, leastPlan, leastCost}
+use Rattle.columns.specs.Column.{countAtPlace, lastPlace, Ascending, GrowsBy, servedOrAbove, rising, fromTop, downward, upward}
+use Rattle.columns.specs.Column.{column, searchedCost}
+use Rattle.theory.specs.Hypotheses.{NeverFalls, Plannable, PlanFits, Entry, activeIn, lightIn, rowCost}
+
+-- A show whose table 0, 2, 3 is not convex.
+abbrev concave : Instance
+concave =
+    record {
+      modules = 2;
+      topStep = 2;
+      slots = 0;
+      powerUp = 0;
+      powerDown = 0;
+      table = λ k. getD (0 ∷ 2 ∷ 3 ∷ []) k 0;
+      load = λ t. 0;
+    }
+
+-- A row with one module at step 0 and one at step 2.
+abbrev unevenRow : ℕ → ℕ
+unevenRow k = getD (0 ∷ 2 ∷ []) k 0
+
+-- Without convexity a row of entries can cost less than the operating cost of its count: 3, and not 4.
+pub row-needs-convex :
+    ((k : ℕ) → Entry concave (unevenRow k)) ×
+    (rowCost concave 2 unevenRow < operatingCost concave (activeIn 2 unevenRow) (lightIn 2 unevenRow))
+unfolding sum activeIn lightIn rowCost stepCost operatingCost
+row-needs-convex = (entry, lit< tt)
+  where
+    entry : (k : ℕ) → Entry concave (unevenRow k)
+    entry zero = refl
+    entry (suc zero) = refl
+    entry (suc (suc k)) = refl
+
+-- A show of one slot with load 6 on 4 modules, where step 2 is cheap and the steps below are dear.
+abbrev falling : Instance
+falling =
+    record {
+      modules = 4;
+      topStep = 2;
+      slots = 1;
+      powerUp = 0;
+      powerDown = 0;
+      table = λ k. getD (20 ∷ 10 ∷ 1 ∷ []) k 0;
+      load = λ t. 6;
+    }
+
+-- With a falling table the coarse plan may cost more than twice the exact one: here 22 against 3.
+pub falling-table :
+    (convex (falling .topStep) (falling .table) ≡ true) ×
+    (2 * leastCost falling (allCounts (falling .modules)) < leastCost falling (coarseCounts (falling .modules)))
+unfolding every sum tabulate rows keep flatMap convexAt convex canServe allCounts powerOfTwo coarseCounts stateAt stepCost changeCost
+    sheetOperatingCost sheetSwitchingCost sheetCost moduleByte slotRow sheetOf planCost planServes plansInOrder cheapest cheapestOf
+    leastPlan
+falling-table = (refl, lit< tt)
+
+-- Document 01's example E.
+abbrev pub exampleE : Instance
+exampleE =
+    record {
+      modules = 8;
+      topStep = 1;
+      slots = 3;
+      powerUp = 1;
+      powerDown = 0;
+      table = λ k. 0;
+      load = λ t. getD (5 ∷ 3 ∷ 5 ∷ []) t 0;
+    }
+
+-- A sheet that keeps five modules active.
+abbrev pub steadySheet : List ℕ
+steadySheet =
+    1 ∷ 1 ∷ 1 ∷ 1 ∷ 1 ∷ off ∷ off ∷ off ∷
+    1 ∷ 1 ∷ 1 ∷ 0 ∷ 0 ∷ off ∷ off ∷ off ∷
+    1 ∷ 1 ∷ 1 ∷ 1 ∷ 1 ∷ off ∷ off ∷ off ∷ []
+
+pub steady-serves : serves exampleE steadySheet ≡ true
+unfolding every sum stateAt sheetLength sheetEntries lightAt sheetLight serves
+steady-serves = refl
+
+-- The least cost over all counts is 5, over the coarse ones 8, and the sheet costs 5.
+costs-computed :
+    (leastCost exampleE (allCounts (exampleE .modules)) ≡ 5) × (leastCost exampleE (coarseCounts (exampleE .modules)) ≡ 8) ×
+    (sheetCost exampleE steadySheet ≡ 5)
+unfolding every sum tabulate rows keep flatMap canServe allCounts powerOfTwo coarseCounts stateAt stepCost changeCost
+    sheetOperatingCost sheetSwitchingCost sheetCost moduleByte slotRow sheetOf planCost planServes plansInOrder cheapest cheapestOf
+    leastPlan
+costs-computed = (refl, refl, refl)
+
+-- The coarse plan may cost more than a sheet that serves, though the table never falls: here 8 against 5.
+pub ratio-one :
+    (s : List ℕ) × (serves exampleE s ≡ true) × (1 * sheetCost exampleE s < leastCost exampleE (coarseCounts (exampleE .modules)))
+ratio-one = (steadySheet, steady-serves, omega (arith, costs-computed))
+
+-- The exact plan does not cost less than every sheet that serves: here one costs as much.
+pub exact-attained :
+    (s : List ℕ) × (serves exampleE s ≡ true) × (sheetCost exampleE s ≡ leastCost exampleE (allCounts (exampleE .modules)))
+exact-attained = (steadySheet, steady-serves, omega (arith, costs-computed))
+
+-- A show of one slot with load 1, where both steps cost the same and a module that goes on costs 1.
+abbrev level : (modules entry : ℕ) → Instance
+level m f = record { modules = m; topStep = 1; slots = 1; powerUp = 1; powerDown = 0; table = λ k. f; load = λ t. 1 }
+
+level-plannable : (m f : ℕ) → 1 ≤ m → Plannable (level m f)
+level-plannable m f some =
+    record { some = some; steps = omega arith; loads = λ t h. omega arith; convex = λ k h. absurd (omega arith) }
+
+level-never-falls : (m f : ℕ) → NeverFalls (level m f .topStep) (level m f .table)
+level-never-falls m f k h = omega arith
+
+-- A test that holds at every place but the last.
+pub at-places :
+    (counts : List ℕ) (f : ℕ → Bool) → every (lastPlace counts) f ≡ true → (j : ℕ) → j + 1 < length counts → f j ≡ true
+at-places counts f e j h = every-at (lastPlace counts) f e j (omega arith)
+
+-- A list of allowed counts that has 0 and the full rack only.
+abbrev noneOrAll : ℕ → List ℕ
+noneOrAll m = 0 ∷ m ∷ []
+
+none-or-all-ascending : (m : ℕ) → 1 ≤ m → Ascending (noneOrAll m) m
+none-or-all-ascending m some =
+    record { two = omega arith; first = refl; last = refl; rises = λ j h. let first : j ≡ 0 = omega arith in rw first (omega arith) }
+
+-- Over a list that grows by slightly more than 2 the least plan may cost more than twice as much as a sheet that serves: here 4
+-- against 1.
+pub wider-gaps :
+    Plannable (level 4 0) × NeverFalls (level 4 0 .topStep) (level 4 0 .table) × Ascending (noneOrAll 4) 4 ×
+    ((j : ℕ) → j + 1 < length (noneOrAll 4) → countAtPlace (noneOrAll 4) (j + 1) ≤ 2 * (countAtPlace (noneOrAll 4) j + 2)) ×
+    ((s : List ℕ) × (serves (level 4 0) s ≡ true) × (2 * sheetCost (level 4 0) s < leastCost (level 4 0) (noneOrAll 4)))
+unfolding every sum rows tabulate keep flatMap canServe stateAt sheetLength sheetEntries lightAt sheetLight serves stepCost changeCost
+    sheetOperatingCost sheetSwitchingCost sheetCost moduleByte slotRow sheetOf planCost planServes plansInOrder cheapest cheapestOf
+    leastPlan
+wider-gaps = (
+  level-plannable 4 0 (omega arith),
+  level-never-falls 4 0,
+  none-or-all-ascending 4 (omega arith),
+  λ j h. let first : j ≡ 0 = omega arith in rw first (omega arith),
+  (1 ∷ off ∷ off ∷ off ∷ [], refl, lit< tt),
+)
+
+-- More modules may cost more in total, though the table never falls and their average falls: here 2 against 1.
+pub total-rises :
+    NeverFalls (level 2 1 .topStep) (level 2 1 .table) × (operatingCost (level 2 1) 1 1 < operatingCost (level 2 1) 2 1)
+unfolding operatingCost
+total-rises = (level-never-falls 2 1, lit< tt)
+
+-- A plan costs more than its counts with one module active before the first slot: here 1 against 0.
+pub all-off-before : PlanFits (level 2 0) (1 ∷ []) × (countsCost (level 2 0) 1 (1 ∷ []) < planCost (level 2 0) (1 ∷ []))
+unfolding every sum rows tabulate canServe operatingCost stateAt stepCost changeCost sheetOperatingCost sheetSwitchingCost sheetCost
+    moduleByte slotRow sheetOf planCost planServes countAt slotCost countsCost
+all-off-before = (
+  record { steps = omega arith; slotwise = refl; in-rack = λ t h. let first : t ≡ 0 = omega arith in rw first (omega arith); served = refl },
+  lit< tt,
+)
+
+-- From a start count the search may cost more than twice as much as a plan without the price of the start: here 1 against 0.
+pub start-has-a-price :
+    Plannable (level 2 0) × NeverFalls (level 2 0 .topStep) (level 2 0 .table) × Ascending (noneOrAll 2) 2 × GrowsBy 2 (noneOrAll 2) ×
+    PlanFits (level 2 0) (1 ∷ []) × (2 * countsCost (level 2 0) 1 (1 ∷ []) < searchedCost (level 2 0) (noneOrAll 2) 1)
+unfolding sum canServe operatingCost countAt slotCost countsCost servedOrAbove rising fromTop downward upward column searchedCost
+start-has-a-price = (
+  level-plannable 2 0 (omega arith),
+  level-never-falls 2 0,
+  none-or-all-ascending 2 (omega arith),
+  λ j h. let first : j ≡ 0 = omega arith in rw first (omega arith),
+  all-off-before .0,
+  lit< tt,
+)
