@@ -18,7 +18,7 @@ use Rattle.columns.specs.Column.{countAtPlace, Ascending, GrowsBy}
 use Rattle.theory.specs.Hypotheses.{NeverFalls, Plannable}
 use Rattle.theory.specs.SheetLaws.{sheet-at-least}
 use Rattle.theory.specs.Condition3.{exact-least, list-ratio, coarse-twice}
-use Rattle.theory.specs.Counterexamples.{exampleE, steadySheet, steady-serves, at-places}
+use Rattle.theory.specs.Counterexamples.{exampleE, steadySheet, steady-serves}
 
 -- Example E meets the hypotheses.
 pub example-plannable : Plannable exampleE
@@ -56,13 +56,14 @@ wide-ascending =
       two = omega arith;
       first = refl;
       last = refl;
-      rises = λ j h. ltb-true _ _ (at-places wideCounts (λ j. ltb (countAtPlace wideCounts j) (countAtPlace wideCounts (j + 1))) refl j h);
+      rises =
+          λ j h. ltb-true _ _ (every-at 3 (λ j. ltb (countAtPlace wideCounts j) (countAtPlace wideCounts (j + 1))) refl j (omega arith));
     }
 
 wide-gaps : GrowsBy 2 wideCounts
 unfolding every
 wide-gaps j h =
-    leb-true _ _ (at-places wideCounts (λ j. leb (countAtPlace wideCounts (j + 1)) (2 * (countAtPlace wideCounts j + 1))) refl j h)
+    leb-true _ _ (every-at 3 (λ j. leb (countAtPlace wideCounts (j + 1)) (2 * (countAtPlace wideCounts j + 1))) refl j (omega arith))
 
 -- The moved sheet costs 10 and its counts 7, and the least cost over the wide counts is 6.
 costs-computed :

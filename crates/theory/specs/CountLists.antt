@@ -138,7 +138,7 @@ coarse-doubling m some j b =
     (λ (beyond : m < 2 ^ e). omega (arith, coarse-member m (countAtPlace l (j + 1)) .0 (j + 1, b, refl) .0))
     (le-or-lt (2 ^ e) m)
 
--- 'the smallest allowed count not below n': this the rounded count is.
+-- 'the smallest allowed count not below n': the rounded count is that one.
 pub rounded-least :
     (m n : ℕ) → 1 ≤ m → n ≤ m →
     Member (roundedCount m n) (coarseCounts m) × (n ≤ roundedCount m n) ×

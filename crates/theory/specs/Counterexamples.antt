@@ -1,13 +1,12 @@
 -- Shows on which the conclusion of a theorem fails without one of its hypotheses, or with a stronger conclusion.
 use Prim.Native.Nat.{ℕ, zero, suc, _+_, _*_, _≤_, _<_}
 use mathlib.Core.Path.{_≡_, refl}
-use mathlib.Core.Bool.{Bool, true}
+use mathlib.Core.Bool.{true}
 use mathlib.Core.List.{List, [], _∷_, flatMap}
 use native.Mathlib.Omega.{arith}
 use lib.ListN.{length, getD}
-use lib.Dec.{ltb, lit<}
-use borrow.Author.Tests.{ltb-true}
-use Rattle.lists.specs.Tests.{every, every-at}
+use lib.Dec.{lit<}
+use Rattle.lists.specs.Tests.{every}
 use Rattle.lists.specs.Sums.{sum}
 use Rattle.lists.specs.Lists.{tabulate, rows, keep}
 use Rattle.model.specs.Instance.{Instance, convexAt, convex}
@@ -16,7 +15,7 @@ use Rattle.model.specs.Sheets.{off, stateAt, sheetLength, sheetEntries, lightAt
 use Rattle.model.specs.Sheets.{sheetOperatingCost, sheetSwitchingCost, sheetCost}
 use Rattle.model.specs.Thesis.{countAt, slotCost, countsCost}
 use Rattle.model.specs.Plans.{moduleByte, slotRow, sheetOf, planCost, planServes, plansInOrder, cheapest, cheapestOf, leastPlan, leastCost}
-use Rattle.columns.specs.Column.{countAtPlace, lastPlace, Ascending, GrowsBy, servedOrAbove, rising, fromTop, downward, upward}
+use Rattle.columns.specs.Column.{countAtPlace, Ascending, GrowsBy, servedOrAbove, rising, fromTop, downward, upward}
 use Rattle.columns.specs.Column.{column, searchedCost}
 use Rattle.theory.specs.Hypotheses.{NeverFalls, Plannable, PlanFits, Entry, activeIn, lightIn, rowCost}
 
@@ -125,11 +124,6 @@ level-plannable m f some =
 level-never-falls : (m f : ℕ) → NeverFalls (level m f .topStep) (level m f .table)
 level-never-falls m f k h = omega arith
 
--- A test that holds at every place but the last.
-pub at-places :
-    (counts : List ℕ) (f : ℕ → Bool) → every (lastPlace counts) f ≡ true → (j : ℕ) → j + 1 < length counts → f j ≡ true
-at-places counts f e j h = every-at (lastPlace counts) f e j (omega arith)
-
 -- A list of allowed counts that has 0 and the full rack only.
 abbrev noneOrAll : ℕ → List ℕ
 noneOrAll m = 0 ∷ m ∷ []
@@ -166,7 +160,12 @@ pub all-off-before : PlanFits (level 2 0) (1 ∷ []) × (countsCost (level 2 0) 
 unfolding every sum rows tabulate canServe operatingCost stateAt stepCost changeCost sheetOperatingCost sheetSwitchingCost sheetCost
     moduleByte slotRow sheetOf planCost planServes countAt slotCost countsCost
 all-off-before = (
-  record { steps = omega arith; slotwise = refl; in-rack = λ t h. let first : t ≡ 0 = omega arith in rw first (omega arith); served = refl },
+  record {
+    steps = omega arith;
+    slotwise = refl;
+    in-rack = λ t h. let first : t ≡ 0 = omega arith in rw first (omega arith);
+    served = refl;
+  },
   lit< tt,
 )
 

@@ -25,7 +25,7 @@ module _ (i : Instance) (start : ℕ) where
   count-same zero p r same = refl
   count-same (suc t) p r same = same t (omega arith)
 
-  -- No slot costs nothing.
+  -- The cost of the first 0 slots is 0.
   cost-none : (p : List ℕ) → costOfFirst i start p 0 ≡ 0
   unfolding sum
   cost-none p = refl

@@ -1,5 +1,5 @@
--- What is read of a long input: the 2870 card has 2,869 bytes, so the first 2,870 bytes decide the answer.
-use Prim.Native.Nat.{ℕ, _+_, _*_, _≤_}
+-- What is read of a long input: no card that is accepted is longer than 2,869 bytes, so the first 2,870 bytes decide the answer.
+use Prim.Native.Nat.{ℕ, _+_, _≤_}
 use mathlib.Core.Path.{_≡_, _∙_, ap}
 use mathlib.Core.Bool.{Bool, true, false, not}
 use mathlib.Core.List.{List, _∷_}
@@ -15,12 +15,17 @@ use Rattle.lists.specs.Bytes.{little-take}
 use Rattle.model.specs.declared.Refusal.{Refusal}
 use Rattle.model.specs.declared.Refusal.the-variants.{NotACard, Version, RackSize, SlotCount, CardLength}
 use Rattle.model.specs.declared.Answer.the-variants.{Cost, Refused}
-use Rattle.model.specs.Instance.{instanceOf, headLength, versionPlace, modulesPlace, topStepPlace, slotsPlace, loadPlace, cardLength, rackNumber}
+use Rattle.model.specs.Instance.{instanceOf, cardLength, rackNumber}
+use Rattle.model.specs.Instance.{headLength, versionPlace, modulesPlace, topStepPlace, slotsPlace, loadPlace}
 use Rattle.model.specs.Planners.{exact}
 use Rattle.model.specs.Calls.{checkCard, answer, applies, requestOf, cardRefusals, refusals, successCost, lowest}
 use Rattle.model.specs.Listing.{printed, printedFor}
 use Rattle.laws.specs.Lowest.{lowest-hit, lowest-skip}
 use Rattle.theory.specs.Outcomes.{planner-refused}
+
+-- One byte more than the longest card has, which is one of top step 200 and 1,024 slots.
+abbrev pub bytesRead : ℕ
+bytesRead = loadPlace 200 1024 + 1
 
 -- Of some refusals the lowest is the same one by two tests.
 record SameRefusal (f g : Refusal → Bool) (xs : List Refusal) : Type 0 where
@@ -47,7 +52,7 @@ module _ {f g : Refusal → Bool} {x : Refusal} {xs : List Refusal} where
 
 -- A card longer than any that is accepted is refused by 3, 4 or 5.
 long-card :
-    (s : List ℕ) → 2870 ≤ length s → applies (requestOf (checkCard s)) RackSize ≡ false →
+    (s : List ℕ) → bytesRead ≤ length s → applies (requestOf (checkCard s)) RackSize ≡ false →
     applies (requestOf (checkCard s)) SlotCount ≡ false → applies (requestOf (checkCard s)) CardLength ≡ true
 unfolding applies requestOf allOf cardLength
 long-card s long rack slots =
@@ -57,35 +62,35 @@ long-card s long rack slots =
     let few = ltb-false 1024 (i .slots) slots in
     ap not (ne-eqb (length s) (loadPlace (i .topStep) (i .slots)) (omega arith))
 
-module _ (x : List ℕ) (long : 2870 ≤ length x) where
+module _ (x : List ℕ) (long : bytesRead ≤ length x) where
   -- The part of a longer input that is read.
   abbrev front : List ℕ
-  front = take 2870 x
+  front = take bytesRead x
 
-  front-long : 2870 ≤ length front
-  front-long = omega (arith, length-take-le 2870 x long)
+  front-long : bytesRead ≤ length front
+  front-long = omega (arith, length-take-le bytesRead x long)
 
-  -- Refusals 1 to 4 see the first 17 bytes alone.
+  -- Refusals 1 to 4 see the head of a card alone.
   same-mark : applies (requestOf (checkCard front)) NotACard ≡ applies (requestOf (checkCard x)) NotACard
   unfolding applies requestOf
   same-mark =
       rw (
         le-ltb (length x) headLength (omega arith),
         le-ltb (length front) headLength (omega (arith, front-long)),
-        take-take versionPlace 2870 x (omega arith),
+        take-take versionPlace bytesRead x (omega arith),
       )
 
   same-version : applies (requestOf (checkCard front)) Version ≡ applies (requestOf (checkCard x)) Version
   unfolding applies requestOf
-  same-version = rw (little-take 2 2870 x versionPlace (omega arith))
+  same-version = rw (little-take 2 bytesRead x versionPlace (omega arith))
 
   same-rack : applies (requestOf (checkCard front)) RackSize ≡ applies (requestOf (checkCard x)) RackSize
   unfolding applies requestOf instanceOf
-  same-rack = rw (little-take 1 2870 x modulesPlace (omega arith), little-take 1 2870 x topStepPlace (omega arith))
+  same-rack = rw (little-take 1 bytesRead x modulesPlace (omega arith), little-take 1 bytesRead x topStepPlace (omega arith))
 
   same-slots : applies (requestOf (checkCard front)) SlotCount ≡ applies (requestOf (checkCard x)) SlotCount
   unfolding applies requestOf instanceOf
-  same-slots = rw (little-take 2 2870 x slotsPlace (omega arith))
+  same-slots = rw (little-take 2 bytesRead x slotsPlace (omega arith))
 
   -- The input and its front are refused with the same number.
   long-refused : SameRefusal (applies (requestOf (checkCard x))) (applies (requestOf (checkCard front))) cardRefusals
@@ -97,10 +102,10 @@ module _ (x : List ℕ) (long : 2870 ≤ length x) where
       same-here (long-card x long rack slots) (long-card front front-long (same-rack ∙ rack) (same-slots ∙ slots))
 
 -- What follows the first 2,870 bytes is without effect on what the program prints.
-pub long-printed : (x : List ℕ) → 2870 ≤ length x → printed x ≡ printed (take 2870 x)
+pub long-printed : (x : List ℕ) → bytesRead ≤ length x → printed x ≡ printed (take bytesRead x)
 unfolding printed printedFor answer refusals successCost
 long-printed x long =
     let r = long-refused x long in
     let whole = planner-refused exact x (replicate 1024 0) (replicate 65536 0) (r .one) in
-    let front = planner-refused exact (take 2870 x) (replicate 1024 0) (replicate 65536 0) (r .other) in
+    let front = planner-refused exact (take bytesRead x) (replicate 1024 0) (replicate 65536 0) (r .other) in
     rw (whole, front)

@@ -1,7 +1,7 @@
 -- Planners, sheet call and marking agree (condition 2): a planner's plan makes a sheet that is marked at the planner's cost.
 use Prim.Native.Nat.{ℕ, _≤_}
 use mathlib.Core.Path.{_≡_, refl, sym, ap, _∙_}
-use mathlib.Core.Bool.{Bool, true, false}
+use mathlib.Core.Bool.{true, false}
 use mathlib.Core.Logic.{_↔_}
 use mathlib.Core.List.{List, [], _∷_}
 use lib.ListN.{length, getD, take}
@@ -162,14 +162,6 @@ module _ (k : Planner) (c : List ℕ) (given : Accepted c) where
       let made = fits-made c (plannedBy k (instanceOf c)) s given best-fits room in
       (made, made-marked c (plannedBy k (instanceOf c)) s (ap numberOf made) ∙ made)
 
-  -- Sheet call and marking accept what is in the plan buffer after an answer with this cost.
-  written-marked :
-      {a : Answer} → a ≡ Cost (leastCost (instanceOf c) (allowedCounts k (instanceOf c .modules))) → (p s : List ℕ) →
-      sheetBytes (instanceOf c) ≤ length s → Marked c (take (instanceOf c .slots) (atExit a (planBuffer k (instanceOf c) p))) s a
-  written-marked e p s room =
-      let i = instanceOf c in
-      rw (written-taken (planBuffer k i p) (i .slots) e (best-fits .slotwise), e) (sheet-accepted s room)
-
 -- Where the refusals that a planner adds give a cost, its table is allowed.
 added-table :
     (k : Planner) (r : Request) (a : Answer) {n : ℕ} → lowest (applies r) (plannerRefusals k) a ≡ Cost n → TableAllowed k (shown r)
@@ -249,5 +241,8 @@ module _ (k : Planner) (c p w : List ℕ) where
       Marked c (take (instanceOf c .slots) (planAtExit (planShow k c p w))) s (answer (planShow k c p w))
   unfolding successCost
   planner-marked e s room =
+      let i = instanceOf c in
       let planned = succeeded (planShow k c p w) e in
-      rw plan-at-exit (written-marked k c (planner-on planned) planned p s room)
+      let given = planner-on planned in
+      rw (plan-at-exit, written-taken (planBuffer k i p) (i .slots) planned (best-fits k c given .slotwise), planned)
+      (sheet-accepted k c given s room)

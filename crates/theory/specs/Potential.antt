@@ -26,19 +26,19 @@ pub record Block (counts : List ℕ) (y : ℕ) : Type 0 where
   pub from : countAtPlace counts place + under ≡ y
   pub to : y + over ≡ countAtPlace counts (place + 1)
 
--- The distance of the two counts.
+-- The distance of the two counts of a block.
 abbrev pub width : {counts : List ℕ} {y : ℕ} → Block counts y → ℕ
 width s = s .under + s .over
 
--- The line through a column's values at the two counts, taken at y and multiplied by the width.
+-- The line through a column's values at the two counts of a block, taken at y and multiplied by the width.
 abbrev pub lineAt : {counts : List ℕ} {y : ℕ} → Block counts y → (ℕ → ℕ) → ℕ
 lineAt s f = s .over * f (s .place) + s .under * f (s .place + 1)
 
--- At y the line is at most c.
+-- The line through a column's values is at most c at y.
 pub record LineBelow (counts : List ℕ) (f : ℕ → ℕ) (y c : ℕ) : Type 0 where
   pub line : (s : Block counts y) → lineAt s f ≤ width s * c
 
--- The line through the counts themselves is y.
+-- The line through the counts themselves, taken at y, is y.
 pub line-of-counts : {counts : List ℕ} {y : ℕ} (s : Block counts y) → lineAt s (countAtPlace counts) ≡ width s * y
 line-of-counts s = omega (arith, ap (λ (n : ℕ). s .over * n) (s .from), ap (λ (n : ℕ). s .under * n) (s .to))
 

@@ -37,7 +37,7 @@ line-at-top i k h =
     (λ (g : k < i .topStep). omega (arith, mul-le-mul-right (i .table (i .topStep)) g))
     (eq-or-lt-of-le h)
 
--- A cost that is n times above each such line at l / n is at least the operating cost.
+-- A cost that is at least n times each line below the table, taken at l / n, is at least the operating cost.
 module _ (i : Instance) (n l cost : ℕ) (fits : l ≤ n * i .topStep)
     (above : (u x y z : ℕ) → AboveLine i u x y z → n * u + l * x ≤ cost + l * y + n * z) where
   -- All modules are at the top step.

@@ -14,7 +14,7 @@ use Rattle.laws.specs.Operating.{byte-off}
 use Rattle.theory.specs.Hypotheses.{activeIn}
 use Rattle.theory.specs.RowCosts.{byte-active, plan-row-active}
 
--- This is 1 for a module that was off and is not, else 0.
+-- A module that was off and is not counts 1, any other 0.
 abbrev pub started : (wasOff nowOff : Bool) → ℕ
 started a b = cond a (cond b 0 1) 0
 
@@ -38,7 +38,7 @@ switch-balance (suc m) a b = omega (arith, switch-balance m a b, byte (isOff (a 
     byte false true = refl
     byte false false = refl
 
--- The same holds over n changes of rows.
+-- Over n changes of rows those active first and those that go on are as many as those active last and those that go off.
 pub switches-balance : (m : ℕ) (r : ℕ → ℕ → ℕ) (n : ℕ) →
     activeIn m (r 0) + sum n (λ t. startedIn m (r t) (r (suc t))) ≡ activeIn m (r n) + sum n (λ t. stoppedIn m (r t) (r (suc t)))
 unfolding sum

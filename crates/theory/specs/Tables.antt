@@ -43,7 +43,7 @@ module _ (q : ℕ) (f : ℕ → ℕ) (c : Convex q f) where
       let here : j + suc d ≡ j + d + 1 = omega arith in
       rw here (omega (arith, above-line-up j d (omega arith), slopes-rise j d (omega arith)))
 
-  -- It lies above that line d steps down from them too.
+  -- A convex table lies above the line through two neighbouring entries d steps down from them.
   above-line-down : (k d : ℕ) → k + d < q → f (k + d) + d * f (k + d) ≤ f k + d * f (k + d + 1)
   above-line-down k zero h = rw (add-zero k) (omega arith)
   above-line-down k (suc d) h =
