@@ -1,11 +1,11 @@
 -- Little-endian numbers over the width: the definition, and one law for every width.
 use Prim.Native.Nat.{ℕ, zero, suc, _+_, _*_, _/_, _%_, _^_, _≤_, _<_}
 use mathlib.Core.Path.{_≡_, refl}
-use mathlib.Core.List.{List, [], _∷_}
-use native.Mathlib.Nat.{zero-add, one-mul, suc-add, pow-zero, pow-suc, add-zero, div-add-mod, div-lt-iff-lt-mul}
+use mathlib.Core.List.{List, [], _∷_, _++_}
+use native.Mathlib.Nat.{zero-add, one-mul, suc-add, pow-zero, pow-suc, add-zero, add-assoc, div-add-mod, div-lt-iff-lt-mul}
 use native.Mathlib.Omega.{arith}
 use lib.ListN.{length, getD, take}
-use lib.Seq.{getD-take}
+use lib.Seq.{getD-take, getD-append-add}
 
 -- the number in the w bytes of s from place p on, least byte first
 unfoldable pub littleEndian : ℕ → List ℕ → ℕ → ℕ
@@ -47,6 +47,12 @@ little-same (suc w) s r p q same =
     let right : q + 1 + j ≡ q + suc j = omega arith in
     rw (left, right) (same (suc j) (omega arith)) in
     omega (arith, rw (add-zero p, add-zero q) at first, little-same w s r (p + 1) (q + 1) next)
+
+-- A number behind the front of a list is a number of the rest.
+pub little-after :
+    (w : ℕ) (front rest : List ℕ) {p : ℕ} (q : ℕ) → p ≡ length front + q → littleEndian w (front ++ rest) p ≡ littleEndian w rest q
+little-after w front rest {p} q place =
+    little-same w (front ++ rest) rest p q (λ j h. rw (place, add-assoc (length front) q j) (getD-append-add front rest (q + j) 0))
 
 -- A number as w bytes, least byte first.
 unfoldable pub bytesOf : ℕ → ℕ → List ℕ

@@ -1,9 +1,9 @@
 -- Rows of m entries each, one after the other at the front of a list.
-use Prim.Native.Nat.{ℕ, suc, _+_, _*_, _/_, _%_, _≤_, _<_}
+use Prim.Native.Nat.{ℕ, suc, _+_, _*_, _/_, _%_, _^_, _≤_, _<_}
 use mathlib.Core.Path.{_≡_, sym, ap, _∙_}
 use mathlib.Core.List.{List, _++_, append-assoc}
 use mathlib.Core.Logic.{⊎-elim}
-use native.Mathlib.Nat.{mul-le-mul-left, eq-zero-or-pos, mod-lt, div-add-mod', div-lt-iff-lt-mul}
+use native.Mathlib.Nat.{zero-add, mul-le-mul-left, eq-zero-or-pos, mod-lt, div-add-mod', div-lt-iff-lt-mul}
 use native.Mathlib.Numerals.{add-one}
 use native.Mathlib.Omega.{arith}
 use lib.Arith.{digits-lt}
@@ -11,6 +11,7 @@ use lib.ListN.{length, getD, take, drop, length-append, length-drop, List·getD-
 use lib.Seq.{take-at, drop-at, drop-drop}
 use borrow.Rule.Slice.PartMut.{putMid}
 use Rattle.lists.specs.Lists.{rows, length-rows, getD-rows}
+use Rattle.lists.specs.Bytes.{littleEndian, bytesOf, length-bytes, little-same, little-bytes}
 
 -- Each of n rows of m entries lies within a list that is long enough for all of them.
 pub row-within : (m : ℕ) {n t size : ℕ} → t < n → m * n ≤ size → t * m + m ≤ size
@@ -46,3 +47,18 @@ module _ (m : ℕ) (f : ℕ → List ℕ) (sized : (t : ℕ) → length (f t) �
       let after : drop a area ≡ drop (n * m) old = rw (a-is, e) (drop-at (rows n f) (drop (n * m) old) (n * m) long) in
       let end : n * m + m ≡ (n + 1) * m = omega arith in
       rw (front, after, k-is, drop-drop m (n * m) old, end, add-one n) (sym (append-assoc (rows n f) (f n) (drop (suc n * m) old)))
+
+-- The numbers f 0, .., f (n - 1) one after the other, each as w bytes.
+abbrev pub numbers : (w n : ℕ) → (ℕ → ℕ) → List ℕ
+numbers w n f = rows n (λ k. bytesOf w (f k))
+
+pub length-numbers : (w n : ℕ) (f : ℕ → ℕ) → length (numbers w n f) ≡ n * w
+length-numbers w n f = length-rows w n (λ k. bytesOf w (f k)) (λ k. length-bytes w (f k))
+
+-- Each of the numbers that fits w bytes is read back.
+pub little-numbers :
+    (w n : ℕ) (f : ℕ → ℕ) (rest : List ℕ) {t : ℕ} → t < n → f t < 256 ^ w → littleEndian w (numbers w n f ++ rest) (t * w) ≡ f t
+little-numbers w n f rest {t} h fits =
+    little-same w (numbers w n f ++ rest) (bytesOf w (f t)) (t * w) 0
+    (λ j g. rw zero-add (front-row w (λ k. bytesOf w (f k)) (λ k. length-bytes w (f k)) n t j 0 rest h g)) ∙
+    little-bytes w (f t) fits

@@ -59,6 +59,12 @@ unfolding every
 every-all zero f h = refl
 every-all (suc n) f h = and-both (every-all n f (λ k g. h k (omega arith))) (h n (omega arith))
 
+-- Two tests that agree at each index below n hold at all of these indices, or neither does.
+pub every-same : (n : ℕ) (f g : ℕ → Bool) → ((k : ℕ) → k < n → f k ≡ g k) → every n f ≡ every n g
+unfolding every
+every-same zero f g same = refl
+every-same (suc n) f g same = rw (every-same n f g (λ k h. same k (omega arith)), same n (omega arith))
+
 -- one index at which it fails
 pub every-fails : (n : ℕ) (f : ℕ → Bool) (k : ℕ) → k < n → f k ≡ false → every n f ≡ false
 every-fails n f k h e =
