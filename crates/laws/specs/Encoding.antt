@@ -1,9 +1,19 @@
 -- The card that is written for a show (`cardBytes`): what is read from it, and when it is accepted.
-use Prim.Native.Nat.{ℕ, _+_, _*_, _^_, _≤_, _<_}
-use mathlib.Core.Path.{_≡_, refl, _∙_}
+use Prim.Native.Nat.{ℕ, _+_, _-_, _*_, _^_, _≤_, _<_}
+use mathlib.Core.Path.{_≡_, refl, sym, _∙_}
+use mathlib.Core.Logic.{_↔_}
 use mathlib.Core.List.{List, [], _++_, append-nil}
+use mathlib.Core.Bool.{true, false}
+use native.Mathlib.Nat.{mul-le-mul}
 use native.Mathlib.Omega.{arith}
+use lib.Dec.{leb, ltb, eqb}
+use borrow.Author.Tests.{leb-true, le-leb, le-ltb, eq-eqb}
+use Rattle.lists.specs.Tests.{and-left, and-right, and-both, allOf, every-at, every-same, every-all}
+use Rattle.model.specs.Instance.{markOf, versionOf, rackNumber, inOrder, pricesInRange, tableInRange, convex, convexAt, loadsInRange}
+use Rattle.model.specs.Calls.{Accepted, answer, requestOf, refusals, successCost, applies, lowest}
+use Rattle.laws.specs.Acceptance.{modules-range, top-range, slots-range, up-range, down-range, table-range, table-convex, load-range}
 use lib.ListN.{length, take, length-append}
+use Rattle.lists.specs.Lists.{sameList}
 use Rattle.lists.specs.Bytes.{littleEndian, bytesOf, little-bytes, little-after}
 use Rattle.lists.specs.Rows.{numbers, length-numbers, little-numbers}
 use Rattle.model.specs.Instance.{Instance, instanceOf, headLength, entryPlace, loadPlace, cardMark, cardVersion, cardLength, cardBytes}
@@ -73,3 +83,76 @@ module _ (i : Instance) where
           table = entry-read;
           load = λ t h. rw top (load-read t h);
         }
+
+same-in-order : {i j : Instance} → SameShow i j → inOrder j ≡ inOrder i
+unfolding inOrder pricesInRange tableInRange convex convexAt loadsInRange
+same-in-order {i} {j} same =
+    let prices =
+    every-same (i .topStep + 1) (λ k. leb (j .table k) 1000000) (λ k. leb (i .table k) 1000000) (λ k h. rw (same .table k (omega arith))) in
+    let convexity =
+    every-same (i .topStep - 1) (convexAt (j .table)) (convexAt (i .table))
+    (λ k h. rw (same .table k (omega arith), same .table (k + 1) (omega arith), same .table (k + 2) (omega arith))) in
+    let most = i .modules * i .topStep in
+    let loads = every-same (i .slots) (λ t. leb (j .load t) most) (λ t. leb (i .load t) most) (λ t h. rw (same .load t h)) in
+    rw (same .modules, same .topStep, same .slots, same .powerUp, same .powerDown, prices, convexity, loads)
+
+-- The show of an accepted card is in order.
+accepted-in-order : (s : List ℕ) → Accepted s → inOrder (instanceOf s) ≡ true
+unfolding inOrder pricesInRange tableInRange loadsInRange
+accepted-in-order s e =
+    let entries = every-all (instanceOf s .topStep + 1) (λ k. leb (instanceOf s .table k) 1000000) (λ k h. le-leb _ _ (table-range s e k (omega arith))) in
+    let most = instanceOf s .modules * instanceOf s .topStep in
+    let loads = every-all (instanceOf s .slots) (λ t. leb (instanceOf s .load t) most) (λ t h. le-leb _ _ (load-range s e t h)) in
+    search (and-both, le-leb, entries, loads, modules-range s e, top-range s e, slots-range s e, up-range s e, down-range s e, table-convex s e) depth 9
+
+pub in-order-fits : (i : Instance) → inOrder i ≡ true → FieldsFit i
+unfolding inOrder pricesInRange tableInRange loadsInRange
+in-order-fits i e =
+    let m : i .modules ≤ 200 = search (and-left, and-right, leb-true) in
+    let q : i .topStep ≤ 200 = search (and-left, and-right, leb-true) in
+    let t : i .slots ≤ 1024 = search (and-left, and-right, leb-true) in
+    let u : i .powerUp ≤ 500000000 = search (and-left, and-right, leb-true) in
+    let d : i .powerDown ≤ 500000000 = search (and-left, and-right, leb-true) in
+    let entries : tableInRange (i .topStep) (i .table) ≡ true = search (and-left, and-right) in
+    let loads : loadsInRange i ≡ true = search (and-left, and-right) in
+    record {
+      modules = omega arith;
+      topStep = omega arith;
+      slots = omega arith;
+      powerUp = omega arith;
+      powerDown = omega arith;
+      table = λ k h. omega (arith, leb-true (i .table k) 1000000 (every-at (i .topStep + 1) _ entries k (omega arith)));
+      load = λ s h. omega (arith, leb-true (i .load s) (i .modules * i .topStep) (every-at (i .slots) _ loads s h), mul-le-mul m q);
+    }
+
+module _ (i : Instance) where
+  front : (markOf (cardBytes i) ≡ cardMark) × (versionOf (cardBytes i) ≡ cardVersion)
+  unfolding cardBytes bytesOf littleEndian
+  front = (refl, refl)
+
+  module _ (fit : FieldsFit i) where
+    -- What is read from the card of a show.
+    abbrev read : Instance
+    read = instanceOf (cardBytes i)
+
+    read-accepted : inOrder read ≡ true → Accepted (cardBytes i)
+    unfolding answer requestOf refusals successCost applies lowest allOf inOrder sameList cardLength
+    read-accepted e =
+        let same = card-bytes-show i fit in
+        let modules : rackNumber (read .modules) ≡ true = search (and-left, and-right) in
+        let topStep : rackNumber (read .topStep) ≡ true = search (and-left, and-right) in
+        let slots = le-ltb 1024 (read .slots) (search (and-left, and-right, leb-true)) in
+        let prices : pricesInRange read ≡ true = search (and-left, and-right) in
+        let convexity : convex (read .topStep) (read .table) ≡ true = search (and-left, and-right) in
+        let loads : loadsInRange read ≡ true = search (and-left, and-right) in
+        let size : length (cardBytes i) ≡ cardLength read = omega (arith, card-bytes-length i) in
+        let long = le-ltb (length (cardBytes i)) headLength (omega arith) in
+        rw (long, front .0, front .1, modules, topStep, slots, eq-eqb _ _ size, prices, convexity, loads)
+
+    pub card-bytes-accepted : Accepted (cardBytes i) ↔ (inOrder i ≡ true)
+    card-bytes-accepted =
+        let same = same-in-order (card-bytes-show i fit) in
+        (λ e. sym same ∙ accepted-in-order _ e, λ e. read-accepted (same ∙ e))
+
+pub in-order-accepted : (i : Instance) → inOrder i ≡ true → Accepted (cardBytes i)
+in-order-accepted i e = card-bytes-accepted i (in-order-fits i e) .1 e
