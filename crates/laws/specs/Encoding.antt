@@ -1,22 +1,23 @@
 -- The card that is written for a show (`cardBytes`): what is read from it, and when it is accepted.
 use Prim.Native.Nat.{ℕ, _+_, _-_, _*_, _^_, _≤_, _<_}
-use mathlib.Core.Path.{_≡_, refl, sym, _∙_}
-use mathlib.Core.Logic.{_↔_}
+use mathlib.Core.Path.{_≡_, refl, sym, ap, _∙_}
+use mathlib.Core.Bool.{true}
 use mathlib.Core.List.{List, [], _++_, append-nil}
-use mathlib.Core.Bool.{true, false}
+use mathlib.Core.Logic.{_↔_}
 use native.Mathlib.Nat.{mul-le-mul}
 use native.Mathlib.Omega.{arith}
-use lib.Dec.{leb, ltb, eqb}
-use borrow.Author.Tests.{leb-true, le-leb, le-ltb, eq-eqb}
-use Rattle.lists.specs.Tests.{and-left, and-right, and-both, allOf, every-at, every-same, every-all}
-use Rattle.model.specs.Instance.{markOf, versionOf, rackNumber, inOrder, pricesInRange, tableInRange, convex, convexAt, loadsInRange}
-use Rattle.model.specs.Calls.{Accepted, answer, requestOf, refusals, successCost, applies, lowest}
-use Rattle.laws.specs.Acceptance.{modules-range, top-range, slots-range, up-range, down-range, table-range, table-convex, load-range}
+use lib.Dec.{leb}
 use lib.ListN.{length, take, length-append}
+use borrow.Author.Tests.{leb-true, le-leb, le-ltb, eq-eqb}
+use Rattle.lists.specs.Tests.{allOf, and-left, and-right, and-both, every-at, every-all, every-same}
 use Rattle.lists.specs.Lists.{sameList}
 use Rattle.lists.specs.Bytes.{littleEndian, bytesOf, little-bytes, little-after}
 use Rattle.lists.specs.Rows.{numbers, length-numbers, little-numbers}
-use Rattle.model.specs.Instance.{Instance, instanceOf, headLength, entryPlace, loadPlace, cardMark, cardVersion, cardLength, cardBytes}
+use Rattle.model.specs.Instance.{Instance, instanceOf, headLength, entryPlace, loadPlace, cardMark, cardVersion, markOf, versionOf}
+use Rattle.model.specs.Instance.{cardLength, cardBytes, inOrder, rackNumber, pricesInRange, tableInRange, convex, convexAt, loadsInRange}
+use Rattle.model.specs.Calls.{Accepted, answer, requestOf, refusals, successCost, applies, lowest}
+use Rattle.laws.specs.Acceptance.{modules-range, top-range, slots-range, up-range, down-range, table-range, table-convex}
+use Rattle.laws.specs.Acceptance.{load-range}
 
 -- The fields of a show fit the bytes that a card has for them.
 pub record FieldsFit (i : Instance) : Type 0 where
@@ -39,7 +40,7 @@ pub record SameShow (i j : Instance) : Type 0 where
   pub load : (t : ℕ) → t < i .slots → j .load t ≡ i .load t
 
 module _ (i : Instance) where
-  -- What follows the head of the card of a show.
+  -- Behind the head of the card of a show stand the entries of the table, and then the loads.
   abbrev entries : List ℕ
   entries = numbers 4 (i .topStep + 1) (i .table)
 
@@ -49,6 +50,7 @@ module _ (i : Instance) where
   entries-length : length entries ≡ (i .topStep + 1) * 4
   entries-length = length-numbers 4 (i .topStep + 1) (i .table)
 
+  -- The card of a show has the length that the show asks for.
   pub card-bytes-length : length (cardBytes i) ≡ cardLength i
   unfolding cardBytes cardLength bytesOf
   card-bytes-length = omega (arith, length-append entries loads, entries-length, length-numbers 2 (i .slots) (i .load))
@@ -70,6 +72,7 @@ module _ (i : Instance) where
         little-after 2 entries loads (t * 2) (omega (arith, entries-length)) ∙
         (rw append-nil at (little-numbers 2 (i .slots) (i .load) [] h (fit .load t h)))
 
+    -- A show whose fields fit is read back from its card.
     pub card-bytes-show : SameShow i (instanceOf (cardBytes i))
     unfolding cardBytes instanceOf bytesOf littleEndian
     card-bytes-show =
@@ -84,57 +87,53 @@ module _ (i : Instance) where
           load = λ t h. rw top (load-read t h);
         }
 
+-- Of two shows that agree, both are in order or neither is.
 same-in-order : {i j : Instance} → SameShow i j → inOrder j ≡ inOrder i
 unfolding inOrder pricesInRange tableInRange convex convexAt loadsInRange
 same-in-order {i} {j} same =
-    let prices =
-    every-same (i .topStep + 1) (λ k. leb (j .table k) 1000000) (λ k. leb (i .table k) 1000000) (λ k h. rw (same .table k (omega arith))) in
+    let entries = every-same (i .topStep + 1) _ _ (λ k h. ap (λ (x : ℕ). leb x 1000000) (same .table k (omega arith))) in
     let convexity =
     every-same (i .topStep - 1) (convexAt (j .table)) (convexAt (i .table))
     (λ k h. rw (same .table k (omega arith), same .table (k + 1) (omega arith), same .table (k + 2) (omega arith))) in
-    let most = i .modules * i .topStep in
-    let loads = every-same (i .slots) (λ t. leb (j .load t) most) (λ t. leb (i .load t) most) (λ t h. rw (same .load t h)) in
-    rw (same .modules, same .topStep, same .slots, same .powerUp, same .powerDown, prices, convexity, loads)
+    let loads = every-same (i .slots) _ _ (λ t h. ap (λ (x : ℕ). leb x (i .modules * i .topStep)) (same .load t h)) in
+    rw (same .modules, same .topStep, same .slots, same .powerUp, same .powerDown, entries, convexity, loads)
 
 -- The show of an accepted card is in order.
 accepted-in-order : (s : List ℕ) → Accepted s → inOrder (instanceOf s) ≡ true
 unfolding inOrder pricesInRange tableInRange loadsInRange
 accepted-in-order s e =
-    let entries = every-all (instanceOf s .topStep + 1) (λ k. leb (instanceOf s .table k) 1000000) (λ k h. le-leb _ _ (table-range s e k (omega arith))) in
-    let most = instanceOf s .modules * instanceOf s .topStep in
-    let loads = every-all (instanceOf s .slots) (λ t. leb (instanceOf s .load t) most) (λ t h. le-leb _ _ (load-range s e t h)) in
-    search (and-both, le-leb, entries, loads, modules-range s e, top-range s e, slots-range s e, up-range s e, down-range s e, table-convex s e) depth 9
+    let j = instanceOf s in
+    let entries = every-all (j .topStep + 1) _ (λ k h. le-leb (j .table k) 1000000 (table-range s e k (omega arith))) in
+    let loads = every-all (j .slots) _ (λ t h. le-leb (j .load t) (j .modules * j .topStep) (load-range s e t h)) in
+    search
+    (and-both, le-leb, entries, loads, modules-range s e, top-range s e, slots-range s e, up-range s e, down-range s e, table-convex s e)
+    depth 9
 
+-- The fields of a show that is in order fit.
 pub in-order-fits : (i : Instance) → inOrder i ≡ true → FieldsFit i
 unfolding inOrder pricesInRange tableInRange loadsInRange
 in-order-fits i e =
-    let m : i .modules ≤ 200 = search (and-left, and-right, leb-true) in
-    let q : i .topStep ≤ 200 = search (and-left, and-right, leb-true) in
-    let t : i .slots ≤ 1024 = search (and-left, and-right, leb-true) in
-    let u : i .powerUp ≤ 500000000 = search (and-left, and-right, leb-true) in
-    let d : i .powerDown ≤ 500000000 = search (and-left, and-right, leb-true) in
-    let entries : tableInRange (i .topStep) (i .table) ≡ true = search (and-left, and-right) in
-    let loads : loadsInRange i ≡ true = search (and-left, and-right) in
-    record {
-      modules = omega arith;
-      topStep = omega arith;
-      slots = omega arith;
-      powerUp = omega arith;
-      powerDown = omega arith;
-      table = λ k h. omega (arith, leb-true (i .table k) 1000000 (every-at (i .topStep + 1) _ entries k (omega arith)));
-      load = λ s h. omega (arith, leb-true (i .load s) (i .modules * i .topStep) (every-at (i .slots) _ loads s h), mul-le-mul m q);
-    }
+    let rack : (i .modules ≤ 200) × (i .topStep ≤ 200) × (i .slots ≤ 1024) = search (and-left, and-right, leb-true) in
+    let prices : (i .powerUp ≤ 500000000) × (i .powerDown ≤ 500000000) = search (and-left, and-right, leb-true) in
+    let all-entries : tableInRange (i .topStep) (i .table) ≡ true = search (and-left, and-right) in
+    let all-loads : loadsInRange i ≡ true = search (and-left, and-right) in
+    let entry : (k : ℕ) → k ≤ i .topStep → i .table k < 256 ^ 4 =
+    λ k h. omega (arith, leb-true, every-at (i .topStep + 1) _ all-entries k (omega arith)) in
+    let load : (t : ℕ) → t < i .slots → i .load t < 256 ^ 2 =
+    λ t h. omega (arith, leb-true, every-at (i .slots) _ all-loads t h, mul-le-mul (rack .0) (rack .1)) in
+    search arith
 
 module _ (i : Instance) where
+  -- The card of a show begins with the mark and the version.
   front : (markOf (cardBytes i) ≡ cardMark) × (versionOf (cardBytes i) ≡ cardVersion)
   unfolding cardBytes bytesOf littleEndian
   front = (refl, refl)
 
-  module _ (fit : FieldsFit i) where
-    -- What is read from the card of a show.
-    abbrev read : Instance
-    read = instanceOf (cardBytes i)
+  -- What is read from the card of a show.
+  abbrev read : Instance
+  read = instanceOf (cardBytes i)
 
+  module _ (fit : FieldsFit i) where
     read-accepted : inOrder read ≡ true → Accepted (cardBytes i)
     unfolding answer requestOf refusals successCost applies lowest allOf inOrder sameList cardLength
     read-accepted e =
@@ -149,10 +148,12 @@ module _ (i : Instance) where
         let long = le-ltb (length (cardBytes i)) headLength (omega arith) in
         rw (long, front .0, front .1, modules, topStep, slots, eq-eqb _ _ size, prices, convexity, loads)
 
+    -- The card of a show whose fields fit is accepted exactly if the show is in order.
     pub card-bytes-accepted : Accepted (cardBytes i) ↔ (inOrder i ≡ true)
     card-bytes-accepted =
         let same = same-in-order (card-bytes-show i fit) in
         (λ e. sym same ∙ accepted-in-order _ e, λ e. read-accepted (same ∙ e))
 
+-- The card of a show that is in order is accepted.
 pub in-order-accepted : (i : Instance) → inOrder i ≡ true → Accepted (cardBytes i)
 in-order-accepted i e = card-bytes-accepted i (in-order-fits i e) .1 e
