@@ -9,7 +9,7 @@ use lib.Seq.{drop-length, drop-cons, append-snoc, getD-set-same, drop-set-lt}
 use Rattle.lists.specs.Rows.{row-within}
 use Rattle.columns.specs.Column.{countAtPlace}
 use Rattle.search.specs.Written.{wayThrough}
-use Rattle.search.specs.Asked.{Leading}
+use Rattle.search.specs.SearchRequires.{Leading}
 
 -- at place j with t slots left: what is left of the way and the slots done make the whole
 pub record BackLoop (counts work plan₀ plan : List ℕ) (t j : ℕ) : Type 0 where

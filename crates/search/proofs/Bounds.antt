@@ -7,7 +7,7 @@ use native.Mathlib.Omega.{arith}
 use lib.ListN.{List·getD-eq-default}
 use Rattle.lists.specs.Numbers.{le-or-lt}
 use Rattle.lists.specs.Lists.{tabulate, length-tabulate, getD-tabulate}
-use Rattle.search.specs.Asked.{AtMost, Priced}
+use Rattle.search.specs.SearchRequires.{AtMost, Priced}
 
 -- a table whose values are at most b
 pub table-at-most : (n b : ℕ) (f : ℕ → ℕ) → ((k : ℕ) → k < n → f k ≤ b) → AtMost b (tabulate n f)

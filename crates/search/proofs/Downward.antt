@@ -8,9 +8,10 @@ use lib.ListN.{length, getD, set}
 use lib.Seq.{getD-set-other}
 use Rattle.lists.specs.Filling.{Downto, downto-none, downto-more, downto-all}
 use Rattle.model.specs.Instance.{Instance, instanceOf}
+use Rattle.card.specs.declared.Header.{Header}
 use Rattle.columns.specs.Column.{Choice, countAtPlace, lastPlace, servedAt, servedOrAbove, fromTop, downward}
 use Rattle.search.specs.Written.{costIn, Holds}
-use Rattle.search.specs.Asked.{SlotAfter, InRack}
+use Rattle.search.specs.SearchRequires.{SlotAfter, InRack}
 use Rattle.search.proofs.Allowed.{counts-fit}
 
 module _ (i : Instance) (counts : List ℕ) (l : ℕ) (before : ℕ → ℕ) where
@@ -37,8 +38,8 @@ pub record DownLoop
   pub at-places : Downto (λ k. downward i counts l (costIn column₀) k .at) (j + 1) places₀ places
 
 module _
-    {s : List ℕ} {top : ℕ} {counts : List ℕ} {l : ℕ} {column₀ places₀ : List ℕ}
-    (p : SlotAfter s top counts l column₀ places₀) where
+    {s : List ℕ} {h : Header} {counts : List ℕ} {l : ℕ} {column₀ places₀ : List ℕ}
+    (p : SlotAfter s h counts l column₀ places₀) where
   abbrev down : ℕ → Choice
   down = downward (instanceOf s) counts l (costIn column₀)
 
@@ -70,11 +71,10 @@ module _
     entry-below x h = getD-set-other column j (j - 1) x 0 (omega arith) ∙ f .costs .kept (j - 1) (omega arith)
 
     -- what the place below is asked with
-    pub below-in-rack : (x : ℕ) → 0 < j → InRack s top (countAtPlace counts (j - 1)) (getD (set column j x) (j - 1) 0)
+    pub below-in-rack : (x : ℕ) → 0 < j → InRack s h (countAtPlace counts (j - 1)) (getD (set column j x) (j - 1) 0)
     below-in-rack x h =
         record {
-          accepted = p .accepted;
-          top-is = p .top-is;
+          ready = p .ready;
           in-rack = counts-fit (p .allowed) (j - 1);
           small = rw (entry-below x h) (p .small .each (j - 1));
         }

@@ -10,11 +10,11 @@ use Rattle.lists.specs.Rows.{front-row, front-entry}
 use Rattle.model.specs.Instance.{Instance, instanceOf}
 use Rattle.card.specs.declared.Header.{Header}
 use Rattle.columns.specs.Column.{column, selection, wayBack, searchedPlan, searchedCost}
-use Rattle.columns.specs.Laws.{upward-inside}
+use Rattle.columns.specs.ColumnLaws.{upward-inside}
 use Rattle.search.specs.Written.{columnList, lastColumn, selectionRow, selectionRows, selectionsIn, wayThrough}
-use Rattle.search.specs.Asked.{Leading, Searchable}
+use Rattle.search.specs.SearchRequires.{Leading, Searchable}
 use Rattle.search.proofs.Allowed.{counts-small}
-use Rattle.search.proofs.Slots.{row-size}
+use Rattle.search.proofs.AllSlots.{row-size}
 
 module _ (i : Instance) (counts : List ℕ) where
   row-entry : (t j : ℕ) → j < length counts → getD (selectionRow i counts t) j 0 ≡ selection i counts 0 t j
@@ -56,7 +56,7 @@ module _ {s : List ℕ} {h : Header} {counts column₀ plan work : List ℕ} (p 
         let slots = ap (λ (x : ℕ). x * length counts) (p .plan-size) in
         record {
           some = some-count;
-          counts-range = counts-small s (p .ahead .ready .accepted) (p .ahead .allowed);
+          counts-range = counts-small (p .ahead .ready) (p .ahead .allowed);
           room = omega arith;
           inside = λ k b. rw filled (entry-inside (instanceOf s) counts work some-count k (omega arith));
         }

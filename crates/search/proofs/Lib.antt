@@ -4,6 +4,6 @@ pub mod Candidates
 pub mod Downward
 pub mod Upward
 pub mod Slot
-pub mod Slots
+pub mod AllSlots
 pub mod Back
 pub mod Found

@@ -8,17 +8,18 @@ use lib.ListN.{length}
 use Rattle.lists.specs.Lists.{length-tabulate, getD-tabulate, tabulate-same}
 use Rattle.model.specs.Instance.{instanceOf}
 use Rattle.laws.specs.Acceptance.{up-range, down-range}
+use Rattle.card.specs.declared.Header.{Header}
 use Rattle.columns.specs.Column.{Choice, lastPlace, rising, downward, upward}
-use Rattle.columns.specs.Laws.{downward-bound, rising-same}
+use Rattle.columns.specs.ColumnLaws.{downward-bound, rising-same}
 use Rattle.search.specs.Written.{costIn, choiceIn, Holds}
-use Rattle.search.specs.Asked.{Choices, PricedSlot, mostCost}
-use Rattle.counts.proofs.Division.{running-most}
+use Rattle.search.specs.SearchRequires.{Choices, PricedSlot, mostCost}
+use Rattle.counts.proofs.Shares.{operating-most}
 use Rattle.search.proofs.Bounds.{table-at-most}
 use Rattle.search.proofs.Allowed.{counts-small, full-served}
 
 module _
-    {s : List ℕ} {top price : ℕ} {counts : List ℕ} {l : ℕ} {column places : List ℕ}
-    (p : PricedSlot s top price counts l column places) where
+    {s : List ℕ} {h : Header} {price : ℕ} {counts : List ℕ} {l : ℕ} {column places : List ℕ}
+    (p : PricedSlot s h price counts l column places) where
   abbrev down : ℕ → Choice
   down = downward (instanceOf s) counts l (costIn column)
 
@@ -26,19 +27,19 @@ module _
     pub passes-meet : Choices price counts column₁ places₁
     passes-meet =
         let q = p .slot in
-        let cost = running-most (full-served s (q .accepted) (q .allowed) (q .load-fits)) in
+        let cost = operating-most (full-served (q .ready) (q .allowed) (q .load-fits)) in
         let before = q .small .each (lastPlace counts) in
-        let on = up-range s (q .accepted) in
-        let off = down-range s (q .accepted) in
+        let on = up-range s (q .ready .accepted) in
+        let off = down-range s (q .ready .accepted) in
         record {
           priced =
               record {
                 price-range = omega arith;
-                counts-range = counts-small s (q .accepted) (q .allowed);
+                counts-range = counts-small (q .ready) (q .allowed);
                 column-size = rw (first .costs-are) (length-tabulate (length counts) _);
               };
           some = omega arith;
-          rises = λ j h. le-of-lt (q .allowed .ascending .rises j h);
+          rises = λ j b. le-of-lt (q .allowed .ascending .rises j b);
           places-size = rw (first .places-are) (length-tabulate (length counts) _);
           small =
               rw (first .costs-are)
@@ -47,15 +48,15 @@ module _
         }
 
     given-is : (k : ℕ) → k < length counts → choiceIn column₁ places₁ k ≡ down k
-    given-is k h =
-        let cost = getD-tabulate (length counts) (λ j. down j .cost) k 0 h in
-        let at-place = getD-tabulate (length counts) (λ j. down j .at) k 0 h in
+    given-is k b =
+        let cost = getD-tabulate (length counts) (λ j. down j .cost) k 0 b in
+        let at-place = getD-tabulate (length counts) (λ j. down j .at) k 0 b in
         rw (first .costs-are, first .places-are, cost, at-place)
 
     -- the upward pass over what it is given is the one over the downward choices
     same : (j : ℕ) → j < length counts → rising price counts (choiceIn column₁ places₁) j ≡ upward (instanceOf s) counts l (costIn column) j
     unfolding upward
-    same j h =
+    same j b =
         rising-same price counts (choiceIn column₁ places₁) down j (λ k g. given-is k (omega arith)) ∙
         ap (λ (x : ℕ). rising x counts down j) (p .price-is)
 
@@ -64,6 +65,6 @@ module _
         Holds counts (upward (instanceOf s) counts l (costIn column)) column₂ places₂
     slot-choices second =
         record {
-          costs-are = second .costs-are ∙ tabulate-same (length counts) (λ k h. ap (λ c. c .cost) (same k h));
-          places-are = second .places-are ∙ tabulate-same (length counts) (λ k h. ap (λ c. c .at) (same k h));
+          costs-are = second .costs-are ∙ tabulate-same (length counts) (λ k b. ap (λ c. c .cost) (same k b));
+          places-are = second .places-are ∙ tabulate-same (length counts) (λ k b. ap (λ c. c .at) (same k b));
         }

@@ -7,9 +7,9 @@ use native.Mathlib.Omega.{arith}
 use lib.ListN.{length, set}
 use Rattle.lists.specs.Filling.{Upto, upto-first, upto-more, upto-all}
 use Rattle.columns.specs.Column.{Choice, cheaper, countAtPlace, rising}
-use Rattle.columns.specs.Laws.{rising-bound}
+use Rattle.columns.specs.ColumnLaws.{rising-bound}
 use Rattle.search.specs.Written.{choiceIn, Holds}
-use Rattle.search.specs.Asked.{Choices, mostCost}
+use Rattle.search.specs.SearchRequires.{Choices, mostCost}
 use Rattle.search.proofs.Bounds.{price-small}
 
 -- The loop at place j: that place's choice is in hand, and the lists hold those up to it.

@@ -9,7 +9,7 @@ ghost use Rattle.counts.specs.Serving.{Served};
 ghost use Rattle.columns.specs.Column.{cheaper, servedAt, servedOrAbove, rising, downward, upward, searchedPlan, searchedCost};
 ghost use Rattle.search.specs.Written.{choiceOf, costIn, choiceIn, Holds};
 ghost use Rattle.search.specs.Written.{priceList, lastColumn, selectionsIn, wayThrough};
-ghost use Rattle.search.specs.Asked.{mostCost, InRack, SlotAfter, Priced, Choices, PricedSlot, SlotsAhead, Leading, Searchable};
+ghost use Rattle.search.specs.SearchRequires.{mostCost, InRack, SlotAfter, Priced, Choices, PricedSlot, SlotsAhead, Leading, Searchable};
 
 // A cost, and the place that it comes from.
 struct Candidate {
@@ -28,38 +28,45 @@ fn cheaper_of(first: Candidate, second: Candidate) -> Candidate
 }
 
 // Serving the load l with n modules at a place, where the slots before cost before.
-fn own(card: &[u8], n: u64, l: u64, before: u64, place: u8) -> Candidate
-    requires { ⌜ Served (now card) n l ⌝ }
+fn serve_here(card: &[u8], h: Header, n: u64, l: u64, before: u64, place: u8) -> Candidate
+    requires { ⌜ Served (now card) h n l ⌝ }
     requires { ⌜ before ≤ mostCost ⌝ }
     ensures { λ r. ⌜ choiceOf r ≡ servedAt (instanceOf (now (card .entry))) n l before place ⌝ }
 {
-    let cost = before + counts::operating_cost(card, n, l);
+    let cost = before + counts::operating_cost(card, h, n, l);
     Candidate { cost, place }
 }
 
-// One place of the downward pass: its own candidate if its count can serve, else that of the place above.
-fn own_or_above(
+// One place of the downward pass: serving there if its count can, or the candidate of the place above.
+fn serve_here_or_above(
     card: &[u8],
-    top: u64,
+    h: Header,
     n: u64,
     l: u64,
     before: u64,
     place: u8,
     above: Candidate,
 ) -> Candidate
-    requires { ⌜ InRack (now card) top n before ⌝ }
+    requires { ⌜ InRack (now card) h n before ⌝ }
     ensures { λ r. ⌜ choiceOf r ≡ servedOrAbove (instanceOf (now (card .entry))) n l before place (choiceOf above) ⌝ }
 {
-    if n * top < l {
+    if n * h.topStep < l {
         return above;
     }
-    let mine = own(card, n, l, before, place);
+    let mine = serve_here(card, h, n, l, before, place);
     cheaper_of(mine, above)
 }
 
 // The downward pass of a slot with load l, from the last place to place 0: the best of each place and those above.
-fn down_pass(card: &[u8], top: u64, counts: &[u64], l: u64, column: &mut [u64], places: &mut [u8])
-    requires { ⌜ SlotAfter (now card) top (now counts) l (now column) (now places) ⌝ }
+fn down_pass(
+    card: &[u8],
+    h: Header,
+    counts: &[u64],
+    l: u64,
+    column: &mut [u64],
+    places: &mut [u8],
+)
+    requires { ⌜ SlotAfter (now card) h (now counts) l (now column) (now places) ⌝ }
     ensures { λ _.
         ⌜ Holds (now (counts .entry))
         (downward (instanceOf (now (card .entry))) (now (counts .entry)) l (costIn (now (column .entry))))
@@ -67,12 +74,12 @@ fn down_pass(card: &[u8], top: u64, counts: &[u64], l: u64, column: &mut [u64], 
 {
     let last = counts.len() - 1;
     let mut j = last;
-    let mut best = own(card, counts[last], l, column[last], last as u8);
+    let mut best = serve_here(card, h, counts[last], l, column[last], last as u8);
     while 0 < j {
         column[j] = best.cost;
         places[j] = best.place;
         j -= 1;
-        best = own_or_above(card, top, counts[j], l, column[j], j as u8, best);
+        best = serve_here_or_above(card, h, counts[j], l, column[j], j as u8, best);
     }
     column[0] = best.cost;
     places[0] = best.place;
@@ -111,20 +118,20 @@ fn up_pass(price: u64, counts: &[u64], column: &mut [u64], places: &mut [u8])
 // One slot with load l: the column before it becomes the column after it, and places holds its selections.
 fn one_slot(
     card: &[u8],
-    top: u64,
+    h: Header,
     price: u64,
     counts: &[u64],
     l: u64,
     column: &mut [u64],
     places: &mut [u8],
 )
-    requires { ⌜ PricedSlot (now card) top price (now counts) l (now column) (now places) ⌝ }
+    requires { ⌜ PricedSlot (now card) h price (now counts) l (now column) (now places) ⌝ }
     ensures { λ _.
         ⌜ Holds (now (counts .entry))
         (upward (instanceOf (now (card .entry))) (now (counts .entry)) l (costIn (now (column .entry))))
         (now (column .exit)) (now (places .exit)) ⌝ }
 {
-    down_pass(card, top, counts, l, column, places);
+    down_pass(card, h, counts, l, column, places);
     up_pass(price, counts, column, places);
 }
 
@@ -146,17 +153,16 @@ fn all_slots(card: &[u8], h: Header, counts: &[u64], column: &mut [u64], work: &
     ensures { λ _. ⌜ now (column .exit) ≡ lastColumn (instanceOf (now (card .entry))) (now (counts .entry)) ⌝ }
     ensures { λ _. ⌜ now (work .exit) ≡ selectionsIn (instanceOf (now (card .entry))) (now (counts .entry)) (now (work .entry)) ⌝ }
 {
-    let price = h.up + h.down;
-    let top = h.top;
+    let price = h.powerUp + h.powerDown;
     let slots = h.slots;
     let width = counts.len();
     start_column(price, counts, column);
     let mut t: u64 = 0;
     while t < slots {
-        let l = card::load(card, top, t);
+        let l = card::load(card, h, t);
         let row = t as usize * width;
         let end = row + width;
-        one_slot(card, top, price, counts, l, column, &mut work[row..end]);
+        one_slot(card, h, price, counts, l, column, &mut work[row..end]);
         t += 1;
     }
 }

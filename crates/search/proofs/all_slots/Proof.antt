@@ -2,17 +2,17 @@ use mathlib.Core.Path.{refl}
 use Prim.Native.Nat.{_-_}
 use native.Mathlib.Omega.{arith}
 use Rattle.model.specs.Instance.{instanceOf}
-use Rattle.search.proofs.Slots.{SlotLoop, slots-start, slots-turn, slots-end, price-is, price-most, start-priced}
-use Rattle.card.proofs.Room.{in-header, load-there}
-use Rattle.search.proofs.Slots.{column-kept, work-long, row-small, row-room, slot-ready}
+use Rattle.search.proofs.AllSlots.{SlotLoop, slots-start, slots-turn, slots-end, price-is, price-most, start-priced}
+use Rattle.card.proofs.FieldsThere.{in-header, load-there}
+use Rattle.search.proofs.AllSlots.{column-kept, work-long, row-small, row-room, slot-ready}
 use Rattle.search.proofs.all_slots.Statement.{statement}
 use Rattle.search.proofs.all_slots.Tie as tie
 
 abbrev Inv-loop : tie.InvT-loop
-Inv-loop card counts column₀ work₀ price top slots width t₀ column work t = SlotLoop (instanceOf card) counts work₀ column work t
+Inv-loop card h counts column₀ work₀ price slots width t₀ column work t = SlotLoop (instanceOf card) counts work₀ column work t
 
 abbrev μ-loop : tie.MeasureT-loop
-μ-loop card counts column₀ work₀ price top slots width t₀ column work t = slots - t
+μ-loop card h counts column₀ work₀ price slots width t₀ column work t = slots - t
 
 -- the start of the function, from its loop
 abbrev start : tie.At-loop Inv-loop μ-loop → tie.Start Inv-loop μ-loop
@@ -58,7 +58,7 @@ one-slot-requires : tie.Need-one-slot-requires Inv-loop μ-loop
 one-slot-requires c κs =
     let read = c .before .before in
     let test = read .before in
-    slot-ready (start (test .before) .pre) (test .before .loop .inv) refl (test .loop-test .taken) (read .load .ensures .is) refl refl
+    slot-ready (start (test .before) .pre) (test .before .loop .inv) (test .loop-test .taken) (read .load .ensures .is) refl refl
 
 add-t : tie.Need-add-t Inv-loop μ-loop
 add-t c = omega arith

@@ -9,11 +9,11 @@ use Rattle.search.proofs.down_pass.Statement.{statement}
 use Rattle.search.proofs.down_pass.Tie as tie
 
 abbrev Inv-loop : tie.InvT-loop
-Inv-loop card top counts l column₀ places₀ last j₀ best₀ column places j best =
+Inv-loop card h counts l column₀ places₀ last j₀ best₀ column places j best =
     DownLoop (instanceOf card) counts l column₀ places₀ column places (choiceOf best) j
 
 abbrev μ-loop : tie.MeasureT-loop
-μ-loop card top counts l column₀ places₀ last j₀ best₀ column places j best = j
+μ-loop card h counts l column₀ places₀ last j₀ best₀ column places j best = j
 
 -- the start of the function, from its loop
 abbrev start : tie.At-loop Inv-loop μ-loop → tie.Start Inv-loop μ-loop
@@ -22,28 +22,28 @@ start c = c .before .before .before .before .before .before .before .before
 sub-last : tie.Need-sub-last Inv-loop μ-loop
 sub-last c = omega arith
 
-mul-own : tie.Need-mul-own Inv-loop μ-loop
-mul-own c = omega arith
+mul-serve-here : tie.Need-mul-serve-here Inv-loop μ-loop
+mul-serve-here c = omega arith
 
-shared-slice-read-own : tie.Need-shared-slice-read-own Inv-loop μ-loop
-shared-slice-read-own c = omega arith
+shared-slice-read-serve-here : tie.Need-shared-slice-read-serve-here Inv-loop μ-loop
+shared-slice-read-serve-here c = omega arith
 
-mul-own-2 : tie.Need-mul-own-2 Inv-loop μ-loop
-mul-own-2 c = omega arith
+mul-serve-here-2 : tie.Need-mul-serve-here-2 Inv-loop μ-loop
+mul-serve-here-2 c = omega arith
 
-slice-read-own : tie.Need-slice-read-own Inv-loop μ-loop
-slice-read-own c = omega arith
+slice-read-serve-here : tie.Need-slice-read-serve-here Inv-loop μ-loop
+slice-read-serve-here c = omega arith
 
-cast-own : tie.Need-cast-own Inv-loop μ-loop
-cast-own c = omega arith
+cast-serve-here : tie.Need-cast-serve-here Inv-loop μ-loop
+cast-serve-here c = omega arith
 
-own-requires : tie.Need-own-requires Inv-loop μ-loop
-own-requires c κs =
+serve-here-requires : tie.Need-serve-here-requires Inv-loop μ-loop
+serve-here-requires c κs =
     let p = c .before .before .before .before .before .before .pre in
-    (full-served _ (p .accepted) (p .allowed) (p .load-fits), p .small .each _)
+    (full-served (p .ready) (p .allowed) (p .load-fits), p .small .each _)
 
 loop-holds : tie.Need-loop-holds Inv-loop μ-loop
-loop-holds c = down-starts (c .before .before .before .before .before .before .before .pre) refl (c .own .ensures)
+loop-holds c = down-starts (c .before .before .before .before .before .before .before .pre) refl (c .serve-here .ensures)
 
 mul-column : tie.Need-mul-column Inv-loop μ-loop
 mul-column c = omega arith
@@ -57,23 +57,23 @@ slice-write-places c = omega arith
 sub-j : tie.Need-sub-j Inv-loop μ-loop
 sub-j c = omega arith
 
-mul-own-or-above : tie.Need-mul-own-or-above Inv-loop μ-loop
-mul-own-or-above c = omega arith
+mul-serve-here-or-above : tie.Need-mul-serve-here-or-above Inv-loop μ-loop
+mul-serve-here-or-above c = omega arith
 
-shared-slice-read-own-or-above : tie.Need-shared-slice-read-own-or-above Inv-loop μ-loop
-shared-slice-read-own-or-above c = omega arith
+shared-slice-read-serve-here-or-above : tie.Need-shared-slice-read-serve-here-or-above Inv-loop μ-loop
+shared-slice-read-serve-here-or-above c = omega arith
 
-mul-own-or-above-2 : tie.Need-mul-own-or-above-2 Inv-loop μ-loop
-mul-own-or-above-2 c = omega arith
+mul-serve-here-or-above-2 : tie.Need-mul-serve-here-or-above-2 Inv-loop μ-loop
+mul-serve-here-or-above-2 c = omega arith
 
-slice-read-own-or-above : tie.Need-slice-read-own-or-above Inv-loop μ-loop
-slice-read-own-or-above c = simp length-set (omega arith)
+slice-read-serve-here-or-above : tie.Need-slice-read-serve-here-or-above Inv-loop μ-loop
+slice-read-serve-here-or-above c = simp length-set (omega arith)
 
-cast-own-or-above : tie.Need-cast-own-or-above Inv-loop μ-loop
-cast-own-or-above c = omega arith
+cast-serve-here-or-above : tie.Need-cast-serve-here-or-above Inv-loop μ-loop
+cast-serve-here-or-above c = omega arith
 
-own-or-above-requires : tie.Need-own-or-above-requires Inv-loop μ-loop
-own-or-above-requires c κs =
+serve-here-or-above-requires : tie.Need-serve-here-or-above-requires Inv-loop μ-loop
+serve-here-or-above-requires c κs =
     let test = c .before .before in
     below-in-rack (start (test .before) .pre) (test .before .loop .inv) _ (test .loop-test .taken)
 
@@ -83,7 +83,7 @@ loop-less c = omega arith
 loop-again : tie.Need-loop-again Inv-loop μ-loop
 loop-again c =
     let test = c .before .before .before in
-    down-turns (start (test .before) .pre) (test .before .loop .inv) (test .loop-test .taken) (c .own-or-above .ensures)
+    down-turns (start (test .before) .pre) (test .before .loop .inv) (test .loop-test .taken) (c .serve-here-or-above .ensures)
 
 slice-write-column-2 : tie.Need-slice-write-column-2 Inv-loop μ-loop
 slice-write-column-2 c = omega arith
@@ -102,7 +102,7 @@ returns c = down-ends (start (c .before) .pre) (c .before .loop .inv) (c .loop-t
 
 pub down-pass-spec : {M : Type 1} → statement M
 down-pass-spec =
-    tie.close (tie.spec Inv-loop μ-loop sub-last mul-own shared-slice-read-own mul-own-2 slice-read-own cast-own own-requires loop-holds
-    mul-column slice-write-column slice-write-places sub-j mul-own-or-above shared-slice-read-own-or-above mul-own-or-above-2
-    slice-read-own-or-above cast-own-or-above own-or-above-requires loop-less loop-again slice-write-column-2 slice-write-places-2
+    tie.close (tie.spec Inv-loop μ-loop sub-last mul-serve-here shared-slice-read-serve-here mul-serve-here-2 slice-read-serve-here cast-serve-here serve-here-requires loop-holds
+    mul-column slice-write-column slice-write-places sub-j mul-serve-here-or-above shared-slice-read-serve-here-or-above mul-serve-here-or-above-2
+    slice-read-serve-here-or-above cast-serve-here-or-above serve-here-or-above-requires loop-less loop-again slice-write-column-2 slice-write-places-2
     same-length same-length-2 returns)

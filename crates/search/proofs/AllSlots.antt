@@ -14,12 +14,12 @@ use Rattle.model.specs.Counts.{operatingCost}
 use Rattle.model.specs.Thesis.{switchingPrice}
 use Rattle.laws.specs.Acceptance.{modules-range, up-range, down-range, slots-range, load-range}
 use Rattle.card.specs.declared.Header.{Header}
-use Rattle.card.proofs.Room.{in-header}
+use Rattle.card.proofs.FieldsThere.{in-header}
 use Rattle.columns.specs.Column.{countAtPlace, lastPlace, upward, column, selection}
-use Rattle.columns.specs.Laws.{upward-same, column-bound}
+use Rattle.columns.specs.ColumnLaws.{upward-same, column-bound}
 use Rattle.search.specs.Written.{costIn, Holds, priceList, columnList, lastColumn, selectionRow, selectionRows, selectionsIn}
-use Rattle.search.specs.Asked.{AtMost, Priced, PricedSlot, SlotsAhead, mostCost}
-use Rattle.counts.proofs.Division.{running-most}
+use Rattle.search.specs.SearchRequires.{AtMost, Priced, PricedSlot, SlotsAhead, mostCost}
+use Rattle.counts.proofs.Shares.{operating-most}
 use Rattle.search.proofs.Bounds.{table-at-most}
 use Rattle.search.proofs.Allowed.{counts-fit, counts-small, full-served}
 
@@ -79,20 +79,20 @@ module _ {i : Instance} {counts work₀ costs work : List ℕ} {t : ℕ} (f : Sl
 
 -- what the loop hands on
 module _ {s : List ℕ} {h : Header} {counts costs₀ work₀ : List ℕ} (p : SlotsAhead s h counts costs₀ work₀) where
-  pub price-is : h .up + h .down ≡ switchingPrice (instanceOf s)
+  pub price-is : h .powerUp + h .powerDown ≡ switchingPrice (instanceOf s)
   price-is = omega arith
 
   pub row-small : {t : ℕ} → t < h .slots → t * length counts + length counts ≤ 262144
   row-small g = row-within (length counts) {n = 1024} (omega (arith, slots-range s (p .ready .accepted))) (omega arith)
 
-  pub price-most : h .up + h .down ≤ 1000000000
+  pub price-most : h .powerUp + h .powerDown ≤ 1000000000
   price-most = omega (arith, up-range s (p .ready .accepted), down-range s (p .ready .accepted))
 
   pub start-priced : {price : ℕ} → price ≤ 1000000000 → Priced price counts costs₀
   start-priced small =
       record {
         price-range = small;
-        counts-range = counts-small s (p .ready .accepted) (p .allowed);
+        counts-range = counts-small (p .ready) (p .allowed);
         column-size = p .column-size;
       }
 
@@ -107,7 +107,7 @@ module _ {s : List ℕ} {h : Header} {counts costs₀ work₀ : List ℕ} (p : S
       full :
           (t : ℕ) → t < instanceOf s .slots →
           operatingCost (instanceOf s) (countAtPlace counts (lastPlace counts)) (instanceOf s .load t) ≤ 200000000
-      full t g = running-most (full-served s (p .ready .accepted) (p .allowed) (load-range s (p .ready .accepted) t g))
+      full t g = operating-most (full-served (p .ready) (p .allowed) (load-range s (p .ready .accepted) t g))
 
   module _ {costs work : List ℕ} {t : ℕ} (f : SlotLoop (instanceOf s) counts work₀ costs work t) where
     pub work-long : length work ≡ length work₀
@@ -131,14 +131,13 @@ module _ {s : List ℕ} {h : Header} {counts costs₀ work₀ : List ℕ} (p : S
         (table-at-most (length counts) mostCost (column (instanceOf s) counts 0 t) (λ j inside. column-small t j (f .within) inside))
 
     pub slot-ready :
-        {top l a e : ℕ} → top ≡ h .top → t < h .slots → l ≡ instanceOf s .load t → a ≡ t * length counts →
-        e ≡ a + length counts → PricedSlot s top (h .up + h .down) counts l costs (midOf a (e - a) work)
-    slot-ready {top} {l} {a} {e} top-is g l-is a-is e-is =
+        {l a e : ℕ} → t < h .slots → l ≡ instanceOf s .load t → a ≡ t * length counts →
+        e ≡ a + length counts → PricedSlot s h (h .powerUp + h .powerDown) counts l costs (midOf a (e - a) work)
+    slot-ready {l} {a} {e} g l-is a-is e-is =
         record {
           slot =
               record {
-                accepted = p .ready .accepted;
-                top-is = top-is ∙ p .ready .header .top-is;
+                ready = p .ready;
                 allowed = p .allowed;
                 load-fits = rw l-is (load-range s (p .ready .accepted) t (in-header (p .ready) g));
                 column-size = ap length (f .column-is) ∙ column-long (instanceOf s) counts t;
