@@ -48,7 +48,7 @@ module _ (s : List ℕ) where
     unfolding lowestAmong lowest
     front-passed e = rw (mark-applies marked long, version-applies (rw is at (eq-eqb v 1 e)))
 
-  -- a card that passes has its first 17 bytes
+  -- A card that passes refusals 1 and 2 has its head.
   pub front-length : {a : Answer} {n : ℕ} → a ≡ lowestAmong s frontRefusals → a ≡ Cost n → headLength ≤ length s
   unfolding lowestAmong applies requestOf
   front-length is e = ltb-false _ _ (or-left _ _ (lowest-passed _ _ _ (sym is ∙ e) .0))
@@ -87,7 +87,7 @@ module _ (s : List ℕ) where
           size-passed right =
               rw (rack-applies rack-ok, slots-applies (le-ltb _ _ slots-ok), size-applies (rw n-is at (eq-eqb (length s) n right)))
 
-    -- a card that passes has the length its header says
+    -- A card that passes refusals 3 to 5 has the length its header says.
     pub size-of : {a : Answer} {n : ℕ} → a ≡ lowestAmong s sizeRefusals → a ≡ Cost n → Sized s h
     unfolding lowestAmong
     size-of is e =

@@ -12,7 +12,7 @@ use Rattle.card.specs.Fields.{ReadAt}
 pub read-one : (s : List ℕ) (p x : ℕ) → x ≡ getD s p 0 → x < 256 → ReadAt s p 1 x (p + 1)
 read-one s p x e h = record { number = e ∙ sym (little-one s p); bound = h; position = omega arith }
 
--- two numbers of w bytes one after the other are one of w + w bytes
+-- Two numbers of w bytes one after the other are one of w + w bytes.
 pub read-join : (w : ℕ) {s : List ℕ} {p q z x y : ℕ} → ReadAt s p w x q → ReadAt s q w y z → ReadAt s p (w + w) (x + 256 ^ w * y) z
 read-join w {s} {p} {q} {z} {x} {y} a b =
     record {
@@ -23,6 +23,6 @@ read-join w {s} {p} {q} {z} {x} {y} a b =
       position = omega arith;
     }
 
--- the number read at a place that is known by another name
+-- The number that was read at a place is the number there by another name of the place.
 pub read-at : {s : List ℕ} {p w x q r : ℕ} → ReadAt s p w x q → p ≡ r → x ≡ littleEndian w s r
 read-at {s} {p} {w} a e = a .number ∙ ap (littleEndian w s) e

@@ -15,7 +15,7 @@ use Rattle.laws.specs.Lowest.{lowest-refused, lowest-through}
 use Rattle.laws.specs.Acceptance.{modules-range, top-range, slots-range}
 
 module _ (s : List ℕ) where
-  -- refusals 1 and 2, then 3 to 5, then 6 to 8
+  -- The card's answer tests refusals 1 and 2, then 3 to 5, then 6 to 8.
   by-groups :
       answer (checkCard s) ≡
       lowest (applies (requestOf (checkCard s))) frontRefusals
@@ -27,7 +27,7 @@ module _ (s : List ℕ) where
   unfolding checkedOf
   refused e = rw e
 
-  -- the answers of the code's three checks, one after the other
+  -- The answers of the code's three checks, one after the other.
   module _ {front : Answer} (front-is : front ≡ lowestAmong s frontRefusals) where
     pub front-refused : {x : Refusal} → front ≡ Refused x → Invalid x ≡ checkedOf s
     unfolding lowestAmong
@@ -86,7 +86,7 @@ module _ (s : List ℕ) where
       go (Cost n) g f = (lowest-through _ _ _ _ g, cc)
       go (Refused y) g f = (cc, cc)
 
-  -- an accepted card is ready for the crates above
+  -- An accepted card is ready for the crates above.
   pub ready : {h : Header} → checkedOf s ≡ Valid h → Ready s h
   ready {h} e =
       let (given, same) = accepted-answer e in

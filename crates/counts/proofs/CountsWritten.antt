@@ -16,7 +16,7 @@ use Rattle.model.specs.Counts.{allCounts, coarseCounts}
 use Rattle.counts.specs.AllowedCounts.{CoarseRoom, numbersBelow, firstPowers}
 use Rattle.counts.proofs.Powers.{powersUpTo, zeroAndPowers, joined, Coarse, coarse-known}
 
--- all counts from 0 to m
+-- All counts from 0 to m are written.
 pub all-written :
     (m : ℕ) (old : List ℕ) {front : List ℕ} → m + 1 ≤ length old → front ≡ numbersBelow (length (take (m + 1) old)) →
     (m + 1 ≡ length (allCounts m)) × (front ++ drop (m + 1) old ≡ writtenOver (allCounts m) old)
@@ -36,7 +36,7 @@ last-power (suc q) h =
     let e : suc q - 1 ≡ q = omega arith in
     rw e (getD-tabulate (suc q) (λ k. 2 ^ k) q 0 (omega arith))
 
--- there are at most ten coarse counts
+-- There are at most ten coarse counts.
 pub coarse-ten : (m : ℕ) → 1 ≤ m → m ≤ 200 → length (coarseCounts m) ≤ 10
 unfolding joined
 coarse-ten m some most = rw (known .list) (sized (eqb (2 ^ (powersUpTo m - 1)) m))
@@ -59,7 +59,7 @@ module _ (xs : List ℕ) (m : ℕ) (asked : CoarseRoom xs m) where
   part-length : length (midOf 1 (powersUpTo m + 1 - 1) (set xs 0 0)) ≡ powersUpTo m
   part-length = mid-len 1 (powersUpTo m + 1) (set xs 0 0) part-within ∙ omega arith
 
-  -- the part of the powers
+  -- The part of the powers is filled.
   module _ {ys : List ℕ} (filled : ys ≡ firstPowers (length (midOf 1 (powersUpTo m + 1 - 1) (set xs 0 0)))) where
     abbrev after : List ℕ
     after = putMid 1 (powersUpTo m + 1 - 1) (set xs 0 0) ys
@@ -76,7 +76,7 @@ module _ (xs : List ℕ) (m : ℕ) (asked : CoarseRoom xs m) where
           part-length,
         )
 
-    -- the entry that is compared with m is the last power
+    -- The entry that is compared with m is the last power.
     at-last : getD after (powersUpTo m) 0 ≡ 2 ^ (powersUpTo m - 1)
     at-last =
         let inside : powersUpTo m < length (zeroAndPowers (powersUpTo m)) = omega (arith, length-zeroAndPowers (powersUpTo m)) in
@@ -84,7 +84,7 @@ module _ (xs : List ℕ) (m : ℕ) (asked : CoarseRoom xs m) where
         List·getD-append (zeroAndPowers (powersUpTo m)) (drop (powersUpTo m + 1) xs) 0 (powersUpTo m) inside ∙
         last-power (powersUpTo m) (known .low)
 
-    -- m is a power: the list is complete as it stands
+    -- Where m is a power, the list is complete as it stands.
     module _ (equal : getD after (powersUpTo m) 0 ≡ m) where
       power-list : coarseCounts m ≡ zeroAndPowers (powersUpTo m)
       unfolding joined
@@ -96,7 +96,7 @@ module _ (xs : List ℕ) (m : ℕ) (asked : CoarseRoom xs m) where
       pub power-done : (powersUpTo m + 1 ≡ length (coarseCounts m)) × (after ≡ writtenOver (coarseCounts m) xs)
       power-done = (power-length, rw (← power-length, power-list) after-is)
 
-    -- m is none: it is joined
+    -- Where m is no power, it is joined.
     module _ (other : getD after (powersUpTo m) 0 ≡ m → ⊥) where
       other-list : coarseCounts m ≡ zeroAndPowers (powersUpTo m) ++ (m ∷ [])
       unfolding joined

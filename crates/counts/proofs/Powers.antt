@@ -16,20 +16,20 @@ use Rattle.lists.specs.Prefixes.{tabulate-more, keep-append, keep-tabulate}
 use Rattle.model.specs.Counts.{allCounts, powerOfTwo, isCoarse, coarseCounts}
 use Rattle.counts.specs.AllowedCounts.{firstPowers}
 
--- how many powers of two are at most m, for m below 2 to the 64
+-- How many powers of two are at most m, for m below 2 to the 64.
 abbrev pub powersUpTo : ℕ → ℕ
 powersUpTo m = 64 - leadingZeros 64 m
 
--- the table of powers, entry by entry
+-- Each entry of the table of powers is its power.
 pub table-entry : (k : ℕ) → k < 8 → getD (1 ∷ 2 ∷ 4 ∷ 8 ∷ 16 ∷ 32 ∷ 64 ∷ 128 ∷ []) k 0 ≡ 2 ^ k
 unfolding tabulate
 table-entry k h = getD-tabulate 8 (λ k. 2 ^ k) k 0 h
 
--- 0 and the first p powers
+-- The list of 0 and the first p powers.
 unfoldable pub zeroAndPowers : ℕ → List ℕ
 zeroAndPowers p = 0 ∷ firstPowers p
 
--- 0 and the powers below m
+-- A number is 0 or a power of two.
 abbrev zeroOrPower : ℕ → Bool
 zeroOrPower n = eqb n 0 || powerOfTwo n
 
@@ -40,7 +40,7 @@ smaller-more : (m : ℕ) → smaller (suc m) ≡ smaller m ++ keep zeroOrPower (
 unfolding smaller
 smaller-more m = rw (tabulate-more m (λ n. n), keep-append)
 
--- the coarse counts are these and m
+-- The coarse counts are 0, the powers below m, and m.
 coarse-split : (m : ℕ) → coarseCounts m ≡ smaller m ++ (m ∷ [])
 unfolding coarseCounts allCounts smaller keep
 coarse-split m =
@@ -63,7 +63,7 @@ next-tests : every 200 next-test ≡ true
 unfolding every next-test sameList zeroAndPowers firstPowers leadingZeros keep powerOfTwo tabulate
 next-tests = refl
 
--- m joins the powers up to m unless the last of these is m
+-- The first p powers with m, which joins them unless the last of them is m.
 unfoldable pub joined : ℕ → ℕ → List ℕ
 joined p m = cond (eqb (2 ^ (p - 1)) m) (zeroAndPowers p) (zeroAndPowers p ++ (m ∷ []))
 
@@ -87,7 +87,7 @@ smaller-is zero h = smaller-first
 smaller-is (suc k) h =
     smaller-more (suc k) ∙ rw (smaller-is k (omega arith)) (sym (same-list-equal _ _ (every-at 200 next-test next-tests k h)))
 
--- the coarse counts of a rack of m, and how many powers are among them
+-- The coarse counts of a rack of m, and how many powers are among them.
 pub record Coarse (m : ℕ) : Type 0 where
   pub low : 1 ≤ powersUpTo m
   pub high : powersUpTo m ≤ 8

@@ -22,7 +22,7 @@ module _ (n l : ℕ) (some : n ≡ 0 → ⊥) where
   pub step-within : (q : ℕ) → l ≤ n * q → l / n ≤ q
   step-within q h = div-le-of-le-mul n h
 
-  -- with a remainder there is a step above the quotient
+  -- With a remainder there is a step above the quotient.
   pub next-within : (q : ℕ) → l ≤ n * q → (l % n ≡ 0 → ⊥) → l / n + 1 ≤ q
   next-within q h r = omega (arith, quotient-lt n l q h (pos-of-ne-zero r))
 
@@ -41,7 +41,7 @@ module _ (i : Instance) (n l : ℕ) where
     unfolding operatingCost
     cost-uneven r {y} y-is = rw (ne-eqb n 0 some, ne-eqb (l % n) 0 r, x-is, y-is)
 
--- a product of a count and an entry is small, and so is the sum of two
+-- A product of a count and an entry is small, and so is the sum of two.
 module _ {s : List ℕ} {h : Header} {n l : ℕ} (p : Served s h n l) where
   pub product-small : {k x : ℕ} → k ≤ n → x < 256 ^ 4 → k * x ≤ 200 * 256 ^ 4
   product-small {k} {x} h b =

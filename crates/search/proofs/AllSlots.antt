@@ -23,7 +23,7 @@ use Rattle.counts.proofs.Shares.{operating-most}
 use Rattle.search.proofs.Bounds.{table-at-most}
 use Rattle.search.proofs.Allowed.{counts-fit, counts-small, full-served}
 
--- before slot t: the column after t slots, and t rows of selections in front of what the buffer held
+-- Before slot t the column after t slots is in hand, and t rows of selections stand in front of what the buffer held.
 pub record SlotLoop (i : Instance) (counts work₀ costs work : List ℕ) (t : ℕ) : Type 0 where
   pub within : t ≤ i .slots
   column-is : costs ≡ columnList i counts t
@@ -37,7 +37,7 @@ column-long : (i : Instance) (counts : List ℕ) (t : ℕ) → length (columnLis
 unfolding columnList
 column-long i counts t = length-tabulate (length counts) (column i counts 0 t)
 
--- the choices of slot t, over the column as a list
+-- The choices of slot t over the column as a list are those over the column.
 slot-same :
     (i : Instance) (counts : List ℕ) (t : ℕ) → 1 ≤ length counts → (j : ℕ) →
     upward i counts (i .load t) (costIn (columnList i counts t)) j ≡ upward i counts (i .load t) (column i counts 0 t) j
@@ -77,7 +77,7 @@ module _ {i : Instance} {counts work₀ costs work : List ℕ} {t : ℕ} (f : Sl
   pub slots-end : i .slots ≤ t → (costs ≡ lastColumn i counts) × (work ≡ selectionsIn i counts work₀)
   slots-end h = let all : t ≡ i .slots = omega arith in (rw all at (f .column-is), rw all at (f .work-is))
 
--- what the loop hands on
+-- What the loop hands to each slot.
 module _ {s : List ℕ} {h : Header} {counts costs₀ work₀ : List ℕ} (p : SlotsAhead s h counts costs₀ work₀) where
   pub price-is : h .powerUp + h .powerDown ≡ switchingPrice (instanceOf s)
   price-is = omega arith
@@ -96,7 +96,7 @@ module _ {s : List ℕ} {h : Header} {counts costs₀ work₀ : List ℕ} (p : S
         column-size = p .column-size;
       }
 
-  -- no cost after t slots exceeds the start's prices and a full rack for each slot
+  -- No cost after t slots exceeds the start's prices and a full rack for each slot.
   column-small : (t j : ℕ) → t ≤ instanceOf s .slots → j < length counts → column (instanceOf s) counts 0 t j ≤ mostCost
   column-small t j within inside =
       let accepted = p .ready .accepted in

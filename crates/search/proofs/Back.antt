@@ -11,14 +11,14 @@ use Rattle.columns.specs.Column.{countAtPlace}
 use Rattle.search.specs.Written.{wayThrough}
 use Rattle.search.specs.SearchRequires.{Leading}
 
--- at place j with t slots left: what is left of the way and the slots done make the whole
+-- At place j with t slots left, what is left of the way back and the slots done make the whole plan.
 pub record BackLoop (counts work plan₀ plan : List ℕ) (t j : ℕ) : Type 0 where
   pub within : t ≤ length plan₀
   pub place : j < length counts
   pub size : length plan ≡ length plan₀
   pub whole : wayThrough counts work t j ++ drop t plan ≡ wayThrough counts work (length plan₀) 0
 
--- the count of slot t moves from the way to the plan
+-- The count of slot t moves from the way back to the plan.
 one-back :
     (counts work plan : List ℕ) (t j : ℕ) → t < length plan →
     wayThrough counts work (suc t) j ++ drop (suc t) plan ≡
@@ -37,7 +37,7 @@ module _ {counts work plan₀ : List ℕ} (p : Leading counts work plan₀) wher
       record { within = le-refl (length plan₀); place = omega arith; size = refl; whole = rw (drop-length, append-nil) }
 
   module _ {plan : List ℕ} {t j : ℕ} (f : BackLoop counts work plan₀ plan t j) where
-    -- the row of the slot before lies within the plan's rows
+    -- The row of the slot before lies within the plan's rows.
     pub row-inside : 0 < t → (t - 1) * length counts + length counts ≤ length plan₀ * length counts
     row-inside h = row-within (length counts) {n = length plan₀} (omega arith) (omega arith)
 

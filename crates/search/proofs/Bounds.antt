@@ -9,7 +9,7 @@ use Rattle.lists.specs.Numbers.{le-or-lt}
 use Rattle.lists.specs.Lists.{tabulate, length-tabulate, getD-tabulate}
 use Rattle.search.specs.SearchRequires.{AtMost, Priced}
 
--- a table whose values are at most b
+-- A table whose values are at most b has no entry above b.
 pub table-at-most : (n b : ℕ) (f : ℕ → ℕ) → ((k : ℕ) → k < n → f k ≤ b) → AtMost b (tabulate n f)
 table-at-most n b f h =
     record {
@@ -20,6 +20,6 @@ table-at-most n b f h =
           (le-or-lt n k);
     }
 
--- the price of a rack's modules
+-- The price of a rack's modules is small.
 pub price-small : {price : ℕ} {counts column : List ℕ} → Priced price counts column → (x : ℕ) → x ≤ 200 → price * x ≤ 200000000000
 price-small {price} p x h = mul-le-mul {n₁ = price} {m₁ = x} {n₂ = 1000000000} {m₂ = 200} (p .price-range) h

@@ -19,7 +19,7 @@ module _ (i : Instance) (counts : List ℕ) (l : ℕ) (before : ℕ → ℕ) whe
   unfolding downward fromTop
   downward-last j e = rw (e, sub-self)
 
-  -- a place below the last, from the place above
+  -- The choice of a place below the last is made from that of the place above.
   downward-below :
       (j : ℕ) → j < lastPlace counts →
       downward i counts l before j ≡ servedOrAbove i (countAtPlace counts j) l (before j) j (downward i counts l before (j + 1))
@@ -66,11 +66,11 @@ module _
     stored-places : Downto (λ k. down k .at) j places₀ (set places j (best .at))
     stored-places = downto-more (f .at-places) (omega arith) (ap (λ c. c .at) (f .here))
 
-    -- the entry below is as it was
+    -- The column's entry below place j is as it was.
     entry-below : (x : ℕ) → 0 < j → getD (set column j x) (j - 1) 0 ≡ getD column₀ (j - 1) 0
     entry-below x h = getD-set-other column j (j - 1) x 0 (omega arith) ∙ f .costs .kept (j - 1) (omega arith)
 
-    -- what the place below is asked with
+    -- What serving at the place below asks for is met.
     pub below-in-rack : (x : ℕ) → 0 < j → InRack s h (countAtPlace counts (j - 1)) (getD (set column j x) (j - 1) 0)
     below-in-rack x h =
         record {

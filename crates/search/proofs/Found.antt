@@ -26,7 +26,7 @@ module _ (i : Instance) (counts : List ℕ) where
   selection-inside some t j = upward-inside i counts (i .load t) (column i counts 0 t) some j
 
   module _ (work : List ℕ) (some : 1 ≤ length counts) where
-    -- each byte of the rows is a place
+    -- Each byte of the rows of selections is a place.
     entry-inside : (k : ℕ) → k < i .slots * length counts → getD (selectionsIn i counts work) k 0 < length counts
     unfolding selectionRows
     entry-inside k h =
@@ -36,7 +36,7 @@ module _ (i : Instance) (counts : List ℕ) where
         let there = front-entry (length counts) (selectionRow i counts) (row-size i counts) (i .slots) k 0 rest h in
         rw (there, row-entry t j (mod-lt k some)) (selection-inside some t j)
 
-    -- through the rows the way back is that of the columns
+    -- The way back through the rows of selections is that of the columns.
     way-same :
         (t j : ℕ) → t ≤ i .slots → j < length counts → wayThrough counts (selectionsIn i counts work) t j ≡ wayBack i counts 0 t j
     unfolding wayThrough wayBack selectionRows

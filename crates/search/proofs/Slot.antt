@@ -53,7 +53,7 @@ module _
         let at-place = getD-tabulate (length counts) (λ j. down j .at) k 0 b in
         rw (first .costs-are, first .places-are, cost, at-place)
 
-    -- the upward pass over what it is given is the one over the downward choices
+    -- The upward pass over what it is given is the one over the downward choices.
     same : (j : ℕ) → j < length counts → rising price counts (choiceIn column₁ places₁) j ≡ upward (instanceOf s) counts l (costIn column) j
     unfolding upward
     same j b =

@@ -31,7 +31,7 @@ module _ {price : ℕ} {counts column₀ places₀ : List ℕ} (p : Choices pric
       }
 
   module _ {column places : List ℕ} {best : Choice} {j : ℕ} (f : UpLoop price counts column₀ places₀ column places best j) where
-    -- the choice of the place above, from this one's and the lists' entries
+    -- The choice of the place above is made from this place's choice and the lists' entries.
     abbrev above : Choice
     above =
         cheaper
@@ -64,7 +64,7 @@ module _ {price : ℕ} {counts column₀ places₀ : List ℕ} (p : Choices pric
           places-are = rw (← (p .places-size)) (upto-all (f .at-places) (omega arith));
         }
 
-    -- the sums are small
+    -- The sums of the upward pass are small.
     pub best-small : best .cost ≤ 2 * mostCost
     best-small =
         omega (arith, ap (λ c. c .cost) (f .here), rising-bound price counts (choiceIn column₀ places₀) j, p .small .each j)

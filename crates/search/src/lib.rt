@@ -58,14 +58,7 @@ fn serve_here_or_above(
 }
 
 // The downward pass of a slot with load l, from the last place to place 0: the best of each place and those above.
-fn down_pass(
-    card: &[u8],
-    h: Header,
-    counts: &[u64],
-    l: u64,
-    column: &mut [u64],
-    places: &mut [u8],
-)
+fn down_pass(card: &[u8], h: Header, counts: &[u64], l: u64, column: &mut [u64], places: &mut [u8])
     requires { ⌜ SlotAfter (now card) h (now counts) l (now column) (now places) ⌝ }
     ensures { λ _.
         ⌜ Holds (now (counts .entry))

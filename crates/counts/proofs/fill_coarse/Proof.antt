@@ -7,7 +7,7 @@ use Rattle.counts.proofs.CountsWritten.{power-done, other-done}
 use Rattle.counts.proofs.fill_coarse.Statement.{statement}
 use Rattle.counts.proofs.fill_coarse.Tie as tie
 
--- lengths after stores, and after a part has come back
+-- The lengths of lists after stores, and after a part has come back.
 ruleset back = (length-append, length-take, length-drop, length-set)
 
 known : (s : tie.Start) → Coarse (s .args .m)

@@ -14,7 +14,7 @@ Inv-loop card h counts column₀ work₀ price slots width t₀ column work t = 
 abbrev μ-loop : tie.MeasureT-loop
 μ-loop card h counts column₀ work₀ price slots width t₀ column work t = slots - t
 
--- the start of the function, from its loop
+-- The start of the function, seen from its loop.
 abbrev start : tie.At-loop Inv-loop μ-loop → tie.Start Inv-loop μ-loop
 start c = c .before .before .before .before .before .before .before .before .before .before
 

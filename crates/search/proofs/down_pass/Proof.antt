@@ -15,7 +15,7 @@ Inv-loop card h counts l column₀ places₀ last j₀ best₀ column places j b
 abbrev μ-loop : tie.MeasureT-loop
 μ-loop card h counts l column₀ places₀ last j₀ best₀ column places j best = j
 
--- the start of the function, from its loop
+-- The start of the function, seen from its loop.
 abbrev start : tie.At-loop Inv-loop μ-loop → tie.Start Inv-loop μ-loop
 start c = c .before .before .before .before .before .before .before .before
 

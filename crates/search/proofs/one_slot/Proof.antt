@@ -3,7 +3,7 @@ use borrow.Author.Needs.{needs}
 use Rattle.search.proofs.one_slot.Statement.{statement}
 use Rattle.search.proofs.one_slot.Tie as tie
 
--- the start of the function, from its first call
+-- The start of the function, seen from its first call.
 abbrev start : tie.After-down-pass → tie.Start
 start c = c .before .before .before .before .before .before .before
 

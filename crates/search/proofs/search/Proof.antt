@@ -4,7 +4,7 @@ use borrow.Author.Needs.{needs}
 use Rattle.search.proofs.search.Statement.{statement}
 use Rattle.search.proofs.search.Tie as tie
 
--- the start of the function, from its first call
+-- The start of the function, seen from its first call.
 abbrev start : tie.After-all-slots → tie.Start
 start c = c .before .before .before .before .before .before .before .before
 

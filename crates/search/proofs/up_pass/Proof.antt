@@ -12,7 +12,7 @@ Inv-loop price counts column₀ places₀ j₀ best₀ column places j best = Up
 abbrev μ-loop : tie.MeasureT-loop
 μ-loop price counts column₀ places₀ j₀ best₀ column places j best = length counts - j
 
--- the start of the function, from its loop
+-- The start of the function, seen from its loop.
 abbrev start : tie.At-loop Inv-loop μ-loop → tie.Start Inv-loop μ-loop
 start c = c .before .before .before .before .before .before
 

@@ -11,7 +11,7 @@ Inv-loop counts work plan₀ width t₀ j₀ plan t j = BackLoop counts work pla
 abbrev μ-loop : tie.MeasureT-loop
 μ-loop counts work plan₀ width t₀ j₀ plan t j = t
 
--- the start of the function, from its loop
+-- The start of the function, seen from its loop.
 abbrev start : tie.At-loop Inv-loop μ-loop → tie.Start Inv-loop μ-loop
 start c = c .before .before .before .before
 

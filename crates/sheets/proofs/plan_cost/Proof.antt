@@ -19,7 +19,7 @@ Inv-loop card h plan top cost₀ prev₀ t₀ cost prev t =
 abbrev μ-loop : tie.MeasureT-loop
 μ-loop card h plan top cost₀ prev₀ t₀ cost prev t = length plan - t
 
--- the start of the function, from its loop
+-- The start of the function, seen from its loop.
 abbrev start : tie.At-loop Inv-loop μ-loop → tie.Start Inv-loop μ-loop
 start c = c .before .before .before
 

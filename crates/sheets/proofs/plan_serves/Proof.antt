@@ -18,7 +18,7 @@ Inv-loop card plan top t₀ t = Passed (instanceOf card .slots) (λ u. canServe 
 abbrev μ-loop : tie.MeasureT-loop
 μ-loop card plan top t₀ t = length plan - t
 
--- the start of the function, from its loop
+-- The start of the function, seen from its loop.
 abbrev start : tie.At-loop Inv-loop μ-loop → tie.Start Inv-loop μ-loop
 start c = c .before .before .before
 

@@ -14,7 +14,7 @@ Inv-loop card h row cost₀ k₀ cost k = Summed (length row) (λ j. byteCost (i
 abbrev μ-loop : tie.MeasureT-loop
 μ-loop card h row cost₀ k₀ cost k = length row - k
 
--- the start of the function, from its loop
+-- The start of the function, seen from its loop.
 abbrev start : tie.At-loop Inv-loop μ-loop → tie.Start Inv-loop μ-loop
 start c = c .before .before .before
 

@@ -15,7 +15,7 @@ Inv-loop card h earlier later cost₀ x₀ cost x =
 abbrev μ-loop : tie.MeasureT-loop
 μ-loop card h earlier later cost₀ x₀ cost x = length later - x
 
--- the start of the function, from its loop
+-- The start of the function, seen from its loop.
 abbrev start : tie.At-loop Inv-loop μ-loop → tie.Start Inv-loop μ-loop
 start c = c .before .before .before .before
 

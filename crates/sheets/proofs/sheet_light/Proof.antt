@@ -17,7 +17,7 @@ Inv-loop card sheet modules slots top t₀ t =
 abbrev μ-loop : tie.MeasureT-loop
 μ-loop card sheet modules slots top t₀ t = slots - t
 
--- the start of the function, from its loop
+-- The start of the function, seen from its loop.
 abbrev start : tie.At-loop Inv-loop μ-loop → tie.Start Inv-loop μ-loop
 start c = c .before .before .before
 

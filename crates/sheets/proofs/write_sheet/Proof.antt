@@ -15,7 +15,7 @@ Inv-loop card plan sheet₀ modules top t₀ sheet t = Filled (instanceOf card) 
 abbrev μ-loop : tie.MeasureT-loop
 μ-loop card plan sheet₀ modules top t₀ sheet t = length plan - t
 
--- the start of the function, from its loop
+-- The start of the function, seen from its loop.
 abbrev start : tie.At-loop Inv-loop μ-loop → tie.Start Inv-loop μ-loop
 start c = c .before .before .before .before
 
