@@ -17,8 +17,8 @@ use Rattle.model.specs.Instance.{Instance, instanceOf, headLength, markO
 use Rattle.model.specs.Instance.{convex, neverFalls, pricesInRange, loadsInRange}
 use Rattle.model.specs.Counts.{canServe, operatingCost, roundedCount}
 use Rattle.model.specs.Sheets.{sheetLength, sheetEntries, sheetLight, sheetCost}
-use Rattle.model.specs.Plans.{planServes, planCost, sheetOf, leastCost}
-use Rattle.model.specs.Planners.{Planner, allowedCounts, workBytes, plannerRefusals, plannedBy}
+use Rattle.model.specs.Plans.{planServes, planCost, sheetOf}
+use Rattle.model.specs.Planners.{Planner, workBytes, plannerRefusals, plannedBy, plannedCost}
 
 -- The calls, each with what it is handed: the bytes of card, plan, work and sheet at entry, and numbers.
 pub data Call : Type 0 where
@@ -163,7 +163,7 @@ lowest test (x ∷ xs) success = cond (test x) (Refused x) (lowest test xs succe
 unfoldable pub successCost : Call → ℕ
 successCost (checkCard c) = 0
 successCost (runningCost c n l) = operatingCost (instanceOf c) n l
-successCost (planShow k c p w) = leastCost (instanceOf c) (allowedCounts k (instanceOf c .modules))
+successCost (planShow k c p w) = plannedCost k (instanceOf c)
 successCost (makeSheet c p s) = planCost (instanceOf c) p
 successCost (markSheet c s) = sheetCost (instanceOf c) s
 successCost (roundCount n m) = roundedCount m n

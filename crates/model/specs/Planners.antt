@@ -5,7 +5,7 @@ use Rattle.model.specs.declared.Refusal.{Refusal}
 use Rattle.model.specs.declared.Refusal.the-variants.{NotMonotone, BufferTooShort}
 use Rattle.model.specs.Instance.{Instance}
 use Rattle.model.specs.Counts.{allCounts, coarseCounts}
-use Rattle.model.specs.Plans.{leastPlan}
+use Rattle.model.specs.Plans.{leastPlan, leastCost}
 
 pub data Planner : Type 0 where
   exact : Planner
@@ -35,3 +35,7 @@ ratioOf coarse = 2
 -- 'each plan is least among the plans that serve every load with the counts allowed it'
 unfoldable pub plannedBy : Planner → Instance → List ℕ
 plannedBy k i = leastPlan i (allowedCounts k (i .modules))
+
+-- The cost of a planner's plan (01: its 'figure').
+abbrev pub plannedCost : Planner → Instance → ℕ
+plannedCost k i = leastCost i (allowedCounts k (i .modules))

@@ -1,1 +1,1 @@
-mod Least
+mod Planned

@@ -1,14 +1,16 @@
-// The two planners on an accepted card: one search, over all counts or over the coarse ones.
+// The planners on an accepted card: one search, over the counts that are allowed the planner.
 use card::Header;
+use counts::PlannerKind;
 ghost use mathlib.Core.Path.{_≡_};
 ghost use lib.ListN.{length, replicate};
 ghost use Rattle.model.specs.Instance.{instanceOf};
-ghost use Rattle.model.specs.Plans.{planCost, leastPlan};
-ghost use Rattle.model.specs.Calls.{exactPlan, coarsePlan};
-ghost use Rattle.planners.specs.Asked.{PlanOver, RackRoom, ExactBuffers, CoarseBuffers, CoarseNumbers};
+ghost use Rattle.model.specs.Plans.{leastPlan, leastCost};
+ghost use Rattle.model.specs.Planners.{plannedBy, plannedCost};
+ghost use Rattle.counts.specs.AllowedCounts.{plannerOf};
+ghost use Rattle.planners.specs.PlannerRequires.{PlanOver, NumberRoom, Buffers};
 
-// The least plan over a list of allowed counts, with room for a column.
-fn plan_with(
+// The least plan over a list of allowed counts and its cost, with room for a column.
+fn least_with_column(
     card: &[u8],
     h: Header,
     counts: &[u64],
@@ -17,8 +19,8 @@ fn plan_with(
     work: &mut [u8],
 ) -> u64
     requires { ⌜ PlanOver (now card) h (now counts) (now plan) (now work) ⌝ }
-    requires { ⌜ RackRoom (now column) ⌝ }
-    ensures { λ r. ⌜ r ≡ planCost (instanceOf (now (card .entry))) (leastPlan (instanceOf (now (card .entry))) (now (counts .entry))) ⌝ }
+    requires { ⌜ NumberRoom (now column) ⌝ }
+    ensures { λ r. ⌜ r ≡ leastCost (instanceOf (now (card .entry))) (now (counts .entry)) ⌝ }
     ensures { λ _. ⌜ now (plan .exit) ≡ leastPlan (instanceOf (now (card .entry))) (now (counts .entry)) ⌝ }
     ensures { λ _. ⌜ now (work .exit) ≡ replicate (length (now (work .entry))) 0 ⌝ }
 {
@@ -26,59 +28,43 @@ fn plan_with(
     search::search(card, h, counts, &mut column[..width], plan, work)
 }
 
-// The least plan over a list of allowed counts.
-fn plan_over(card: &[u8], h: Header, counts: &[u64], plan: &mut [u8], work: &mut [u8]) -> u64
+// The least plan over a list of allowed counts and its cost.
+fn least_over(card: &[u8], h: Header, counts: &[u64], plan: &mut [u8], work: &mut [u8]) -> u64
     requires { ⌜ PlanOver (now card) h (now counts) (now plan) (now work) ⌝ }
-    ensures { λ r. ⌜ r ≡ planCost (instanceOf (now (card .entry))) (leastPlan (instanceOf (now (card .entry))) (now (counts .entry))) ⌝ }
+    ensures { λ r. ⌜ r ≡ leastCost (instanceOf (now (card .entry))) (now (counts .entry)) ⌝ }
     ensures { λ _. ⌜ now (plan .exit) ≡ leastPlan (instanceOf (now (card .entry))) (now (counts .entry)) ⌝ }
     ensures { λ _. ⌜ now (work .exit) ≡ replicate (length (now (work .entry))) 0 ⌝ }
 {
     let mut column = [0u64; 201];
-    plan_with(card, h, counts, &mut column, plan, work)
+    least_with_column(card, h, counts, &mut column, plan, work)
 }
 
-// The exact plan, with room for all counts from 0 to m.
-fn exact_over(card: &[u8], h: Header, counts: &mut [u64], plan: &mut [u8], work: &mut [u8]) -> u64
-    requires { ⌜ ExactBuffers (now card) h (now plan) (now work) ⌝ }
-    requires { ⌜ RackRoom (now counts) ⌝ }
-    ensures { λ r. ⌜ r ≡ planCost (instanceOf (now (card .entry))) (exactPlan (instanceOf (now (card .entry)))) ⌝ }
-    ensures { λ _. ⌜ now (plan .exit) ≡ exactPlan (instanceOf (now (card .entry))) ⌝ }
+// A planner's plan and its cost, with room for the planner's counts.
+fn plan_with_counts(
+    kind: PlannerKind,
+    card: &[u8],
+    h: Header,
+    counts: &mut [u64],
+    plan: &mut [u8],
+    work: &mut [u8],
+) -> u64
+    requires { ⌜ Buffers (plannerOf kind) (now card) h (now plan) (now work) ⌝ }
+    requires { ⌜ NumberRoom (now counts) ⌝ }
+    ensures { λ r. ⌜ r ≡ plannedCost (plannerOf kind) (instanceOf (now (card .entry))) ⌝ }
+    ensures { λ _. ⌜ now (plan .exit) ≡ plannedBy (plannerOf kind) (instanceOf (now (card .entry))) ⌝ }
     ensures { λ _. ⌜ now (work .exit) ≡ replicate (length (now (work .entry))) 0 ⌝ }
 {
-    let width = counts::fill_all(counts, h.modules);
-    plan_over(card, h, &counts[..width], plan, work)
+    let width = counts::fill_counts(kind, counts, h.modules);
+    least_over(card, h, &counts[..width], plan, work)
 }
 
-// The exact planner: a plan of least cost over all counts, and its cost.
-pub fn exact(card: &[u8], h: Header, plan: &mut [u8], work: &mut [u8]) -> u64
-    requires { ⌜ ExactBuffers (now card) h (now plan) (now work) ⌝ }
-    ensures { λ r. ⌜ r ≡ planCost (instanceOf (now (card .entry))) (exactPlan (instanceOf (now (card .entry)))) ⌝ }
-    ensures { λ _. ⌜ now (plan .exit) ≡ exactPlan (instanceOf (now (card .entry))) ⌝ }
+// A planner's plan, of least cost over the counts that are allowed it, and its cost.
+pub fn plan_by(kind: PlannerKind, card: &[u8], h: Header, plan: &mut [u8], work: &mut [u8]) -> u64
+    requires { ⌜ Buffers (plannerOf kind) (now card) h (now plan) (now work) ⌝ }
+    ensures { λ r. ⌜ r ≡ plannedCost (plannerOf kind) (instanceOf (now (card .entry))) ⌝ }
+    ensures { λ _. ⌜ now (plan .exit) ≡ plannedBy (plannerOf kind) (instanceOf (now (card .entry))) ⌝ }
     ensures { λ _. ⌜ now (work .exit) ≡ replicate (length (now (work .entry))) 0 ⌝ }
 {
     let mut counts = [0u64; 201];
-    exact_over(card, h, &mut counts, plan, work)
-}
-
-// The coarse plan, with room for the coarse counts.
-fn coarse_over(card: &[u8], h: Header, counts: &mut [u64], plan: &mut [u8], work: &mut [u8]) -> u64
-    requires { ⌜ CoarseBuffers (now card) h (now plan) (now work) ⌝ }
-    requires { ⌜ CoarseNumbers (now counts) ⌝ }
-    ensures { λ r. ⌜ r ≡ planCost (instanceOf (now (card .entry))) (coarsePlan (instanceOf (now (card .entry)))) ⌝ }
-    ensures { λ _. ⌜ now (plan .exit) ≡ coarsePlan (instanceOf (now (card .entry))) ⌝ }
-    ensures { λ _. ⌜ now (work .exit) ≡ replicate (length (now (work .entry))) 0 ⌝ }
-{
-    let width = counts::fill_coarse(counts, h.modules);
-    plan_over(card, h, &counts[..width], plan, work)
-}
-
-// The coarse planner: a plan of least cost over 0, the powers of two up to m, and m, and its cost.
-pub fn coarse(card: &[u8], h: Header, plan: &mut [u8], work: &mut [u8]) -> u64
-    requires { ⌜ CoarseBuffers (now card) h (now plan) (now work) ⌝ }
-    ensures { λ r. ⌜ r ≡ planCost (instanceOf (now (card .entry))) (coarsePlan (instanceOf (now (card .entry)))) ⌝ }
-    ensures { λ _. ⌜ now (plan .exit) ≡ coarsePlan (instanceOf (now (card .entry))) ⌝ }
-    ensures { λ _. ⌜ now (work .exit) ≡ replicate (length (now (work .entry))) 0 ⌝ }
-{
-    let mut counts = [0u64; 10];
-    coarse_over(card, h, &mut counts, plan, work)
+    plan_with_counts(kind, card, h, &mut counts, plan, work)
 }

@@ -1,10 +1,10 @@
 use mathlib.Core.Path.{sym}
 use native.Mathlib.Omega.{arith}
 use lib.Seq.{length-take-le}
-use Rattle.planners.proofs.Least.{searchable, planned}
+use Rattle.planners.proofs.Planned.{searchable, least-found}
 use borrow.Author.Needs.{needs}
-use Rattle.planners.proofs.plan_with.Statement.{statement}
-use Rattle.planners.proofs.plan_with.Tie as tie
+use Rattle.planners.proofs.least_with_column.Statement.{statement}
+use Rattle.planners.proofs.least_with_column.Tie as tie
 
 slice-relend-prefix-search : tie.Need-slice-relend-prefix-search
 slice-relend-prefix-search c = search needs
@@ -33,10 +33,10 @@ returns c =
     let done = c .before .before .before .before .before .before in
     let start = done .before .before .before .before .before .before .before .before .before in
     let e = done .search .ensures in
-    planned (start .pre .0) (e .0) (e .1 .0) (e .1 .1 .0)
+    least-found (start .pre .0) (e .0) (e .1 .0) (e .1 .1 .0)
 
-pub plan-with-spec : {M : Type 1} → statement M
-plan-with-spec =
+pub least-with-column-spec : {M : Type 1} → statement M
+least-with-column-spec =
     tie.close
     (tie.spec
     slice-relend-prefix-search

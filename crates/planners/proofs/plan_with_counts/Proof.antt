@@ -1,0 +1,52 @@
+use Rattle.model.specs.Planners.{allowedCounts}
+use Rattle.counts.proofs.Fronts.{front-within, front-length}
+use Rattle.planners.proofs.Planned.{rack-fits, over-front, planned-front}
+use borrow.Author.Needs.{needs}
+use Rattle.planners.proofs.plan_with_counts.Statement.{statement}
+use Rattle.planners.proofs.plan_with_counts.Tie as tie
+
+fill-counts-requires : tie.Need-fill-counts-requires
+fill-counts-requires c κs = let start = c .before .before .before .before .before in rack-fits _ (start .pre .0 .ready) (start .pre .1)
+
+slice-reshare-prefix-least-over : tie.Need-slice-reshare-prefix-least-over
+slice-reshare-prefix-least-over c = let e = c .before .before .fill-counts .ensures in front-within (allowedCounts _) _ _ (e .0) (e .1)
+
+slice-aggregate-least-over : tie.Need-slice-aggregate-least-over
+slice-aggregate-least-over c = let e = c .before .before .before .fill-counts .ensures in front-length (allowedCounts _) _ _ (e .0) (e .1)
+
+least-over-requires : tie.Need-least-over-requires
+least-over-requires c κs =
+    let filled = c .before .before .before .before .before in
+    let start = filled .before .before .before .before .before .before in
+    let e = filled .fill-counts .ensures in
+    over-front _ (start .pre .0) _ (e .0) (e .1)
+
+same-length : tie.Need-same-length
+same-length c = search needs
+
+same-length-2 : tie.Need-same-length-2
+same-length-2 c = search needs
+
+same-length-3 : tie.Need-same-length-3
+same-length-3 c = search needs
+
+returns : tie.Need-returns
+returns c =
+    let done = c .before .before .before .before in
+    let filled = done .before .before .before .before .before .before in
+    let start = filled .before .before .before .before .before .before in
+    let e = filled .fill-counts .ensures in
+    planned-front _ (start .pre .0) _ (e .0) (e .1) (done .least-over .ensures)
+
+pub plan-with-counts-spec : {M : Type 1} → statement M
+plan-with-counts-spec =
+    tie.close
+    (tie.spec
+    fill-counts-requires
+    slice-reshare-prefix-least-over
+    slice-aggregate-least-over
+    least-over-requires
+    same-length
+    same-length-2
+    same-length-3
+    returns)
