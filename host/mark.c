@@ -1,4 +1,5 @@
-/* A small host: marks the two sheets of document 01's example D, then plans the card and marks the planner's own sheet.
+/* A small host: marks the two sheets of document 01's example D and two that are refused, then plans the card and marks the planner's
+ * own sheet.
  *
  *   gcc -std=c11 -Wall -Wextra -Werror -Iinclude host/mark.c target/staticlib/liblamp.a -o target/host/mark
  */
@@ -11,10 +12,25 @@ static const uint8_t card[] = {0x44, 0x4C, 0x53, 0x01, 0x00, 0x03, 0x02, 0x03, 0
                                0x00, 0x02, 0x00, 0x00, 0x00, 0x01, 0x00, 0x00, 0x00, 0x02, 0x00, 0x00,
                                0x00, 0x04, 0x00, 0x00, 0x00, 0x06, 0x00, 0x00, 0x00, 0x02, 0x00};
 
+/* The words of document 01 for the refusals of marking a sheet on an accepted card; the others by their number alone. */
+static const char *word(uint64_t number)
+{
+    switch (number) {
+    case LAMP_WRONG_LENGTH:
+        return " (roll)";
+    case LAMP_ENTRY_RANGE:
+        return " (entry)";
+    case LAMP_LOAD_NOT_SERVED:
+        return " (light)";
+    default:
+        return "";
+    }
+}
+
 static void print(struct lamp_answer answer)
 {
     if (answer.number != 0)
-        printf("refused %" PRIu64 "\n", answer.number);
+        printf("refused %" PRIu64 "%s\n", answer.number, word(answer.number));
     else
         printf("%" PRIu64 "\n", answer.cost);
 }
@@ -26,6 +42,10 @@ int main(void)
 
     print(lamp_mark(card, sizeof card, sheet, sizeof sheet));
     sheet[8] = 0;
+    print(lamp_mark(card, sizeof card, sheet, sizeof sheet));
+    sheet[8] = 1;
+    print(lamp_mark(card, sizeof card, sheet, sizeof sheet));
+    sheet[8] = 3;
     print(lamp_mark(card, sizeof card, sheet, sizeof sheet));
 
     print(lamp_plan_exact(card, sizeof card, plan, sizeof plan, work, sizeof work));
