@@ -1,46 +1,104 @@
 #!/usr/bin/env python3
-"""After `rt must-fail` or `rt ci`: a line for each must-fail edit, with the first fact that the check refused.
+"""After `rt ci` or `rt must-fail`: compares docs/EDITS.md with the must-fail edits and with the logs of the run.
 
-Fails where an edit was refused for its shape alone (a name or a need that does not exist), and where docs/PROMISES.md has no line for
-the edit, or one that names another fact."""
+Prints a line for each fault, and last how many edits were compared. A fault is: an edit without a log, a log without an edit, an edit that
+was not refused, one that was refused for its shape (a name that does not exist, or a sum, an index or a cast that is not safe) and not
+for what a contract or a theorem says, one whose log names no fact, and each line in which docs/EDITS.md differs from what --write writes.
+With --write the file is written, if there is no other fault."""
+import argparse
+import difflib
 import pathlib
 import re
 import sys
 
-ROOT = pathlib.Path(__file__).resolve().parent.parent
-SHAPE = ("can be named from here", "is not in scope", "has no field")
+HEAD = """# The must-fail edits
+
+Each edit under `crates/*/must-fail` makes a program, a definition or a statement wrong, and `rt ci` must refuse it. This table is
+written by `tests/edit_needs.py --write` after a run of the gate, and says of each edit what it does, in the words of its file, and the
+function or the module with the first fact that the check refused.
+
+| edit | what it does | the fact that refused it |
+|---|---|---|
+"""
+
+# What the check says of a name that does not exist, and the needs by which code is safe.
+UNKNOWN = ("can be named from here", "is not in scope", "has no field")
+SAFETY = re.compile(r"(add|sub|mul|div|rem|cast|slice|shared-slice|array|part|enum-known)-")
 
 
 def first_fact(crate, text):
-    """The function or module and the need that the check refused first."""
+    """What was refused first, or None: the function or the module, the need or the statement, the row of an example, and whether a
+    function's need it is."""
     errors = [line for line in text.splitlines() if ": error" in line]
-    unproved = re.search(r"^fn (\S+): no proof.*does not close `([^`]+)`", text, re.M)
     if not errors or "was not admitted" in errors[0]:
-        return f"{unproved.group(1)} {unproved.group(2)}" if unproved else "?"
-    place = re.search(r"(?:proofs|specs)/(\S+?)(?:/Proof)?\.antt", errors[0])
+        unproved = re.search(r"^fn (\S+): no proof.*does not close `([^`]+)`", text, re.M)
+        return (unproved[1], unproved[2], None, True) if unproved else None
+    place = re.search(r"(?:proofs|specs)/(\S+?)(/Proof)?\.antt", errors[0])
     name = re.search(r"error: `([^`]+)`", errors[0])
-    fact = f"{place.group(1) if place else '?'} {name.group(1) if name else '?'}"
-    row = re.search(r'(?:Failed|verdict) \(\((?:row|one) "([^"]+)"', text)
-    return f'{fact}, row "{row.group(1)}"' if row and crate == "model" else fact
+    row = re.search(r'(?:Failed|verdict) \(\((?:row|one) "([^"]+)"', text) if crate == "model" else None
+    return (place[1], name[1], row and row[1], place[2] is not None) if place and name else None
 
 
-def promised():
-    """The fact that docs/PROMISES.md names for each edit."""
-    table = (ROOT / "docs" / "PROMISES.md").read_text(encoding="utf-8")
-    return {m[1]: m[2].replace("`", "") for m in re.finditer(r"^\| (\w+/\w+) \| .* \| ([^|]*) \|$", table, re.M)}
+def has_shape_error(text):
+    """Some name does not exist."""
+    return any(": error" in line and any(words in line for words in UNKNOWN) for line in text.splitlines())
+
+
+def examine(edit, log):
+    """The line of an edit in the table, or its fault."""
+    crate, comment = edit.parent.parent.name, edit.read_text(encoding="utf-8").splitlines()[:1]
+    name = f"{crate}/{edit.stem}"
+    if not comment or not comment[0].startswith("# "):
+        return None, f"{name}: the first line of the edit does not say what it does"
+    if not log.is_file():
+        return None, f"{name}: there is no log of it"
+    text = log.read_text(encoding="utf-8", errors="replace")
+    if not re.search(r"^logic=not-proved", text, re.M):
+        return None, f"{name}: it was not refused"
+    fact = first_fact(crate, text)
+    if fact is None:
+        return None, f"{name}: its log names no fact"
+    place, need, row, of_code = fact
+    if has_shape_error(text) or (of_code and SAFETY.match(need)):
+        return None, f"{name}: it was refused for its shape, at {place} {need}"
+    does = comment[0][2:].strip().replace("|", "\\|")
+    return f"| {name} | {does} | {place} `{need}`" + (f', row "{row}" |' if row else " |"), None
 
 
 def main():
-    bad, lines = 0, promised()
-    for log in sorted((ROOT / "target" / "must-fail").glob("*/*/.log")):
-        edit = f"{log.parent.parent.name}/{log.parent.name}"
-        text = log.read_text(encoding="utf-8", errors="replace")
-        fact = first_fact(log.parent.parent.name, text)
-        shape = any(": error" in line and any(s in line for s in SHAPE) for line in text.splitlines())
-        fault = "  REFUSED FOR ITS SHAPE" if shape else "" if lines.get(edit) == fact else f"  PROMISES HAS {lines.get(edit)}"
-        bad += fault != ""
-        print(f"{edit}: {fact}{fault}")
-    sys.exit(1 if bad else 0)
+    options = argparse.ArgumentParser(description=__doc__, formatter_class=argparse.RawDescriptionHelpFormatter)
+    options.add_argument("--write", action="store_true", help="write docs/EDITS.md")
+    options.add_argument("--root", type=pathlib.Path, default=pathlib.Path(__file__).resolve().parent.parent, help="another tree")
+    given = options.parse_args()
+    logs, table = given.root / "target" / "must-fail", given.root / "docs" / "EDITS.md"
+
+    edits = sorted(given.root.glob("crates/*/must-fail/*.edit"), key=lambda e: (e.parent.parent.name, e.stem))
+    names = {(e.parent.parent.name, e.stem) for e in edits}
+    lines, faults = [], []
+    for edit in edits:
+        line, fault = examine(edit, logs / edit.parent.parent.name / edit.stem / ".log")
+        (faults if fault else lines).append(fault or line)
+    for log in sorted(logs.glob("*/*/.log")):
+        if (log.parent.parent.name, log.parent.name) not in names:
+            faults.append(f"{log.parent.parent.name}/{log.parent.name}: there is a log of it, and no edit")
+    if not edits:
+        faults.append("there is no edit under crates/*/must-fail")
+
+    wanted = HEAD + "".join(line + "\n" for line in lines)
+    if given.write and not faults:
+        table.parent.mkdir(exist_ok=True)
+        table.write_text(wanted, encoding="utf-8")
+    found = table.read_text(encoding="utf-8") if table.is_file() else ""
+    for line in difflib.ndiff(found.splitlines(), wanted.splitlines()):
+        if line[0] in "+-":
+            faults.append(f"docs/EDITS.md {'lacks' if line[0] == '+' else 'should not have'} the line: {line[2:]}")
+    if found != wanted and found.splitlines() == wanted.splitlines():
+        faults.append("docs/EDITS.md has another end of line than it should")
+
+    for fault in faults:
+        print(fault)
+    print(f"{len(edits)} must-fail edits compared, {len(faults)} faults")
+    return 1 if faults else 0
 
 
-main()
+sys.exit(main())

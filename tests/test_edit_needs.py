@@ -1,0 +1,112 @@
+#!/usr/bin/env python3
+"""tests/edit_needs.py on made-up trees: it passes where all is right, and fails for each fault by itself."""
+import pathlib
+import subprocess
+import sys
+import tempfile
+
+SCRIPT = pathlib.Path(__file__).resolve().parent / "edit_needs.py"
+REFUSED = "logic=not-proved\n"
+LOGS = {
+    "code/none_written": "/x/proofs/way_back/Proof.antt:27:16: error: `loop-holds`: the two types differ\n" + REFUSED,
+    "code/off_by_one": "/x/proofs/check/Proof.antt:3:5: error: `check-spec`: `close` was not admitted\n"
+    "fn code::number: no proof: expected `number-spec` in /x/Proof.antt; `search` does not close `returns-4`\n" + REFUSED,
+    "model/by_counts": '/x/specs/Examples.antt:7:16: error: `starred-hold`: the part `verdict ((row "D" (call 1)) .name)`\n' + REFUSED,
+    "theory/too_strong": "/x/specs/Condition3.antt:90:67: error: `list-ratio`: the two types differ\n" + REFUSED,
+    "theory/a_sum": "/x/specs/Tables.antt:9:6: error: `add-entries`: the two types differ\n" + REFUSED,
+}
+FACTS = {
+    "code/none_written": "way_back `loop-holds`",
+    "code/off_by_one": "code::number `returns-4`",
+    "model/by_counts": 'Examples `starred-hold`, row "D"',
+    "theory/too_strong": "Condition3 `list-ratio`",
+    "theory/a_sum": "Tables `add-entries`",
+}
+UNKNOWN = "/x/proofs/way_back/Proof.antt:9:1: error: `returns-3`: no `returns-3` can be named from here\n" + REFUSED
+UNSAFE = "/x/proofs/way_back/Proof.antt:9:1: error: `add-cost`: the sum may not fit\n" + REFUSED
+done = 0
+
+
+def log_of(root, name):
+    return root / "target" / "must-fail" / name / ".log"
+
+
+def edit_of(root, name):
+    crate, label = name.split("/")
+    return root / "crates" / crate / "must-fail" / f"{label}.edit"
+
+
+def put(path, text):
+    path.parent.mkdir(parents=True, exist_ok=True)
+    path.write_text(text, encoding="utf-8")
+
+
+def run(root, *words):
+    """The exit status and the lines that the script prints."""
+    ended = subprocess.run([sys.executable, SCRIPT, "--root", root, *words], capture_output=True, text=True)
+    assert ended.stderr == "", ended.stderr
+    return ended.returncode, ended.stdout.splitlines()
+
+
+def with_tree(change, *expected):
+    """A tree in which all is right, and then one change: the expected lines are the faults, without any it passes."""
+    global done
+    with tempfile.TemporaryDirectory() as folder:
+        root = pathlib.Path(folder)
+        for name, text in LOGS.items():
+            put(edit_of(root, name), f"# what {name} does\nfile: src/lib.rt\nold: a\nnew: b\n")
+            put(log_of(root, name), text)
+        status, lines = run(root, "--write")
+        assert (status, lines) == (0, ["5 must-fail edits compared, 0 faults"]), lines
+        table = (root / "docs" / "EDITS.md").read_text(encoding="utf-8")
+        for name, fact in FACTS.items():
+            assert f"| {name} | what {name} does | {fact} |\n" in table, table
+        change(root)
+        before = (root / "docs" / "EDITS.md").read_bytes()
+        status, lines = run(root)
+        assert (root / "docs" / "EDITS.md").read_bytes() == before
+        assert status == (1 if expected else 0), lines
+        for fault in expected:
+            assert any(line.startswith(fault) for line in lines[:-1]), (fault, lines)
+        assert lines[-1].endswith(f" {len(lines) - 1} faults"), lines
+    done += 1
+
+
+def replaced(path, old, new):
+    text = path.read_text(encoding="utf-8")
+    assert old in text
+    path.write_text(text.replace(old, new), encoding="utf-8")
+
+
+def no_edits(root):
+    for name in LOGS:
+        edit_of(root, name).unlink()
+        log_of(root, name).unlink()
+
+
+def rewritten_with_fault(root):
+    log_of(root, "code/none_written").write_text(UNKNOWN, encoding="utf-8")
+    before = (root / "docs" / "EDITS.md").read_bytes()
+    assert run(root, "--write")[0] == 1
+    assert (root / "docs" / "EDITS.md").read_bytes() == before
+
+
+first, table = "code/none_written", "docs/EDITS.md"
+shape = f"{first}: it was refused for its shape"
+with_tree(lambda root: None)
+with_tree(lambda root: log_of(root, first).unlink(), f"{first}: there is no log of it")
+with_tree(lambda root: [log_of(root, name).unlink() for name in LOGS], *(f"{name}: there is no log of it" for name in LOGS))
+with_tree(lambda root: edit_of(root, first).unlink(), f"{first}: there is a log of it, and no edit")
+with_tree(no_edits, "there is no edit")
+with_tree(lambda root: put(log_of(root, first), UNKNOWN), shape)
+with_tree(lambda root: put(log_of(root, first), LOGS[first] + UNKNOWN), shape)
+with_tree(lambda root: put(log_of(root, first), UNSAFE), shape)
+with_tree(lambda root: put(log_of(root, first), "logic=proved functions=1\n"), f"{first}: it was not refused")
+with_tree(lambda root: put(log_of(root, first), REFUSED), f"{first}: its log names no fact")
+with_tree(lambda root: replaced(edit_of(root, first), "# ", ""), f"{first}: the first line of the edit does not say")
+with_tree(lambda root: (root / table).write_text(""), f"{table} lacks the line: | {first} |")
+for change in (lambda root: replaced(root / table, "way_back", "search"), lambda root: replaced(edit_of(root, first), "what", "all that")):
+    with_tree(change, f"{table} lacks the line: | {first} |", f"{table} should not have the line: | {first} |")
+with_tree(lambda root: replaced(root / table, "The must-fail", "Some must-fail"), f"{table} lacks the line: # The")
+with_tree(rewritten_with_fault, shape)
+print(f"edit needs: {done} passed")
