@@ -66,9 +66,10 @@ def with_tree(change, *expected):
         status, lines = run(root)
         assert (root / "docs" / "EDITS.md").read_bytes() == before
         assert status == (1 if expected else 0), lines
+        assert lines[-1].endswith(f" must-fail edits compared, {len(expected)} faults"), lines
+        assert len(lines) == len(expected) + 1, lines
         for fault in expected:
             assert any(line.startswith(fault) for line in lines[:-1]), (fault, lines)
-        assert lines[-1].endswith(f" {len(lines) - 1} faults"), lines
     done += 1
 
 
@@ -76,6 +77,11 @@ def replaced(path, old, new):
     text = path.read_text(encoding="utf-8")
     assert old in text
     path.write_text(text.replace(old, new), encoding="utf-8")
+
+
+def drop_line(path, words):
+    lines = path.read_text(encoding="utf-8").splitlines(keepends=True)
+    path.write_text("".join(line for line in lines if words not in line), encoding="utf-8")
 
 
 def no_edits(root):
@@ -93,20 +99,21 @@ def rewritten_with_fault(root):
 
 first, table = "code/none_written", "docs/EDITS.md"
 shape = f"{first}: it was refused for its shape"
+lacks, extra = f"{table} lacks the line: ", f"{table} should not have the line: "
 with_tree(lambda root: None)
 with_tree(lambda root: log_of(root, first).unlink(), f"{first}: there is no log of it")
 with_tree(lambda root: [log_of(root, name).unlink() for name in LOGS], *(f"{name}: there is no log of it" for name in LOGS))
-with_tree(lambda root: edit_of(root, first).unlink(), f"{first}: there is a log of it, and no edit")
-with_tree(no_edits, "there is no edit")
+with_tree(lambda root: edit_of(root, first).unlink(), f"{first}: there is a log of it, and no edit", f"{extra}| {first} |")
+with_tree(no_edits, "there is no edit", *(f"{extra}| {name} |" for name in LOGS))
 with_tree(lambda root: put(log_of(root, first), UNKNOWN), shape)
 with_tree(lambda root: put(log_of(root, first), LOGS[first] + UNKNOWN), shape)
 with_tree(lambda root: put(log_of(root, first), UNSAFE), shape)
 with_tree(lambda root: put(log_of(root, first), "logic=proved functions=1\n"), f"{first}: it was not refused")
 with_tree(lambda root: put(log_of(root, first), REFUSED), f"{first}: its log names no fact")
 with_tree(lambda root: replaced(edit_of(root, first), "# ", ""), f"{first}: the first line of the edit does not say")
-with_tree(lambda root: (root / table).write_text(""), f"{table} lacks the line: | {first} |")
-for change in (lambda root: replaced(root / table, "way_back", "search"), lambda root: replaced(edit_of(root, first), "what", "all that")):
-    with_tree(change, f"{table} lacks the line: | {first} |", f"{table} should not have the line: | {first} |")
-with_tree(lambda root: replaced(root / table, "The must-fail", "Some must-fail"), f"{table} lacks the line: # The")
+with_tree(lambda root: drop_line(root / table, first), f"{lacks}| {first} |")
+with_tree(lambda root: replaced(root / table, "way_back", "search"), f"{lacks}| {first} |", f"{extra}| {first} |")
+with_tree(lambda root: replaced(edit_of(root, first), "what", "all that"), f"{lacks}| {first} |", f"{extra}| {first} |")
+with_tree(lambda root: replaced(root / table, "# The", "# Some"), f"{lacks}# The", f"{extra}# Some")
 with_tree(rewritten_with_fault, shape)
 print(f"edit needs: {done} passed")
