@@ -1,9 +1,10 @@
 -- The planners as data: what the exact and the coarse planner differ in stands in tables (document 01, 'The plans').
 use Prim.Native.Nat.{ℕ, _+_, _*_}
+use mathlib.Core.Bool.{Bool, true}
 use mathlib.Core.List.{List, [], _∷_}
 use Rattle.model.specs.declared.Refusal.{Refusal}
 use Rattle.model.specs.declared.Refusal.the-variants.{NotMonotone, BufferTooShort}
-use Rattle.model.specs.Instance.{Instance}
+use Rattle.model.specs.Instance.{Instance, neverFalls}
 use Rattle.model.specs.Counts.{allCounts, coarseCounts}
 use Rattle.model.specs.Plans.{leastPlan, leastCost}
 
@@ -25,6 +26,11 @@ workBytes coarse i = 10 * i .slots
 unfoldable pub plannerRefusals : Planner → List Refusal
 plannerRefusals exact = BufferTooShort ∷ []
 plannerRefusals coarse = NotMonotone ∷ BufferTooShort ∷ []
+
+-- The coarse planner's 'table must never fall'; the exact planner takes every convex table.
+unfoldable pub tableAllowed : Planner → Instance → Bool
+tableAllowed exact i = true
+tableAllowed coarse i = neverFalls (i .topStep) (i .table)
 
 -- How many times the least cost of a sheet a planner's cost may be (document 00, condition 3): the exact planner's is the least, the
 -- coarse one's 'at most twice the least'.

@@ -10,11 +10,11 @@ use Rattle.model.specs.Counts.{allCounts, coarseCounts}
 use Rattle.model.specs.Sheets.{serves, sheetCost, countsOf}
 use Rattle.model.specs.Thesis.{countsCost}
 use Rattle.model.specs.Plans.{Allowed, LeastPlan, sheetOf, planCost, leastPlan, leastCost}
-use Rattle.model.specs.Planners.{Planner, exact, coarse, allowedCounts, ratioOf}
+use Rattle.model.specs.Planners.{Planner, exact, coarse, allowedCounts, tableAllowed, ratioOf, plannedCost}
 use Rattle.model.specs.Calls.{Accepted}
 use Rattle.laws.specs.Acceptance.{modules-range, top-range, load-range, table-convex}
 use Rattle.columns.specs.Column.{searchedPlan, searchedCost, Ascending, GrowsBy}
-use Rattle.theory.specs.Hypotheses.{NeverFalls, PlanFits, Plannable, TableAllowed, LeastByCounts}
+use Rattle.theory.specs.Hypotheses.{NeverFalls, PlanFits, Plannable, LeastByCounts}
 use Rattle.theory.specs.Tables.{convex-test, never-falls-test}
 use Rattle.theory.specs.SheetLaws.{sheet-counts-fit, sheet-at-least, plan-sheet-serves, plan-cost-counts}
 use Rattle.columns.specs.Places.{count-fits}
@@ -95,9 +95,9 @@ module _ {i : Instance} (ready : Plannable i) where
 
 -- Condition 3: where a planner's table is allowed, its cost is at most its ratio times what any sheet that serves costs.
 pub planner-bound :
-    (k : Planner) {i : Instance} → Plannable i → TableAllowed k i → (s : List ℕ) → serves i s ≡ true →
-    leastCost i (allowedCounts k (i .modules)) ≤ ratioOf k * sheetCost i s
-unfolding TableAllowed allowedCounts
+    (k : Planner) {i : Instance} → Plannable i → tableAllowed k i ≡ true → (s : List ℕ) → serves i s ≡ true →
+    plannedCost k i ≤ ratioOf k * sheetCost i s
+unfolding tableAllowed allowedCounts
 planner-bound exact ready allowed s e = omega (arith, exact-least ready s e)
 planner-bound coarse ready allowed s e = coarse-twice ready (never-falls-test _ _ .0 allowed) s e
 

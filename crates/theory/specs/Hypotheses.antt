@@ -11,7 +11,6 @@ use Rattle.model.specs.Counts.{canServe, operatingCost}
 use Rattle.model.specs.Sheets.{isOff, stepOf, stepCost, off}
 use Rattle.model.specs.Thesis.{switchingPrice, countAt, slotCost, countsCost}
 use Rattle.model.specs.Plans.{Allowed, NotAfter, planServes}
-use Rattle.model.specs.Planners.{Planner, exact, coarse}
 use Rattle.columns.specs.Column.{countAtPlace}
 
 -- Of a table with the entries f 0 to f q no entry lies above the middle of its neighbours.
@@ -32,11 +31,6 @@ pub record Plannable (i : Instance) : Type 0 where
   pub steps : i .topStep < off
   pub loads : LoadsFit i
   pub convex : Convex (i .topStep) (i .table)
-
--- What a planner asks of the table of an accepted card: the exact one nothing, the coarse one that refusal 9 does not apply.
-unfoldable pub TableAllowed : Planner → Instance → Type 0
-TableAllowed exact i = Unit {0}
-TableAllowed coarse i = neverFalls (i .topStep) (i .table) ≡ true
 
 -- An entry of a row is a step of the table or off.
 abbrev pub Entry : Instance → ℕ → Type 0
