@@ -1,0 +1,190 @@
+// The calls of document 01, each answering every input: the refusals in their order, then what the crates below work out. On an
+// accepted card the work is done by a function that takes the card's header.
+use card::Checked;
+use card::Header;
+use counts::PlannerKind;
+use model::Answer;
+use model::Refusal;
+ghost use mathlib.Core.Path.{_≡_};
+ghost use Rattle.model.specs.Instance.{instanceOf};
+ghost use Rattle.model.specs.Planners.{workBytes, tableAllowed};
+ghost use Rattle.model.specs.Calls.{answer, checkCard, runningCost, planShow, makeSheet, markSheet, roundCount};
+ghost use Rattle.model.specs.Calls.{planAtExit, workAtExit, sheetAtExit};
+ghost use Rattle.card.specs.Checking.{Ready};
+ghost use Rattle.counts.specs.AllowedCounts.{plannerOf};
+
+// Checks a card: refusals 1 to 8, else cost 0.
+pub fn check_card(card: &[u8]) -> Answer
+    ensures { λ r. ⌜ r ≡ answer (checkCard (now (card .entry))) ⌝ }
+{
+    match card::check(card) {
+        Checked::Valid(_) => Answer::Cost(0),
+        Checked::Invalid(x) => Answer::Refused(x),
+    }
+}
+
+// The running cost of a count and a load, on an accepted card.
+fn running_cost_on(card: &[u8], h: Header, count: u64, load: u64) -> Answer
+    requires { ⌜ Ready (now card) h ⌝ }
+    ensures { λ r. ⌜ r ≡ answer (runningCost (now (card .entry)) count load) ⌝ }
+{
+    if h.modules < count {
+        return Answer::Refused(Refusal::EntryRange);
+    }
+    if count * h.topStep < load {
+        return Answer::Refused(Refusal::LoadNotServed);
+    }
+    Answer::Cost(counts::operating_cost(card, h, count, load))
+}
+
+// The running cost of a count and a load: refusals 1 to 8, 12, 13.
+pub fn running_cost(card: &[u8], count: u64, load: u64) -> Answer
+    ensures { λ r. ⌜ r ≡ answer (runningCost (now (card .entry)) count load) ⌝ }
+{
+    match card::check(card) {
+        Checked::Valid(h) => running_cost_on(card, h, count, load),
+        Checked::Invalid(x) => Answer::Refused(x),
+    }
+}
+
+// The smallest allowed count not below the count, in the cost's place: refusals 3 and 12.
+pub fn rounded_count(count: u64, modules: u64) -> Answer
+    ensures { λ r. ⌜ r ≡ answer (roundCount count modules) ⌝ }
+{
+    if !card::rack_number(modules) {
+        return Answer::Refused(Refusal::RackSize);
+    }
+    if modules < count {
+        return Answer::Refused(Refusal::EntryRange);
+    }
+    Answer::Cost(counts::rounded(count, modules))
+}
+
+// Refusals 10 to 13 of the sheet call on an accepted card, or the plan's cost.
+fn check_plan(card: &[u8], h: Header, plan: &[u8], sheet: &[u8]) -> Answer
+    requires { ⌜ Ready (now card) h ⌝ }
+    ensures { λ r. ⌜ r ≡ answer (makeSheet (now (card .entry)) (now (plan .entry)) (now (sheet .entry))) ⌝ }
+{
+    let size = (h.modules * h.slots) as usize;
+    if sheet.len() < size {
+        return Answer::Refused(Refusal::BufferTooShort);
+    }
+    let slots = h.slots as usize;
+    if plan.len() != slots {
+        return Answer::Refused(Refusal::WrongLength);
+    }
+    if !sheets::plan_in_rack(card, h, plan) {
+        return Answer::Refused(Refusal::EntryRange);
+    }
+    if !sheets::plan_serves(card, h, plan) {
+        return Answer::Refused(Refusal::LoadNotServed);
+    }
+    Answer::Cost(sheets::plan_cost(card, h, plan))
+}
+
+// The sheet of a plan on an accepted card: the plan is checked whole before the first byte is written.
+pub fn make_sheet_on(card: &[u8], h: Header, plan: &[u8], sheet: &mut [u8]) -> Answer
+    requires { ⌜ Ready (now card) h ⌝ }
+    ensures { λ r. ⌜ r ≡ answer (makeSheet (now (card .entry)) (now (plan .entry)) (now (sheet .entry))) ⌝ }
+    ensures { λ r. ⌜ now (sheet .exit) ≡ sheetAtExit (makeSheet (now (card .entry)) (now (plan .entry)) (now (sheet .entry))) ⌝ }
+{
+    let found = check_plan(card, h, plan, &sheet[..]);
+    if let Answer::Cost(_) = found {
+        sheets::write_sheet(card, h, plan, sheet);
+    }
+    found
+}
+
+// The sheet of a handed-in plan: refusals 1 to 8, 10 to 13.
+pub fn make_sheet(card: &[u8], plan: &[u8], sheet: &mut [u8]) -> Answer
+    ensures { λ r. ⌜ r ≡ answer (makeSheet (now (card .entry)) (now (plan .entry)) (now (sheet .entry))) ⌝ }
+    ensures { λ r. ⌜ now (sheet .exit) ≡ sheetAtExit (makeSheet (now (card .entry)) (now (plan .entry)) (now (sheet .entry))) ⌝ }
+{
+    match card::check(card) {
+        Checked::Valid(h) => make_sheet_on(card, h, plan, sheet),
+        Checked::Invalid(x) => Answer::Refused(x),
+    }
+}
+
+// Marking on an accepted card.
+fn mark_sheet_on(card: &[u8], h: Header, sheet: &[u8]) -> Answer
+    requires { ⌜ Ready (now card) h ⌝ }
+    ensures { λ r. ⌜ r ≡ answer (markSheet (now (card .entry)) (now (sheet .entry))) ⌝ }
+{
+    let size = (h.modules * h.slots) as usize;
+    if sheet.len() != size {
+        return Answer::Refused(Refusal::WrongLength);
+    }
+    if !sheets::sheet_entries(card, h, sheet) {
+        return Answer::Refused(Refusal::EntryRange);
+    }
+    if !sheets::sheet_light(card, h, sheet) {
+        return Answer::Refused(Refusal::LoadNotServed);
+    }
+    Answer::Cost(sheets::sheet_cost(card, h, sheet))
+}
+
+// The cost of a handed-in sheet, module by module: refusals 1 to 8, 11 to 13.
+pub fn mark_sheet(card: &[u8], sheet: &[u8]) -> Answer
+    ensures { λ r. ⌜ r ≡ answer (markSheet (now (card .entry)) (now (sheet .entry))) ⌝ }
+{
+    match card::check(card) {
+        Checked::Valid(h) => mark_sheet_on(card, h, sheet),
+        Checked::Invalid(x) => Answer::Refused(x),
+    }
+}
+
+// The work bytes that a planner asks for.
+fn work_bytes(kind: PlannerKind, card: &[u8], h: Header) -> usize
+    requires { ⌜ Ready (now card) h ⌝ }
+    ensures { λ r. ⌜ r ≡ workBytes (plannerOf kind) (instanceOf (now (card .entry))) ⌝ }
+{
+    match kind {
+        PlannerKind::Exact => ((h.modules + 1) * h.slots) as usize,
+        PlannerKind::Coarse => (10 * h.slots) as usize,
+    }
+}
+
+// The planner takes the card's table.
+fn table_allowed(kind: PlannerKind, card: &[u8], h: Header) -> bool
+    requires { ⌜ Ready (now card) h ⌝ }
+    ensures { λ r. ⌜ r ≡ tableAllowed (plannerOf kind) (instanceOf (now (card .entry))) ⌝ }
+{
+    match kind {
+        PlannerKind::Exact => true,
+        PlannerKind::Coarse => card::never_falls(card, h),
+    }
+}
+
+// A planner on an accepted card.
+pub fn plan_show_on(kind: PlannerKind, card: &[u8], h: Header, plan: &mut [u8], work: &mut [u8]) -> Answer
+    requires { ⌜ Ready (now card) h ⌝ }
+    ensures { λ r. ⌜ r ≡ answer (planShow (plannerOf kind) (now (card .entry)) (now (plan .entry)) (now (work .entry))) ⌝ }
+    ensures { λ r. ⌜ now (plan .exit) ≡ planAtExit (planShow (plannerOf kind) (now (card .entry)) (now (plan .entry)) (now (work .entry))) ⌝ }
+    ensures { λ r. ⌜ now (work .exit) ≡ workAtExit (planShow (plannerOf kind) (now (card .entry)) (now (plan .entry)) (now (work .entry))) ⌝ }
+{
+    let slots = h.slots as usize;
+    let asked = work_bytes(kind, card, h);
+    if !table_allowed(kind, card, h) {
+        return Answer::Refused(Refusal::NotMonotone);
+    }
+    if plan.len() < slots {
+        return Answer::Refused(Refusal::BufferTooShort);
+    }
+    if work.len() < asked {
+        return Answer::Refused(Refusal::BufferTooShort);
+    }
+    Answer::Cost(planners::plan_by(kind, card, h, &mut plan[..slots], &mut work[..asked]))
+}
+
+// A planner: refusals 1 to 8, 10, for the coarse planner also 9.
+pub fn plan_show(kind: PlannerKind, card: &[u8], plan: &mut [u8], work: &mut [u8]) -> Answer
+    ensures { λ r. ⌜ r ≡ answer (planShow (plannerOf kind) (now (card .entry)) (now (plan .entry)) (now (work .entry))) ⌝ }
+    ensures { λ r. ⌜ now (plan .exit) ≡ planAtExit (planShow (plannerOf kind) (now (card .entry)) (now (plan .entry)) (now (work .entry))) ⌝ }
+    ensures { λ r. ⌜ now (work .exit) ≡ workAtExit (planShow (plannerOf kind) (now (card .entry)) (now (plan .entry)) (now (work .entry))) ⌝ }
+{
+    match card::check(card) {
+        Checked::Valid(h) => plan_show_on(kind, card, h, plan, work),
+        Checked::Invalid(x) => Answer::Refused(x),
+    }
+}
