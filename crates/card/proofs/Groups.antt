@@ -6,10 +6,11 @@ use native.Mathlib.Omega.{arith}
 use Rattle.model.specs.declared.Refusal.{Refusal}
 use Rattle.model.specs.declared.Answer.{Answer}
 use Rattle.model.specs.declared.Answer.the-variants.{Cost, Refused}
-use Rattle.model.specs.Calls.{checkCard, applies, requestOf, lowest, answer, refusals, successCost}
+use Rattle.model.specs.Calls.{checkCard, applies, requestOf, lowest, answer, refusals, successCost, Accepted}
 use Rattle.card.specs.declared.Header.{Header}
-use Rattle.card.specs.declared.Checked.the-variants.{Accepted, NotAccepted}
-use Rattle.card.specs.Checking.{HeaderOf, found, frontRefusals, sizeRefusals, bodyRefusals, headerOf, checkedAs, checkedOf, Ready}
+use Rattle.card.specs.declared.Checked.the-variants.{Valid, Invalid}
+use Rattle.card.specs.Fields.{HeaderOf}
+use Rattle.card.specs.Checking.{lowestAmong, frontRefusals, sizeRefusals, bodyRefusals, headerOf, checkedAs, checkedOf, Ready}
 use Rattle.laws.specs.Lowest.{lowest-refused, lowest-through}
 use Rattle.laws.specs.Acceptance.{modules-range, top-range, slots-range}
 
@@ -22,71 +23,71 @@ module _ (s : List ℕ) where
   unfolding answer refusals successCost lowest
   by-groups = refl
 
-  refused : {x : Refusal} → answer (checkCard s) ≡ Refused x → NotAccepted x ≡ checkedOf s
+  refused : {x : Refusal} → answer (checkCard s) ≡ Refused x → Invalid x ≡ checkedOf s
   unfolding checkedOf
   refused e = rw e
 
   -- the answers of the code's three checks, one after the other
-  module _ {front : Answer} (front-is : front ≡ found s frontRefusals) where
-    pub front-refused : {x : Refusal} → front ≡ Refused x → NotAccepted x ≡ checkedOf s
-    unfolding found
+  module _ {front : Answer} (front-is : front ≡ lowestAmong s frontRefusals) where
+    pub front-refused : {x : Refusal} → front ≡ Refused x → Invalid x ≡ checkedOf s
+    unfolding lowestAmong
     front-refused e = refused (by-groups ∙ lowest-refused _ _ _ refl (sym front-is ∙ e))
 
-    module _ {k : ℕ} (front-passed : front ≡ Cost k) {size : Answer} (size-is : size ≡ found s sizeRefusals) where
+    module _ {k : ℕ} (front-passed : front ≡ Cost k) {size : Answer} (size-is : size ≡ lowestAmong s sizeRefusals) where
       after-front :
           answer (checkCard s) ≡
           lowest (applies (requestOf (checkCard s))) sizeRefusals (lowest (applies (requestOf (checkCard s))) bodyRefusals (Cost 0))
-      unfolding found
+      unfolding lowestAmong
       after-front = by-groups ∙ lowest-through _ _ _ _ (sym front-is ∙ front-passed)
 
-      pub size-refused : {x : Refusal} → size ≡ Refused x → NotAccepted x ≡ checkedOf s
-      unfolding found
+      pub size-refused : {x : Refusal} → size ≡ Refused x → Invalid x ≡ checkedOf s
+      unfolding lowestAmong
       size-refused e = refused (after-front ∙ lowest-refused _ _ _ refl (sym size-is ∙ e))
 
-      module _ {l : ℕ} (size-passed : size ≡ Cost l) {body : Answer} (body-is : body ≡ found s bodyRefusals) where
+      module _ {l : ℕ} (size-passed : size ≡ Cost l) {body : Answer} (body-is : body ≡ lowestAmong s bodyRefusals) where
         after-size : answer (checkCard s) ≡ body
-        unfolding found
+        unfolding lowestAmong
         after-size = after-front ∙ lowest-through _ _ _ _ (sym size-is ∙ size-passed) ∙ sym body-is
 
-        pub body-refused : {x : Refusal} → body ≡ Refused x → NotAccepted x ≡ checkedOf s
+        pub body-refused : {x : Refusal} → body ≡ Refused x → Invalid x ≡ checkedOf s
         body-refused e = refused (after-size ∙ e)
 
-        pub all-passed : {n : ℕ} (h : Header) → HeaderOf s h → body ≡ Cost n → Accepted h ≡ checkedOf s
+        pub all-passed : {n : ℕ} (h : Header) → HeaderOf s h → body ≡ Cost n → Valid h ≡ checkedOf s
         unfolding checkedOf
         all-passed h given e =
             rw (after-size, e)
-            (ap Accepted
+            (ap Valid
             (λ i.
             record {
               modules = given .modules-is i;
-              top = given .top-is i;
+              topStep = given .top-is i;
               slots = given .slots-is i;
-              up = given .up-is i;
-              down = given .down-is i;
+              powerUp = given .up-is i;
+              powerDown = given .down-is i;
             }))
 
 -- The answer behind a check's result.
 module _ (s : List ℕ) where
-  pub refused-answer : {x : Refusal} → checkedOf s ≡ NotAccepted x → answer (checkCard s) ≡ Refused x
+  pub refused-answer : {x : Refusal} → checkedOf s ≡ Invalid x → answer (checkCard s) ≡ Refused x
   unfolding checkedOf
   refused-answer {x} e = go (answer (checkCard s)) e
     where
-      go : (a : Answer) → checkedAs a (headerOf s) ≡ NotAccepted x → a ≡ Refused x
+      go : (a : Answer) → checkedAs a (headerOf s) ≡ Invalid x → a ≡ Refused x
       go (Cost n) f = cc
       go (Refused y) f = cc
 
-  pub accepted-answer : {h : Header} → checkedOf s ≡ Accepted h → (answer (checkCard s) ≡ Cost 0) × (headerOf s ≡ h)
+  pub accepted-answer : {h : Header} → checkedOf s ≡ Valid h → Accepted s × (headerOf s ≡ h)
   unfolding checkedOf answer successCost
   accepted-answer {h} e = go (answer (checkCard s)) refl e
     where
       go :
-          (a : Answer) → answer (checkCard s) ≡ a → checkedAs a (headerOf s) ≡ Accepted h →
-          (answer (checkCard s) ≡ Cost 0) × (headerOf s ≡ h)
+          (a : Answer) → answer (checkCard s) ≡ a → checkedAs a (headerOf s) ≡ Valid h →
+          Accepted s × (headerOf s ≡ h)
       go (Cost n) g f = (lowest-through _ _ _ _ g, cc)
       go (Refused y) g f = (cc, cc)
 
   -- an accepted card is ready for the crates above
-  pub ready : {h : Header} → checkedOf s ≡ Accepted h → Ready s h
+  pub ready : {h : Header} → checkedOf s ≡ Valid h → Ready s h
   ready {h} e =
       let (given, same) = accepted-answer e in
       rw (← same)

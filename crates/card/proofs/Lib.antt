@@ -1,5 +1,5 @@
-pub mod Reading
+pub mod FieldsRead
 pub mod Mark
-pub mod Refusals
+pub mod CardTests
 pub mod Groups
-pub mod Room
+pub mod FieldsThere

@@ -10,12 +10,12 @@ use lib.Dec.{eqb}
 use borrow.Author.Tests.{eq-eqb, ne-eqb}
 use Rattle.lists.specs.Lists.{sameList}
 use Rattle.lists.specs.Bytes.{little-one}
-use Rattle.model.specs.Instance.{markOf, cardMark}
-use Rattle.card.specs.Reading.{ReadAt}
-use Rattle.card.proofs.Reading.{read-at}
+use Rattle.model.specs.Instance.{headLength, markOf, cardMark}
+use Rattle.card.specs.Fields.{ReadAt}
+use Rattle.card.proofs.FieldsRead.{read-at}
 
 mark-bytes :
-    (s : List ℕ) → 17 ≤ length s →
+    (s : List ℕ) → headLength ≤ length s →
     sameList (markOf s) cardMark ≡ (eqb (getD s 0 0) 0x44 && (eqb (getD s 1 0) 0x4C && eqb (getD s 2 0) 0x53))
 unfolding sameList
 mark-bytes [] h = absurd (not-suc-le-zero h)
@@ -23,7 +23,7 @@ mark-bytes (a ∷ []) h = absurd (omega arith)
 mark-bytes (a ∷ b ∷ []) h = absurd (omega arith)
 mark-bytes (a ∷ b ∷ d ∷ s) h = rw (and-true (eqb d 0x53))
 
-module _ (s : List ℕ) (long : 17 ≤ length s) {x p : ℕ} (r : ReadAt s 0 1 x p) where
+module _ (s : List ℕ) (long : headLength ≤ length s) {x p : ℕ} (r : ReadAt s 0 1 x p) where
   first : x ≡ getD s 0 0
   first = r .number ∙ little-one s 0
 

@@ -5,11 +5,18 @@ ghost use mathlib.Core.Path.{_≡_};
 ghost use Prim.Native.Nat.{_+_, _≤_};
 ghost use lib.ListN.{length};
 ghost use Rattle.lists.specs.Lists.{sameList};
-ghost use Rattle.model.specs.Instance.{instanceOf, entryPlace, markOf, cardMark, versionOf};
+ghost use Rattle.lists.specs.Tests.{allOf};
+ghost use Rattle.model.specs.Instance.{instanceOf, headLength, loadPlace, markOf, cardMark, versionOf, rackNumber};
 ghost use Rattle.model.specs.Instance.{convexAt, convex, neverFalls, tableInRange, loadsInRange};
-ghost use Rattle.card.specs.Reading.{Within, ReadAt};
-ghost use Rattle.card.specs.Checking.{TableEntry, SlotLoad, TableWithin, LoadWithin, HeaderOf, Sized};
-ghost use Rattle.card.specs.Checking.{rackInRange, found, frontRefusals, sizeRefusals, bodyRefusals, checkedOf};
+ghost use Rattle.card.specs.Fields.{Within, ReadAt, HeaderOf, Sized, PlaceNear, EntryThere, TableEntry, LoadThere, SlotLoad};
+ghost use Rattle.card.specs.Checking.{ConvexThere, rackOf, lowestAmong, frontRefusals, sizeRefusals, bodyRefusals, checkedOf};
+
+// The places of a card's fields: the version, the modules, with which the rest of the head begins, and the table, where the head ends.
+const VERSION_PLACE: usize = 3;
+
+const MODULES_PLACE: usize = 5;
+
+const HEAD_LENGTH: u64 = 17;
 
 // A place in a card.
 pub struct Cursor {
@@ -73,40 +80,48 @@ impl Cursor {
     }
 }
 
-// The numbers of a card's first 17 bytes.
+// The numbers of a card's head.
 pub struct Header {
     pub modules: u64,
-    pub top: u64,
+    pub topStep: u64,
     pub slots: u64,
-    pub up: u64,
-    pub down: u64,
+    pub powerUp: u64,
+    pub powerDown: u64,
 }
 
-// The answer of the check: the header, or the lowest refusal.
+// The answer of the check: the header of an accepted card, or the lowest refusal.
 pub enum Checked {
-    Accepted(Header),
-    NotAccepted(Refusal),
+    Valid(Header),
+    Invalid(Refusal),
 }
 
 // The table's entry F(k).
-pub fn entry(card: &[u8], k: u64) -> u64
-    requires { ⌜ Within (now card) (entryPlace k) 4 ⌝ }
+pub fn entry(card: &[u8], h: Header, k: u64) -> u64
+    requires { ⌜ EntryThere (now card) h k ⌝ }
     ensures { λ r. ⌜ TableEntry (now (card .entry)) k r ⌝ }
 {
     let place = Cursor {
-        at: (17 + 4 * k) as usize,
+        at: (HEAD_LENGTH + 4 * k) as usize,
     };
     let read = place.four(card);
     read.value
 }
 
-// The load of slot t, where the top step is top.
-pub fn load(card: &[u8], top: u64, t: u64) -> u64
-    requires { ⌜ LoadWithin (now card) top t ⌝ }
+// The place of the load of slot t; with the number of slots for t it is the card's length.
+fn load_place(h: Header, t: u64) -> usize
+    requires { ⌜ PlaceNear h t ⌝ }
+    ensures { λ r. ⌜ r ≡ loadPlace (h .topStep) t ⌝ }
+{
+    (HEAD_LENGTH + 4 * (h.topStep + 1) + 2 * t) as usize
+}
+
+// The load of slot t.
+pub fn load(card: &[u8], h: Header, t: u64) -> u64
+    requires { ⌜ LoadThere (now card) h t ⌝ }
     ensures { λ r. ⌜ SlotLoad (now (card .entry)) t r ⌝ }
 {
     let place = Cursor {
-        at: (17 + 4 * (top + 1) + 2 * t) as usize,
+        at: load_place(h, t),
     };
     let read = place.two(card);
     read.value
@@ -114,7 +129,7 @@ pub fn load(card: &[u8], top: u64, t: u64) -> u64
 
 // The card begins with the mark.
 fn has_mark(card: &[u8]) -> bool
-    requires { ⌜ 17 ≤ length (now card) ⌝ }
+    requires { ⌜ headLength ≤ length (now card) ⌝ }
     ensures { λ r. ⌜ r ≡ sameList (markOf (now (card .entry))) cardMark ⌝ }
 {
     let start = Cursor { at: 0 };
@@ -133,58 +148,62 @@ fn has_mark(card: &[u8]) -> bool
 }
 
 fn version(card: &[u8]) -> u64
-    requires { ⌜ 17 ≤ length (now card) ⌝ }
+    requires { ⌜ headLength ≤ length (now card) ⌝ }
     ensures { λ r. ⌜ r ≡ versionOf (now (card .entry)) ⌝ }
 {
-    let place = Cursor { at: 3 };
+    let place = Cursor { at: VERSION_PLACE };
     let read = place.two(card);
     read.value
 }
 
 fn read_header(card: &[u8]) -> Header
-    requires { ⌜ 17 ≤ length (now card) ⌝ }
+    requires { ⌜ headLength ≤ length (now card) ⌝ }
     ensures { λ r. ⌜ HeaderOf (now (card .entry)) r ⌝ }
 {
-    let place = Cursor { at: 5 };
+    let place = Cursor { at: MODULES_PLACE };
     let modules = place.one(card);
     let at_top = modules.next;
-    let top = at_top.one(card);
-    let at_slots = top.next;
+    let top_step = at_top.one(card);
+    let at_slots = top_step.next;
     let slots = at_slots.two(card);
     let at_up = slots.next;
-    let up = at_up.four(card);
-    let at_down = up.next;
-    let down = at_down.four(card);
+    let power_up = at_up.four(card);
+    let at_down = power_up.next;
+    let power_down = at_down.four(card);
     Header {
         modules: modules.value,
-        top: top.value,
+        topStep: top_step.value,
         slots: slots.value,
-        up: up.value,
-        down: down.value,
+        powerUp: power_up.value,
+        powerDown: power_down.value,
     }
 }
 
-// Both numbers are from 1 to 200.
-fn rack_in_range(modules: u64, top: u64) -> bool
-    ensures { λ r. ⌜ r ≡ rackInRange modules top ⌝ }
+// The number is from 1 to 200.
+pub fn rack_number(n: u64) -> bool
+    ensures { λ r. ⌜ r ≡ rackNumber n ⌝ }
 {
-    if modules < 1 {
+    if n < 1 {
         return false;
     }
-    if 200 < modules {
+    n <= 200
+}
+
+// The modules and the top step are from 1 to 200.
+fn rack_in_range(h: Header) -> bool
+    ensures { λ r. ⌜ r ≡ allOf rackNumber (rackOf h) ⌝ }
+{
+    if !rack_number(h.modules) {
         return false;
     }
-    if top < 1 {
-        return false;
-    }
-    top <= 200
+    rack_number(h.topStep)
 }
 
 // Refusals 1 and 2.
 fn check_front(card: &[u8]) -> Answer
-    ensures { λ r. ⌜ r ≡ found (now (card .entry)) frontRefusals ⌝ }
+    ensures { λ r. ⌜ r ≡ lowestAmong (now (card .entry)) frontRefusals ⌝ }
 {
-    if card.len() < 17 {
+    if card.len() < HEAD_LENGTH as usize {
         return Answer::Refused(Refusal::NotACard);
     }
     if !has_mark(card) {
@@ -199,29 +218,29 @@ fn check_front(card: &[u8]) -> Answer
 // Refusals 3 to 5.
 fn check_size(card: &[u8], h: Header) -> Answer
     requires { ⌜ HeaderOf (now card) h ⌝ }
-    ensures { λ r. ⌜ r ≡ found (now (card .entry)) sizeRefusals ⌝ }
+    ensures { λ r. ⌜ r ≡ lowestAmong (now (card .entry)) sizeRefusals ⌝ }
 {
-    if !rack_in_range(h.modules, h.top) {
+    if !rack_in_range(h) {
         return Answer::Refused(Refusal::RackSize);
     }
     if 1024 < h.slots {
         return Answer::Refused(Refusal::SlotCount);
     }
-    let size = (17 + 4 * (h.top + 1) + 2 * h.slots) as usize;
-    if card.len() != size {
+    if card.len() != load_place(h, h.slots) {
         return Answer::Refused(Refusal::CardLength);
     }
     Answer::Cost(0)
 }
 
-// F(0) to F(top) are at most 1,000,000.
-fn table_in_range(card: &[u8], top: u64) -> bool
-    requires { ⌜ TableWithin (now card) top ⌝ }
-    ensures { λ r. ⌜ r ≡ tableInRange top (instanceOf (now (card .entry)) .table) ⌝ }
+// F(0) to F(Q) are at most 1,000,000.
+fn table_in_range(card: &[u8], h: Header) -> bool
+    requires { ⌜ Sized (now card) h ⌝ }
+    ensures { λ r. ⌜ r ≡ tableInRange (h .topStep) (instanceOf (now (card .entry)) .table) ⌝ }
 {
+    let top_step = h.topStep;
     let mut k: u64 = 0;
-    while k <= top {
-        if 1000000 < entry(card, k) {
+    while k <= top_step {
+        if 1000000 < entry(card, h, k) {
             return false;
         }
         k += 1;
@@ -230,23 +249,24 @@ fn table_in_range(card: &[u8], top: u64) -> bool
 }
 
 // F(k) + F(k + 2) is at least 2F(k + 1).
-fn convex_at(card: &[u8], k: u64) -> bool
-    requires { ⌜ TableWithin (now card) (k + 2) ⌝ }
+fn convex_at(card: &[u8], h: Header, k: u64) -> bool
+    requires { ⌜ ConvexThere (now card) h k ⌝ }
     ensures { λ r. ⌜ r ≡ convexAt (instanceOf (now (card .entry)) .table) k ⌝ }
 {
-    let low = entry(card, k);
-    let middle = entry(card, k + 1);
-    let high = entry(card, k + 2);
+    let low = entry(card, h, k);
+    let middle = entry(card, h, k + 1);
+    let high = entry(card, h, k + 2);
     2 * middle <= low + high
 }
 
-fn is_convex(card: &[u8], top: u64) -> bool
-    requires { ⌜ TableWithin (now card) top ⌝ }
-    ensures { λ r. ⌜ r ≡ convex top (instanceOf (now (card .entry)) .table) ⌝ }
+fn is_convex(card: &[u8], h: Header) -> bool
+    requires { ⌜ Sized (now card) h ⌝ }
+    ensures { λ r. ⌜ r ≡ convex (h .topStep) (instanceOf (now (card .entry)) .table) ⌝ }
 {
+    let top_step = h.topStep;
     let mut k: u64 = 0;
-    while k + 1 < top {
-        if !convex_at(card, k) {
+    while k + 1 < top_step {
+        if !convex_at(card, h, k) {
             return false;
         }
         k += 1;
@@ -254,14 +274,15 @@ fn is_convex(card: &[u8], top: u64) -> bool
     true
 }
 
-// F(0) to F(top) never fall.
-pub fn never_falls(card: &[u8], top: u64) -> bool
-    requires { ⌜ TableWithin (now card) top ⌝ }
-    ensures { λ r. ⌜ r ≡ neverFalls top (instanceOf (now (card .entry)) .table) ⌝ }
+// F(0) to F(Q) never fall.
+pub fn never_falls(card: &[u8], h: Header) -> bool
+    requires { ⌜ Sized (now card) h ⌝ }
+    ensures { λ r. ⌜ r ≡ neverFalls (h .topStep) (instanceOf (now (card .entry)) .table) ⌝ }
 {
+    let top_step = h.topStep;
     let mut k: u64 = 0;
-    while k < top {
-        if entry(card, k + 1) < entry(card, k) {
+    while k < top_step {
+        if entry(card, h, k + 1) < entry(card, h, k) {
             return false;
         }
         k += 1;
@@ -273,12 +294,11 @@ fn loads_in_range(card: &[u8], h: Header) -> bool
     requires { ⌜ Sized (now card) h ⌝ }
     ensures { λ r. ⌜ r ≡ loadsInRange (instanceOf (now (card .entry))) ⌝ }
 {
-    let most = h.modules * h.top;
-    let top = h.top;
+    let most = h.modules * h.topStep;
     let slots = h.slots;
     let mut t: u64 = 0;
     while t < slots {
-        if most < load(card, top, t) {
+        if most < load(card, h, t) {
             return false;
         }
         t += 1;
@@ -289,18 +309,18 @@ fn loads_in_range(card: &[u8], h: Header) -> bool
 // Refusals 6 to 8.
 fn check_body(card: &[u8], h: Header) -> Answer
     requires { ⌜ Sized (now card) h ⌝ }
-    ensures { λ r. ⌜ r ≡ found (now (card .entry)) bodyRefusals ⌝ }
+    ensures { λ r. ⌜ r ≡ lowestAmong (now (card .entry)) bodyRefusals ⌝ }
 {
-    if 500000000 < h.up {
+    if 500000000 < h.powerUp {
         return Answer::Refused(Refusal::PriceRange);
     }
-    if 500000000 < h.down {
+    if 500000000 < h.powerDown {
         return Answer::Refused(Refusal::PriceRange);
     }
-    if !table_in_range(card, h.top) {
+    if !table_in_range(card, h) {
         return Answer::Refused(Refusal::PriceRange);
     }
-    if !is_convex(card, h.top) {
+    if !is_convex(card, h) {
         return Answer::Refused(Refusal::NotConvex);
     }
     if !loads_in_range(card, h) {
@@ -315,16 +335,16 @@ pub fn check(card: &[u8]) -> Checked
 {
     let front = check_front(card);
     if let Answer::Refused(x) = front {
-        return Checked::NotAccepted(x);
+        return Checked::Invalid(x);
     }
     let h = read_header(card);
     let size = check_size(card, h);
     if let Answer::Refused(x) = size {
-        return Checked::NotAccepted(x);
+        return Checked::Invalid(x);
     }
     let body = check_body(card, h);
     if let Answer::Refused(x) = body {
-        return Checked::NotAccepted(x);
+        return Checked::Invalid(x);
     }
-    Checked::Accepted(h)
+    Checked::Valid(h)
 }

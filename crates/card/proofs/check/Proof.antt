@@ -1,4 +1,4 @@
-use Rattle.card.proofs.Refusals.{front-length, size-of}
+use Rattle.card.proofs.CardTests.{front-length, size-of}
 use Rattle.card.proofs.Groups.{front-refused, size-refused, body-refused, all-passed}
 use borrow.Author.Needs.{needs}
 use Rattle.card.proofs.check.Statement.{statement}

@@ -1,6 +1,6 @@
 use borrow.Author.Needs.{needs}
 use Rattle.lists.specs.Tests.{test-failed, test-passed}
-use Rattle.card.proofs.Refusals.{front-short, front-unmarked, front-version, front-passed}
+use Rattle.card.proofs.CardTests.{front-short, front-unmarked, front-version, front-passed}
 use Rattle.card.proofs.check_front.Statement.{statement}
 use Rattle.card.proofs.check_front.Tie as tie
 

@@ -1,5 +1,5 @@
 use Rattle.lists.specs.Tests.{test-failed, test-passed}
-use Rattle.card.proofs.Refusals.{size-rack, size-slots, size-length, size-passed}
+use Rattle.card.proofs.CardTests.{size-rack, size-slots, size-length, size-passed}
 use borrow.Author.Needs.{needs}
 use Rattle.card.proofs.check_size.Statement.{statement}
 use Rattle.card.proofs.check_size.Tie as tie
@@ -13,20 +13,8 @@ returns c = search (size-rack, test-failed)
 returns-2 : tie.Need-returns-2
 returns-2 c = search (size-slots, test-passed)
 
-add-size : tie.Need-add-size
-add-size c = search needs
-
-mul-size : tie.Need-mul-size
-mul-size c = search needs
-
-add-size-2 : tie.Need-add-size-2
-add-size-2 c = search needs
-
-mul-size-2 : tie.Need-mul-size-2
-mul-size-2 c = search needs
-
-add-size-3 : tie.Need-add-size-3
-add-size-3 c = search needs
+load-place-requires : tie.Need-load-place-requires
+load-place-requires c κs = search needs
 
 returns-3 : tie.Need-returns-3
 returns-3 c = search (size-length, test-passed)
@@ -37,14 +25,4 @@ returns-4 c = search (size-passed, test-passed)
 pub check-size-spec : {M : Type 1} → statement M
 check-size-spec =
     tie.close
-    (tie.spec
-    rack-in-range-requires
-    returns
-    returns-2
-    add-size
-    mul-size
-    add-size-2
-    mul-size-2
-    add-size-3
-    returns-3
-    returns-4)
+    (tie.spec rack-in-range-requires returns returns-2 load-place-requires returns-3 returns-4)

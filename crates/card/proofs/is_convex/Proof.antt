@@ -6,10 +6,10 @@ use Rattle.card.proofs.is_convex.Statement.{statement}
 use Rattle.card.proofs.is_convex.Tie as tie
 
 abbrev Inv-loop : tie.InvT-loop
-Inv-loop card top k₀ k = Passed (top - 1) (convexAt (instanceOf card .table)) k
+Inv-loop card h top k₀ k = Passed (top - 1) (convexAt (instanceOf card .table)) k
 
 abbrev μ-loop : tie.MeasureT-loop
-μ-loop card top k₀ k = top - k
+μ-loop card h top k₀ k = top - k
 
 loop-holds : tie.Need-loop-holds Inv-loop μ-loop
 loop-holds c = passed-none _ _

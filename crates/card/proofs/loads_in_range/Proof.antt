@@ -1,3 +1,4 @@
+use borrow.Author.Needs.{needs}
 use Prim.Native.Nat.{_-_}
 use native.Mathlib.Nat.{mul-le-mul}
 use native.Mathlib.Omega.{arith}
@@ -9,10 +10,10 @@ use Rattle.card.proofs.loads_in_range.Statement.{statement}
 use Rattle.card.proofs.loads_in_range.Tie as tie
 
 abbrev Inv-loop : tie.InvT-loop
-Inv-loop card most top slots t₀ t = Passed slots (λ u. leb (instanceOf card .load u) most) t
+Inv-loop card h most slots t₀ t = Passed slots (λ u. leb (instanceOf card .load u) most) t
 
 abbrev μ-loop : tie.MeasureT-loop
-μ-loop card most top slots t₀ t = slots - t
+μ-loop card h most slots t₀ t = slots - t
 
 mul-most : tie.Need-mul-most Inv-loop μ-loop
 mul-most c =
@@ -23,7 +24,7 @@ loop-holds : tie.Need-loop-holds Inv-loop μ-loop
 loop-holds c = passed-none _ _
 
 load-requires : tie.Need-load-requires Inv-loop μ-loop
-load-requires c κs = record { room = omega arith; top-is = c .before .before .before .before .pre .header .top-is }
+load-requires c κs = search needs
 
 returns : tie.Need-returns Inv-loop μ-loop
 unfolding loadsInRange

@@ -8,10 +8,10 @@ use Rattle.card.proofs.never_falls.Statement.{statement}
 use Rattle.card.proofs.never_falls.Tie as tie
 
 abbrev Inv-loop : tie.InvT-loop
-Inv-loop card top k₀ k = Passed top (λ j. leb (instanceOf card .table j) (instanceOf card .table (j + 1))) k
+Inv-loop card h top k₀ k = Passed top (λ j. leb (instanceOf card .table j) (instanceOf card .table (j + 1))) k
 
 abbrev μ-loop : tie.MeasureT-loop
-μ-loop card top k₀ k = top - k
+μ-loop card h top k₀ k = top - k
 
 loop-holds : tie.Need-loop-holds Inv-loop μ-loop
 loop-holds c = passed-none _ _

@@ -1,18 +1,23 @@
-use borrow.Author.Tests.{le-leb, lt-leb}
+use mathlib.Core.Bool.{and-true}
+use Rattle.lists.specs.Tests.{allOf, test-failed, test-passed}
+use borrow.Author.Needs.{needs}
 use Rattle.card.proofs.rack_in_range.Statement.{statement}
 use Rattle.card.proofs.rack_in_range.Tie as tie
 
+rack-number-requires : tie.Need-rack-number-requires
+rack-number-requires c κs = search needs
+
 returns : tie.Need-returns
-returns c = rw (lt-leb 1 _ (c .if1 .taken))
+unfolding allOf
+returns c = rw (test-failed (c .before .rack-number .ensures) (c .if1 .taken))
+
+rack-number-requires-2 : tie.Need-rack-number-requires-2
+rack-number-requires-2 c κs = search needs
 
 returns-2 : tie.Need-returns-2
-returns-2 c = rw (le-leb 1 _ (c .before .if1 .left), lt-leb _ 200 (c .if2 .taken))
-
-returns-3 : tie.Need-returns-3
-returns-3 c = rw (le-leb 1 _ (c .before .before .if1 .left), le-leb _ 200 (c .before .if2 .left), lt-leb 1 _ (c .if3 .taken))
-
-returns-4 : tie.Need-returns-4
-returns-4 c = rw (le-leb 1 _ (c .before .before .if1 .left), le-leb _ 200 (c .before .if2 .left), le-leb 1 _ (c .if3 .left))
+unfolding allOf
+returns-2 c = rw (test-passed (c .before .before .rack-number .ensures) (c .before .if1 .left), and-true) (c .rack-number2 .ensures)
 
 pub rack-in-range-spec : {M : Type 1} → statement M
-rack-in-range-spec = tie.close (tie.spec returns returns-2 returns-3 returns-4)
+rack-in-range-spec =
+    tie.close (tie.spec rack-number-requires returns rack-number-requires-2 returns-2)

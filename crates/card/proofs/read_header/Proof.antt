@@ -2,7 +2,7 @@ use borrow.Author.Needs.{needs}
 use mathlib.Core.Path.{refl}
 use native.Mathlib.Omega.{arith}
 use Rattle.model.specs.Instance.{instanceOf}
-use Rattle.card.proofs.Reading.{read-at}
+use Rattle.card.proofs.FieldsRead.{read-at}
 use Rattle.card.proofs.read_header.Statement.{statement}
 use Rattle.card.proofs.read_header.Tie as tie
 

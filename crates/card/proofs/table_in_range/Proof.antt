@@ -8,10 +8,10 @@ use Rattle.card.proofs.table_in_range.Statement.{statement}
 use Rattle.card.proofs.table_in_range.Tie as tie
 
 abbrev Inv-loop : tie.InvT-loop
-Inv-loop card top k₀ k = Passed (top + 1) (λ j. leb (instanceOf card .table j) 1000000) k
+Inv-loop card h top k₀ k = Passed (top + 1) (λ j. leb (instanceOf card .table j) 1000000) k
 
 abbrev μ-loop : tie.MeasureT-loop
-μ-loop card top k₀ k = top + 1 - k
+μ-loop card h top k₀ k = top + 1 - k
 
 loop-holds : tie.Need-loop-holds Inv-loop μ-loop
 loop-holds c = passed-none _ _
@@ -27,7 +27,7 @@ returns c =
     (rw (← (c .before .entry .ensures .is)) (lt-leb _ _ (c .if1 .taken)))
 
 add-k : tie.Need-add-k Inv-loop μ-loop
-add-k c = omega (arith, c .before .before .before .before .before .good .0, c .before .before .before .before .before .pre .room)
+add-k c = omega arith
 
 loop-less : tie.Need-loop-less Inv-loop μ-loop
 loop-less c = omega arith

@@ -1,5 +1,5 @@
 use borrow.Author.Needs.{needs}
-use Rattle.card.proofs.Reading.{read-join}
+use Rattle.card.proofs.FieldsRead.{read-join}
 use Rattle.card.proofs.Cursor.four.Statement.{statement}
 use Rattle.card.proofs.Cursor.four.Tie as tie
 

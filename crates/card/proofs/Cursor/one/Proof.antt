@@ -1,5 +1,5 @@
 use borrow.Author.Needs.{needs}
-use Rattle.card.proofs.Reading.{read-one}
+use Rattle.card.proofs.FieldsRead.{read-one}
 use native.Mathlib.Omega.{arith}
 use Rattle.card.proofs.Cursor.one.Statement.{statement}
 use Rattle.card.proofs.Cursor.one.Tie as tie

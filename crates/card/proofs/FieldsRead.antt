@@ -7,7 +7,7 @@ use native.Mathlib.Omega.{arith}
 use lib.ListN.{getD}
 use lib.Pow.{pow-add}
 use Rattle.lists.specs.Bytes.{littleEndian, little-one, little-join}
-use Rattle.card.specs.Reading.{ReadAt}
+use Rattle.card.specs.Fields.{ReadAt}
 
 pub read-one : (s : List ℕ) (p x : ℕ) → x ≡ getD s p 0 → x < 256 → ReadAt s p 1 x (p + 1)
 read-one s p x e h = record { number = e ∙ sym (little-one s p); bound = h; position = omega arith }
