@@ -5,10 +5,11 @@ use mathlib.Core.List.{List, _++_}
 use native.Mathlib.Omega.{arith}
 use lib.ListN.{length, take, drop, length-append}
 use lib.Seq.{take-at}
+use Rattle.lists.specs.Lists.{writtenOver}
 
 module _
     (counts : ℕ → List ℕ) (m : ℕ) (old : List ℕ) {new : List ℕ} {r : ℕ} (size : r ≡ length (counts m))
-    (filled : new ≡ counts m ++ drop (length (counts m)) old) where
+    (filled : new ≡ writtenOver (counts m) old) where
   pub front-is : take r new ≡ counts m
   front-is = rw filled (take-at (counts m) (drop (length (counts m)) old) r (sym size))
 

@@ -1,5 +1,5 @@
-pub mod Division
+pub mod Shares
 pub mod Powers
-pub mod Writing
-pub mod Rounding
+pub mod CountsWritten
+pub mod RoundedAmong
 pub mod Fronts

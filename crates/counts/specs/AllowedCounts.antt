@@ -5,31 +5,45 @@ use lib.ListN.{length}
 use lib.Dec.{leb}
 use Rattle.lists.specs.Lists.{tabulate}
 use Rattle.lists.specs.Searching.{firstKept}
+use Rattle.model.specs.Planners.{Planner, exact, coarse}
+use Rattle.counts.specs.declared.PlannerKind.{PlannerKind}
+use Rattle.counts.specs.declared.PlannerKind.the-variants.{Exact, Coarse}
 
--- there is room for all counts from 0 to m
+-- The planner that a kind stands for.
+abbrev pub plannerOf : PlannerKind → Planner
+plannerOf Exact = exact
+plannerOf Coarse = coarse
+
+-- There is room for all counts from 0 to m.
 pub record AllRoom (counts : List ℕ) (m : ℕ) : Type 0 where
   pub room : m + 1 ≤ length counts
 
--- a rack has from 1 to 200 modules, and there is room for all its coarse counts: 0, at most eight powers of two, and m
+-- A rack has from 1 to 200 modules, and there is room for all its coarse counts: 0, at most eight powers of two, and m.
 pub record CoarseRoom (counts : List ℕ) (m : ℕ) : Type 0 where
   pub some : 1 ≤ m
   pub most : m ≤ 200
   pub room : 10 ≤ length counts
 
--- a count of a rack that has from 1 to 200 modules
+-- A rack has from 1 to 200 modules, and there is room for all counts of the largest rack.
+pub record CountsRoom (counts : List ℕ) (m : ℕ) : Type 0 where
+  pub some : 1 ≤ m
+  pub most : m ≤ 200
+  pub room : 201 ≤ length counts
+
+-- A count of a rack that has from 1 to 200 modules.
 pub record RackCount (count modules : ℕ) : Type 0 where
   pub some : 1 ≤ modules
   pub most : modules ≤ 200
   pub in-rack : count ≤ modules
 
--- 0, 1, .., n - 1
+-- The numbers 0, 1, .., n - 1.
 unfoldable pub numbersBelow : ℕ → List ℕ
 numbersBelow n = tabulate n (λ k. k)
 
--- 1, 2, 4, .., the first p powers of two
+-- The first p powers of two: 1, 2, 4 and so on.
 unfoldable pub firstPowers : ℕ → List ℕ
 firstPowers p = tabulate p (λ k. 2 ^ k)
 
--- the first of the list that is not below n, and 0 where all are below
+-- The first of the list that is not below n, and 0 where all are below.
 unfoldable pub firstNotBelow : List ℕ → ℕ → ℕ
 firstNotBelow l n = firstKept (λ a. leb n a) l

@@ -1,12 +1,21 @@
-// Counts of active modules: the lists of allowed counts, the rounded count, and the running cost of a count.
+// Counts of active modules: the planners' lists of allowed counts, the rounded count, and the operating cost of a count.
+use card::Header;
 ghost use mathlib.Core.Path.{_≡_};
-ghost use mathlib.Core.List.{_++_};
 ghost use Prim.Native.Nat.{_^_, _≤_, _<_};
-ghost use lib.ListN.{length, drop};
+ghost use lib.ListN.{length};
+ghost use Rattle.lists.specs.Lists.{writtenOver};
 ghost use Rattle.model.specs.Instance.{instanceOf};
 ghost use Rattle.model.specs.Counts.{operatingCost, allCounts, coarseCounts, roundedCount};
 ghost use Rattle.counts.specs.Serving.{Served};
-ghost use Rattle.counts.specs.AllowedCounts.{AllRoom, CoarseRoom, RackCount, numbersBelow, firstPowers, firstNotBelow};
+ghost use Rattle.model.specs.Planners.{allowedCounts};
+ghost use Rattle.counts.specs.AllowedCounts.{AllRoom, CoarseRoom, CountsRoom, RackCount, plannerOf};
+ghost use Rattle.counts.specs.AllowedCounts.{numbersBelow, firstPowers, firstNotBelow};
+
+// The planners that differ in their counts alone.
+pub enum PlannerKind {
+    Exact,
+    Coarse,
+}
 
 // The powers of two among the coarse counts of the largest rack.
 const POWERS: [u16; 8] = [1, 2, 4, 8, 16, 32, 64, 128];
@@ -31,11 +40,11 @@ fn fill_powers(part: &mut [u64])
     }
 }
 
-// The coarse plan's allowed counts for a rack of m: 0, each power of two up to m, and m. Returns how many they are.
-pub fn fill_coarse(counts: &mut [u64], m: u64) -> usize
+// The coarse planner's allowed counts for a rack of m: 0, each power of two up to m, and m. Returns how many they are.
+fn fill_coarse(counts: &mut [u64], m: u64) -> usize
     requires { ⌜ CoarseRoom (now counts) m ⌝ }
     ensures { λ r. ⌜ r ≡ length (coarseCounts m) ⌝ }
-    ensures { λ r. ⌜ now (counts .exit) ≡ coarseCounts m ++ drop (length (coarseCounts m)) (now (counts .entry)) ⌝ }
+    ensures { λ r. ⌜ now (counts .exit) ≡ writtenOver (coarseCounts m) (now (counts .entry)) ⌝ }
 {
     let powers = (64 - u64::leading_zeros(m)) as usize;
     let end = powers + 1;
@@ -59,15 +68,27 @@ fn fill_places(part: &mut [u64])
     }
 }
 
-// The exact plan's allowed counts for a rack of m: all from 0 to m. Returns how many they are.
-pub fn fill_all(counts: &mut [u64], m: u64) -> usize
+// The exact planner's allowed counts for a rack of m: all from 0 to m. Returns how many they are.
+fn fill_all(counts: &mut [u64], m: u64) -> usize
     requires { ⌜ AllRoom (now counts) m ⌝ }
     ensures { λ r. ⌜ r ≡ length (allCounts m) ⌝ }
-    ensures { λ r. ⌜ now (counts .exit) ≡ allCounts m ++ drop (length (allCounts m)) (now (counts .entry)) ⌝ }
+    ensures { λ r. ⌜ now (counts .exit) ≡ writtenOver (allCounts m) (now (counts .entry)) ⌝ }
 {
     let end = m as usize + 1;
     fill_places(&mut counts[..end]);
     end
+}
+
+// A planner's allowed counts for a rack of m. Returns how many they are.
+pub fn fill_counts(kind: PlannerKind, counts: &mut [u64], m: u64) -> usize
+    requires { ⌜ CountsRoom (now counts) m ⌝ }
+    ensures { λ r. ⌜ r ≡ length (allowedCounts (plannerOf kind) m) ⌝ }
+    ensures { λ r. ⌜ now (counts .exit) ≡ writtenOver (allowedCounts (plannerOf kind) m) (now (counts .entry)) ⌝ }
+{
+    match kind {
+        PlannerKind::Exact => fill_all(counts, m),
+        PlannerKind::Coarse => fill_coarse(counts, m),
+    }
 }
 
 // The first of the counts that is not below the count given, and 0 where all are below.
@@ -95,9 +116,9 @@ pub fn rounded(count: u64, modules: u64) -> u64
     first_not_below(&counts[..n], count)
 }
 
-// Running cost of a count: (n - r)F(q) + rF(q + 1) with q = l / n and r = l % n; F(q + 1) is read only if r is not 0.
-pub fn operating_cost(card: &[u8], n: u64, l: u64) -> u64
-    requires { ⌜ Served (now card) n l ⌝ }
+// The operating cost of a count (01: 'running cost'): (n - r)F(q) + rF(q + 1) with q = l / n and r = l % n; F(q + 1) is read only if r is not 0.
+pub fn operating_cost(card: &[u8], h: Header, n: u64, l: u64) -> u64
+    requires { ⌜ Served (now card) h n l ⌝ }
     ensures { λ r. ⌜ r ≡ operatingCost (instanceOf (now (card .entry))) n l ⌝ }
 {
     if n == 0 {
@@ -106,10 +127,10 @@ pub fn operating_cost(card: &[u8], n: u64, l: u64) -> u64
     let step = l / n;
     let rest = l % n;
     if rest == 0 {
-        return n * card::entry(card, step);
+        return n * card::entry(card, h, step);
     }
     let others = n - rest;
     let next = step + 1;
-    let low = others * card::entry(card, step);
-    low + rest * card::entry(card, next)
+    let low = others * card::entry(card, h, step);
+    low + rest * card::entry(card, h, next)
 }

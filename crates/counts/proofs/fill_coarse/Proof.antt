@@ -3,7 +3,7 @@ use lib.Count.{leading-le}
 use lib.ListN.{length-append, length-take, length-drop, length-set}
 use borrow.Author.Needs.{needs}
 use Rattle.counts.proofs.Powers.{Coarse, coarse-known}
-use Rattle.counts.proofs.Writing.{power-done, other-done}
+use Rattle.counts.proofs.CountsWritten.{power-done, other-done}
 use Rattle.counts.proofs.fill_coarse.Statement.{statement}
 use Rattle.counts.proofs.fill_coarse.Tie as tie
 

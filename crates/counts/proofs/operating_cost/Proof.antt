@@ -2,9 +2,9 @@ use native.Mathlib.Nat.{le-of-lt}
 use native.Mathlib.Omega.{arith}
 use borrow.Author.Needs.{needs}
 use Rattle.model.specs.Instance.{instanceOf}
-use Rattle.card.proofs.Room.{entry-within}
-use Rattle.counts.proofs.Division.{rest-below, step-within, next-within, cost-none, cost-even, cost-uneven}
-use Rattle.counts.proofs.Division.{product-small, product-fits, sum-fits, step-small}
+use Rattle.card.proofs.FieldsThere.{entry-there}
+use Rattle.counts.proofs.Shares.{rest-below, step-within, next-within, cost-none, cost-even, cost-uneven}
+use Rattle.counts.proofs.Shares.{product-small, product-fits, sum-fits, step-small}
 use Rattle.counts.proofs.operating_cost.Statement.{statement}
 use Rattle.counts.proofs.operating_cost.Tie as tie
 
@@ -20,7 +20,7 @@ rem-rest c = search needs
 entry-requires : tie.Need-entry-requires
 entry-requires c κs =
     let p = c .before .before .before .pre in
-    entry-within _ (p .accepted) _ (step-within _ _ (c .before .if1 .left) _ (p .serves))
+    entry-there (p .ready) (step-within _ _ (c .before .if1 .left) _ (p .serves))
 
 mul-result : tie.Need-mul-result
 mul-result c = product-fits (c .before .before .before .before .pre) (omega arith) (c .entry .ensures .bound)
@@ -39,7 +39,7 @@ entry-requires-2 c κs =
     let s = c .before .before .before in
     let top = instanceOf (s .args .card .now) .topStep in
     let above = next-within (s .args .n) (s .args .l) (c .before .if1 .left) top (s .pre .serves) (c .if2 .left) in
-    entry-within _ (s .pre .accepted) _ (omega arith)
+    entry-there (s .pre .ready) (omega arith)
 
 mul-low : tie.Need-mul-low
 mul-low c = product-fits (c .before .before .before .before .pre) (omega arith) (c .entry2 .ensures .bound)
@@ -47,7 +47,7 @@ mul-low c = product-fits (c .before .before .before .before .pre) (omega arith) 
 entry-requires-3 : tie.Need-entry-requires-3
 entry-requires-3 c κs =
     let p = c .before .before .before .before .pre in
-    entry-within _ (p .accepted) _ (next-within _ _ (c .before .before .if1 .left) _ (p .serves) (c .before .if2 .left))
+    entry-there (p .ready) (next-within _ _ (c .before .before .if1 .left) _ (p .serves) (c .before .if2 .left))
 
 mul-result-2 : tie.Need-mul-result-2
 mul-result-2 c =

@@ -1,6 +1,6 @@
 use Rattle.model.specs.Counts.{coarseCounts}
 use Rattle.counts.proofs.Fronts.{front-is, front-within, front-length}
-use Rattle.counts.proofs.Rounding.{rounded-among}
+use Rattle.counts.proofs.RoundedAmong.{rounded-among}
 use borrow.Author.Needs.{needs}
 use Rattle.counts.proofs.rounded.Statement.{statement}
 use Rattle.counts.proofs.rounded.Tie as tie

@@ -11,7 +11,8 @@ use Rattle.lists.specs.Division.{quotient-lt}
 use Rattle.model.specs.Instance.{Instance, instanceOf}
 use Rattle.model.specs.Counts.{operatingCost}
 use Rattle.laws.specs.Acceptance.{modules-range, top-range, table-range}
-use Rattle.laws.specs.Running.{running-bound}
+use Rattle.laws.specs.Operating.{operating-bound}
+use Rattle.card.specs.declared.Header.{Header}
 use Rattle.counts.specs.Serving.{Served}
 
 module _ (n l : ℕ) (some : n ≡ 0 → ⊥) where
@@ -41,27 +42,27 @@ module _ (i : Instance) (n l : ℕ) where
     cost-uneven r {y} y-is = rw (ne-eqb n 0 some, ne-eqb (l % n) 0 r, x-is, y-is)
 
 -- a product of a count and an entry is small, and so is the sum of two
-module _ {s : List ℕ} {n l : ℕ} (p : Served s n l) where
+module _ {s : List ℕ} {h : Header} {n l : ℕ} (p : Served s h n l) where
   pub product-small : {k x : ℕ} → k ≤ n → x < 256 ^ 4 → k * x ≤ 200 * 256 ^ 4
   product-small {k} {x} h b =
-      let rack = modules-range s (p .accepted) .1 in
+      let rack = modules-range s (p .ready .accepted) .1 in
       mul-le-mul {n₁ = k} {m₁ = x} {n₂ = 200} {m₂ = 256 ^ 4} (omega (arith, p .in-rack)) (omega arith)
 
   pub product-fits : {k x : ℕ} → k ≤ n → x < 256 ^ 4 → Fits w64 (k * x)
   product-fits {k} {x} h b = record { fits = omega (arith, product-small h b) }
 
   pub step-small : (n ≡ 0 → ⊥) → l / n ≤ 200
-  step-small some = omega (arith, step-within n l some (instanceOf s .topStep) (p .serves), top-range s (p .accepted) .1)
+  step-small some = omega (arith, step-within n l some (instanceOf s .topStep) (p .serves), top-range s (p .ready .accepted) .1)
 
 pub sum-fits : {a b : ℕ} → a ≤ 200 * 256 ^ 4 → b ≤ 200 * 256 ^ 4 → Fits w64 (a + b)
 sum-fits h g = record { fits = omega arith }
 
 -- A count runs at most 200 modules at 1,000,000 each.
-pub running-most : {s : List ℕ} {n l : ℕ} → Served s n l → operatingCost (instanceOf s) n l ≤ 200 * 1000000
-running-most {s} {n} {l} given =
+pub operating-most : {s : List ℕ} {h : Header} {n l : ℕ} → Served s h n l → operatingCost (instanceOf s) n l ≤ 200 * 1000000
+operating-most {s} {h} {n} {l} given =
     omega (
       arith,
-      running-bound (instanceOf s) 1000000 (table-range s (given .accepted)) n l (given .serves),
+      operating-bound (instanceOf s) 1000000 (table-range s (given .ready .accepted)) n l (given .serves),
       given .in-rack,
-      modules-range s (given .accepted) .1,
+      modules-range s (given .ready .accepted) .1,
     )

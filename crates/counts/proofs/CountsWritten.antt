@@ -11,7 +11,7 @@ use lib.Dec.{eqb}
 use lib.Seq.{length-take-le, take-suc-set, drop-set-lt, drop-cons, set-at}
 use borrow.Author.Tests.{eq-eqb, ne-eqb}
 use borrow.Rule.Slice.PartMut.{putMid, midOf, mid-len, post-is}
-use Rattle.lists.specs.Lists.{tabulate, length-tabulate, getD-tabulate}
+use Rattle.lists.specs.Lists.{tabulate, length-tabulate, getD-tabulate, writtenOver}
 use Rattle.model.specs.Counts.{allCounts, coarseCounts}
 use Rattle.counts.specs.AllowedCounts.{CoarseRoom, numbersBelow, firstPowers}
 use Rattle.counts.proofs.Powers.{powersUpTo, zeroAndPowers, joined, Coarse, coarse-known}
@@ -19,7 +19,7 @@ use Rattle.counts.proofs.Powers.{powersUpTo, zeroAndPowers, joined, Coa
 -- all counts from 0 to m
 pub all-written :
     (m : ℕ) (old : List ℕ) {front : List ℕ} → m + 1 ≤ length old → front ≡ numbersBelow (length (take (m + 1) old)) →
-    (m + 1 ≡ length (allCounts m)) × (front ++ drop (m + 1) old ≡ allCounts m ++ drop (length (allCounts m)) old)
+    (m + 1 ≡ length (allCounts m)) × (front ++ drop (m + 1) old ≡ writtenOver (allCounts m) old)
 unfolding numbersBelow allCounts
 all-written m old room filled =
     let size : length (tabulate (m + 1) (λ n. n)) ≡ m + 1 = length-tabulate (m + 1) (λ n. n) in
@@ -93,7 +93,7 @@ module _ (xs : List ℕ) (m : ℕ) (asked : CoarseRoom xs m) where
       power-length : powersUpTo m + 1 ≡ length (coarseCounts m)
       power-length = sym (ap length power-list ∙ length-zeroAndPowers (powersUpTo m))
 
-      pub power-done : (powersUpTo m + 1 ≡ length (coarseCounts m)) × (after ≡ coarseCounts m ++ drop (length (coarseCounts m)) xs)
+      pub power-done : (powersUpTo m + 1 ≡ length (coarseCounts m)) × (after ≡ writtenOver (coarseCounts m) xs)
       power-done = (power-length, rw (← power-length, power-list) after-is)
 
     -- m is none: it is joined
@@ -107,7 +107,7 @@ module _ (xs : List ℕ) (m : ℕ) (asked : CoarseRoom xs m) where
           let joined = length-append (zeroAndPowers (powersUpTo m)) (m ∷ []) in
           omega (arith, ap length other-list, length-zeroAndPowers (powersUpTo m))
 
-      other-written : set after (powersUpTo m + 1) m ≡ coarseCounts m ++ drop (length (coarseCounts m)) xs
+      other-written : set after (powersUpTo m + 1) m ≡ writtenOver (coarseCounts m) xs
       other-written =
           let inside : powersUpTo m + 1 < length xs = omega (arith, known .high, asked .room) in
           rw (← other-length, other-list, after-is, drop-cons xs (powersUpTo m + 1) 0 inside, add-one (powersUpTo m + 1), append-assoc)
@@ -115,5 +115,5 @@ module _ (xs : List ℕ) (m : ℕ) (asked : CoarseRoom xs m) where
 
       pub other-done :
           (powersUpTo m + 1 + 1 ≡ length (coarseCounts m)) ×
-          (set after (powersUpTo m + 1) m ≡ coarseCounts m ++ drop (length (coarseCounts m)) xs)
+          (set after (powersUpTo m + 1) m ≡ writtenOver (coarseCounts m) xs)
       other-done = (other-length, other-written)
