@@ -10,12 +10,12 @@ use lib.Seq.{getD-take}
 use borrow.Author.Tests.{le-ltb}
 use Rattle.lists.specs.Sums.{sum, sum-ext, sum-add, sum-const, sum-at-most, sum-blocks}
 use Rattle.model.specs.Instance.{Instance, instanceOf}
-use Rattle.model.specs.Sheets.{stateAt, stepCost, changeCost, sheetCost}
+use Rattle.model.specs.Sheets.{stateAt, stepCost, changeCost, sheetOperatingCost, sheetSwitchingCost, sheetCost}
 use Rattle.card.specs.declared.Header.{Header}
 use Rattle.laws.specs.Acceptance.{modules-range, down-range}
 use Rattle.sheets.specs.Marks.{byteCost, bytesCost, allOff, byteAt, stopCost, rowStopCost}
-use Rattle.sheets.specs.Asked.{BytesReady, RowPriced, SheetReady}
-use Rattle.sheets.proofs.Bytes.{part-ready, stop-each}
+use Rattle.sheets.specs.SheetRequires.{BytesReady, RowPriced, SheetReady}
+use Rattle.sheets.proofs.SheetBytes.{part-ready, stop-each}
 use Rattle.sheets.proofs.States.{stateBefore, state-is, before-is}
 use Rattle.sheets.proofs.Split.{from, first-length, earlier-length, later-length, later-at, last-length, last-at, rows-cost}
 
@@ -23,7 +23,7 @@ module _ (i : Instance) (s : List ℕ) (size : length s ≡ i .modules * i .slot
   abbrev beforeAt : ℕ → ℕ
   beforeAt x = stateBefore (i .modules) s x
 
-  -- bytes are counted by slots and modules
+  -- Bytes are counted by slots and modules.
   by-slots : (f : ℕ → ℕ) → sum (length s) f ≡ sum (i .slots) (λ t. sum (i .modules) (λ k. f (t * i .modules + k)))
   by-slots f = rw (size, mul-comm (i .modules) (i .slots)) (sym (sum-blocks (i .slots) (i .modules) f))
 
@@ -40,7 +40,7 @@ module _ (i : Instance) (s : List ℕ) (size : length s ≡ i .modules * i .slot
       sum-ext (i .slots)
       (λ t h. sum-ext (i .modules) (λ k g. ap₂ (changeCost i) (before-is i s size t k h g) (sym (state-is i s size t k h g))))
 
-  -- the changes after the last slot
+  -- The price of a module's change to off after the last slot.
   abbrev lastChange : ℕ → ℕ
   lastChange k = stopCost (i .powerDown) (stateAt i s (i .slots) k)
 
@@ -49,13 +49,13 @@ module _ (i : Instance) (s : List ℕ) (size : length s ≡ i .modules * i .slot
   last-is k = rw (le-ltb (i .slots) (i .slots) (le-refl (i .slots)))
 
   total : sheetCost i s ≡ bytesCost i beforeAt s + sum (i .modules) lastChange
-  unfolding sheetCost bytesCost byteCost sum
+  unfolding sheetCost sheetOperatingCost sheetSwitchingCost bytesCost byteCost sum
   total =
       let apart = sum-add (length s) (λ x. stepCost i (getD s x 0)) (λ x. changeCost i (beforeAt x) (getD s x 0)) in
       let last = sum-ext (i .modules) (λ k g. last-is k) in
       rw (add-one (i .slots)) (omega (arith, apart, steps-are, changes-are, last))
 
-  -- no slots
+  -- A sheet without slots costs nothing.
   cost-empty : i .slots ≡ 0 → 0 ≡ sheetCost i s
   unfolding bytesCost sum stateAt
   cost-empty e =
@@ -64,7 +64,7 @@ module _ (i : Instance) (s : List ℕ) (size : length s ≡ i .modules * i .slot
       let last = sum-const (i .modules) {f = lastChange} {c = 0} (λ k g. rw e) in
       omega (arith, total)
 
-  -- the rows of a sheet with slots, where the last begins at place last
+  -- The rows of a sheet with slots, where the last begins at place last.
   module _ {last t : ℕ} (slots-are : suc t ≡ i .slots) (last-is : last ≡ t * i .modules) where
     rows-all : i .modules + last ≡ length s
     rows-all = omega (arith, size, ap (λ (n : ℕ). i .modules * n) slots-are)
@@ -93,7 +93,7 @@ module _ {s : List ℕ} {h : Header} {sheet : List ℕ} (given : SheetReady s h 
     slots-before : suc (h .slots - 1) ≡ instanceOf s .slots
     slots-before = omega arith
 
-    -- the first row and the rows before the last are the whole
+    -- The first row and as many bytes as stand before the last row are the whole.
     pub header-rows : h .modules + (h .slots - 1) * h .modules ≡ length sheet
     header-rows = rw (given .sized .ready .header .modules-is) (rows-all (instanceOf s) sheet (given .sized .size) slots-before refl)
 
@@ -110,7 +110,7 @@ module _ {s : List ℕ} {h : Header} {sheet : List ℕ} (given : SheetReady s h 
     pub rows-paired : length (take ((h .slots - 1) * h .modules) sheet) ≡ length (from (h .modules) sheet)
     rows-paired = earlier-length sheet _ _ header-rows ∙ sym (later-length sheet _ _ header-rows)
 
-    pub last-priced : RowPriced (h .down) (from ((h .slots - 1) * h .modules) sheet)
+    pub last-priced : RowPriced (h .powerDown) (from ((h .slots - 1) * h .modules) sheet)
     last-priced =
         let accepted = given .sized .ready .accepted in
         record {
@@ -121,13 +121,13 @@ module _ {s : List ℕ} {h : Header} {sheet : List ℕ} (given : SheetReady s h 
     pub sheet-whole :
         {start rest stop : ℕ} → start ≡ bytesCost (instanceOf s) allOff (take (h .modules) sheet) →
         rest ≡ bytesCost (instanceOf s) (byteAt (take ((h .slots - 1) * h .modules) sheet)) (from (h .modules) sheet) →
-        stop ≡ rowStopCost (h .down) (from ((h .slots - 1) * h .modules) sheet) → start + rest + stop ≡ sheetCost (instanceOf s) sheet
+        stop ≡ rowStopCost (h .powerDown) (from ((h .slots - 1) * h .modules) sheet) → start + rest + stop ≡ sheetCost (instanceOf s) sheet
     sheet-whole e f g =
         let m = given .sized .ready .header .modules-is in
         let d = given .sized .ready .header .down-is in
         cost-whole (instanceOf s) sheet (given .sized .size) slots-before refl (rw m at e) (rw m at f) (rw (m, d) at g)
 
--- the changes to off after a row cost little
+-- The changes to off after a row cost at most 200 times the highest price.
 pub row-stop-most : {down stop : ℕ} {row : List ℕ} → RowPriced down row → stop ≡ rowStopCost down row → stop ≤ 200 * 500000000
 unfolding rowStopCost
 row-stop-most {down} {stop} {row} given e =

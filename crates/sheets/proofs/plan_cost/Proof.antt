@@ -7,19 +7,19 @@ use Rattle.lists.specs.Summing.{Summed, summed-none, summed-more, summed-all, s
 use Rattle.model.specs.Instance.{instanceOf}
 use Rattle.model.specs.Thesis.{countAt, countsCost}
 use Rattle.laws.specs.Acceptance.{slots-range}
-use Rattle.card.proofs.Room.{load-there}
-use Rattle.sheets.proofs.Loads.{in-slots, no-more-slots, slotAt, slot-ready, slot-at-most, slot-is, count-next}
+use Rattle.card.proofs.FieldsThere.{load-there}
+use Rattle.sheets.proofs.Loads.{in-slots, no-more-slots, slotAt, slot-served, slot-at-most, slot-is, count-next}
 use Rattle.sheets.proofs.plan_cost.Statement.{statement}
 use Rattle.sheets.proofs.plan_cost.Tie as tie
 
 abbrev Inv-loop : tie.InvT-loop
-Inv-loop card h plan top cost₀ prev₀ t₀ cost prev t =
+Inv-loop card h plan cost₀ prev₀ t₀ cost prev t =
     Summed (instanceOf card .slots) (slotAt (instanceOf card) plan) t cost × (prev ≡ countAt 0 plan t)
 
 abbrev μ-loop : tie.MeasureT-loop
-μ-loop card h plan top cost₀ prev₀ t₀ cost prev t = length plan - t
+μ-loop card h plan cost₀ prev₀ t₀ cost prev t = length plan - t
 
--- the start of the function, from its loop
+-- The start of the function, from its loop.
 abbrev start : tie.At-loop Inv-loop μ-loop → tie.Start Inv-loop μ-loop
 start c = c .before .before .before
 
@@ -43,7 +43,7 @@ slot-cost-requires : tie.Need-slot-cost-requires Inv-loop μ-loop
 slot-cost-requires c κs =
     let test = c .before .before .before in
     let p = start (test .before) .pre in
-    slot-ready p (in-slots (p .sized) (test .loop-test .taken)) (c .before .wide .ensures) (c .load .ensures .is)
+    slot-served p (in-slots (p .sized) (test .loop-test .taken)) (c .before .wide .ensures) (c .load .ensures .is)
 
 add-cost : tie.Need-add-cost Inv-loop μ-loop
 add-cost c =

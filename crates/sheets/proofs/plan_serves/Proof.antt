@@ -7,18 +7,18 @@ use Rattle.lists.specs.Tests.{Passed, passed-none, passed-more, passed-all, pas
 use Rattle.model.specs.Instance.{instanceOf}
 use Rattle.model.specs.Counts.{canServe}
 use Rattle.model.specs.Plans.{planServes}
-use Rattle.card.proofs.Room.{load-there}
+use Rattle.card.proofs.FieldsThere.{load-there}
 use Rattle.sheets.proofs.Loads.{in-slots, no-more-slots, serve-failed, serve-passed}
 use Rattle.sheets.proofs.plan_serves.Statement.{statement}
 use Rattle.sheets.proofs.plan_serves.Tie as tie
 
 abbrev Inv-loop : tie.InvT-loop
-Inv-loop card plan top t₀ t = Passed (instanceOf card .slots) (λ u. canServe (instanceOf card) (getD plan u 0) (instanceOf card .load u)) t
+Inv-loop card h plan top t₀ t = Passed (instanceOf card .slots) (λ u. canServe (instanceOf card) (getD plan u 0) (instanceOf card .load u)) t
 
 abbrev μ-loop : tie.MeasureT-loop
-μ-loop card plan top t₀ t = length plan - t
+μ-loop card h plan top t₀ t = length plan - t
 
--- the start of the function, from its loop
+-- The start of the function, from its loop.
 abbrev start : tie.At-loop Inv-loop μ-loop → tie.Start Inv-loop μ-loop
 start c = c .before .before .before
 

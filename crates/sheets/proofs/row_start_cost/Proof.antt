@@ -4,7 +4,7 @@ use lib.ListN.{length, getD}
 use Rattle.lists.specs.Summing.{Summed, summed-none, summed-more, summed-all, summed-room}
 use Rattle.model.specs.Instance.{instanceOf}
 use Rattle.sheets.specs.Marks.{byteCost, bytesCost, allOff}
-use Rattle.sheets.proofs.Bytes.{byte-ready, bytes-each}
+use Rattle.sheets.proofs.SheetBytes.{byte-ready, bytes-each}
 use Rattle.sheets.proofs.row_start_cost.Statement.{statement}
 use Rattle.sheets.proofs.row_start_cost.Tie as tie
 
@@ -14,7 +14,7 @@ Inv-loop card h row cost₀ k₀ cost k = Summed (length row) (λ j. byteCost (i
 abbrev μ-loop : tie.MeasureT-loop
 μ-loop card h row cost₀ k₀ cost k = length row - k
 
--- the start of the function, from its loop
+-- The start of the function, from its loop.
 abbrev start : tie.At-loop Inv-loop μ-loop → tie.Start Inv-loop μ-loop
 start c = c .before .before .before
 

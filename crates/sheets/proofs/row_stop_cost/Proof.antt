@@ -4,7 +4,7 @@ use lib.ListN.{length, getD}
 use borrow.Author.Needs.{needs}
 use Rattle.lists.specs.Summing.{Summed, summed-none, summed-more, summed-all, summed-room}
 use Rattle.sheets.specs.Marks.{stopCost, rowStopCost}
-use Rattle.sheets.proofs.Bytes.{stop-each}
+use Rattle.sheets.proofs.SheetBytes.{stop-each}
 use Rattle.sheets.proofs.row_stop_cost.Statement.{statement}
 use Rattle.sheets.proofs.row_stop_cost.Tie as tie
 

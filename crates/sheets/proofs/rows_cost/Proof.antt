@@ -4,7 +4,7 @@ use lib.ListN.{length, getD}
 use Rattle.lists.specs.Summing.{Summed, summed-none, summed-more, summed-all, summed-room}
 use Rattle.model.specs.Instance.{instanceOf}
 use Rattle.sheets.specs.Marks.{byteCost, bytesCost, byteAt}
-use Rattle.sheets.proofs.Bytes.{byte-ready, bytes-each}
+use Rattle.sheets.proofs.SheetBytes.{byte-ready, bytes-each}
 use Rattle.sheets.proofs.rows_cost.Statement.{statement}
 use Rattle.sheets.proofs.rows_cost.Tie as tie
 
@@ -15,7 +15,7 @@ Inv-loop card h earlier later cost₀ x₀ cost x =
 abbrev μ-loop : tie.MeasureT-loop
 μ-loop card h earlier later cost₀ x₀ cost x = length later - x
 
--- the start of the function, from its loop
+-- The start of the function, from its loop.
 abbrev start : tie.At-loop Inv-loop μ-loop → tie.Start Inv-loop μ-loop
 start c = c .before .before .before .before
 

@@ -1,6 +1,6 @@
 use mathlib.Core.Path.{sym}
 use native.Mathlib.Omega.{arith}
-use Rattle.sheets.proofs.Bytes.{bytes-most}
+use Rattle.sheets.proofs.SheetBytes.{bytes-most}
 use Rattle.sheets.proofs.Split.{first-length, earlier-length}
 use Rattle.sheets.proofs.Totals.{header-rows, first-ready, later-ready, rows-paired, last-priced, row-stop-most}
 use Rattle.sheets.proofs.Totals.{sheet-empty, sheet-whole}
@@ -8,7 +8,7 @@ use borrow.Author.Needs.{needs}
 use Rattle.sheets.proofs.sheet_cost.Statement.{statement}
 use Rattle.sheets.proofs.sheet_cost.Tie as tie
 
--- the start of the function, from where the sheet has slots
+-- The start of the function, from where the sheet has slots.
 abbrev start : tie.Else1 → tie.Start
 start c = c .before .before .before .before
 

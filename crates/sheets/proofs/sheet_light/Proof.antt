@@ -4,20 +4,20 @@ use lib.Dec.{eqb}
 use Rattle.lists.specs.Tests.{Passed, passed-none, passed-more, passed-all, passed-not}
 use Rattle.model.specs.Instance.{instanceOf}
 use Rattle.model.specs.Sheets.{lightAt, sheetLight}
-use Rattle.card.proofs.Room.{in-header, past-header, load-there}
+use Rattle.card.proofs.FieldsThere.{in-header, past-header, load-there}
 use Rattle.sheets.proofs.Loads.{row-there, row-small, row-short}
 use Rattle.sheets.proofs.States.{light-failed, light-passed}
 use Rattle.sheets.proofs.sheet_light.Statement.{statement}
 use Rattle.sheets.proofs.sheet_light.Tie as tie
 
 abbrev Inv-loop : tie.InvT-loop
-Inv-loop card sheet modules slots top t₀ t =
+Inv-loop card h sheet modules slots t₀ t =
     Passed (instanceOf card .slots) (λ u. eqb (lightAt (instanceOf card) sheet (suc u)) (instanceOf card .load u)) t
 
 abbrev μ-loop : tie.MeasureT-loop
-μ-loop card sheet modules slots top t₀ t = slots - t
+μ-loop card h sheet modules slots t₀ t = slots - t
 
--- the start of the function, from its loop
+-- The start of the function, from its loop.
 abbrev start : tie.At-loop Inv-loop μ-loop → tie.Start Inv-loop μ-loop
 start c = c .before .before .before
 

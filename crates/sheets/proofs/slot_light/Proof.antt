@@ -5,7 +5,7 @@ use borrow.Author.Needs.{needs}
 use Rattle.lists.specs.Summing.{Summed, summed-none, summed-more, summed-all, summed-most, summed-room}
 use Rattle.model.specs.Sheets.{stepOf}
 use Rattle.sheets.specs.Marks.{rowLight}
-use Rattle.sheets.proofs.Bytes.{step-each}
+use Rattle.sheets.proofs.SheetBytes.{step-each}
 use Rattle.sheets.proofs.slot_light.Statement.{statement}
 use Rattle.sheets.proofs.slot_light.Tie as tie
 

@@ -3,19 +3,19 @@ use native.Mathlib.Omega.{arith}
 use lib.ListN.{length}
 use borrow.Author.Needs.{needs}
 use Rattle.model.specs.Instance.{instanceOf}
-use Rattle.card.proofs.Room.{load-there}
+use Rattle.card.proofs.FieldsThere.{load-there}
 use Rattle.sheets.proofs.Loads.{in-slots, no-more-slots, row-there, row-small, row-fits}
 use Rattle.sheets.proofs.Filled.{Filled, filled-none, filled-size, filled-room, filled-more, filled-all}
 use Rattle.sheets.proofs.write_sheet.Statement.{statement}
 use Rattle.sheets.proofs.write_sheet.Tie as tie
 
 abbrev Inv-loop : tie.InvT-loop
-Inv-loop card plan sheet₀ modules top t₀ sheet t = Filled (instanceOf card) plan sheet₀ t sheet
+Inv-loop card h plan sheet₀ modules t₀ sheet t = Filled (instanceOf card) plan sheet₀ t sheet
 
 abbrev μ-loop : tie.MeasureT-loop
-μ-loop card plan sheet₀ modules top t₀ sheet t = length plan - t
+μ-loop card h plan sheet₀ modules t₀ sheet t = length plan - t
 
--- the start of the function, from its loop
+-- The start of the function, from its loop.
 abbrev start : tie.At-loop Inv-loop μ-loop → tie.Start Inv-loop μ-loop
 start c = c .before .before .before .before
 
