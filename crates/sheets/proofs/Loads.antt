@@ -19,7 +19,9 @@ use Rattle.model.specs.Plans.{planServes}
 use Rattle.model.specs.Thesis.{countAt, slotCost}
 use Rattle.model.specs.Calls.{sheetBytes}
 use Rattle.card.specs.declared.Header.{Header}
+use Rattle.card.specs.Fields.{LoadThere}
 use Rattle.card.specs.Checking.{Ready}
+use Rattle.card.proofs.FieldsThere.{load-there}
 use Rattle.laws.specs.Acceptance.{modules-range, top-range}
 use Rattle.counts.specs.Serving.{Served}
 use Rattle.sheets.specs.SheetRequires.{RowFits, PlanSized, PlanReady, RowShort}
@@ -29,6 +31,10 @@ use Rattle.sheets.proofs.SheetSlots.{slot-most}
 -- A place in the plan is a slot.
 pub in-slots : {s : List ℕ} {h : Header} {p : List ℕ} {t : ℕ} → PlanSized s h p → t < length p → t < instanceOf s .slots
 in-slots given below = omega arith
+
+-- The load of a plan's slot can be read.
+pub slot-load-there : {s : List ℕ} {h : Header} {p : List ℕ} {t : ℕ} → PlanSized s h p → t < length p → LoadThere s h t
+slot-load-there given below = load-there (given .ready) (in-slots given below)
 
 -- Past the plan there are no more slots.
 pub no-more-slots : {s : List ℕ} {h : Header} {p : List ℕ} {t : ℕ} → PlanSized s h p → length p ≤ t → instanceOf s .slots ≤ t
@@ -49,7 +55,7 @@ pub row-short :
 row-short {s} {h} l a given inside =
     record { short = omega (arith, part-length a (h .modules) l inside, modules-range s (given .accepted) .1) }
 
--- The test of a count against the rack.
+-- The tests of a count against the rack and against a load.
 module _ {s : List ℕ} {h : Header} (given : Ready s h) {n x : ℕ} (x-is : x ≡ n) where
   pub rack-failed : h .modules < x → leb n (instanceOf s .modules) ≡ false
   rack-failed above = rw (← x-is, ← given .header .modules-is) (lt-leb x (h .modules) above)
@@ -57,15 +63,14 @@ module _ {s : List ℕ} {h : Header} (given : Ready s h) {n x : ℕ} (x-is : x �
   pub rack-passed : x ≤ h .modules → leb n (instanceOf s .modules) ≡ true
   rack-passed below = rw (← x-is, ← given .header .modules-is) (le-leb x (h .modules) below)
 
--- The test of a count against a load.
-module _ (i : Instance) (n l : ℕ) {x y top : ℕ} (x-is : x ≡ n) (y-is : y ≡ l) (top-is : top ≡ i .topStep) where
-  pub serve-failed : x * top < y → canServe i n l ≡ false
-  unfolding canServe
-  serve-failed h = rw (← x-is, ← y-is, ← top-is) (lt-leb y (x * top) h)
+  module _ {l y : ℕ} (y-is : y ≡ l) where
+    pub serve-failed : x * h .topStep < y → canServe (instanceOf s) n l ≡ false
+    unfolding canServe
+    serve-failed above = rw (← x-is, ← y-is, ← given .header .top-is) (lt-leb y (x * h .topStep) above)
 
-  pub serve-passed : y ≤ x * top → canServe i n l ≡ true
-  unfolding canServe
-  serve-passed h = rw (← x-is, ← y-is, ← top-is) (le-leb y (x * top) h)
+    pub serve-passed : y ≤ x * h .topStep → canServe (instanceOf s) n l ≡ true
+    unfolding canServe
+    serve-passed below = rw (← x-is, ← y-is, ← given .header .top-is) (le-leb y (x * h .topStep) below)
 
 -- The cost of slot t by counts.
 abbrev pub slotAt : Instance → List ℕ → ℕ → ℕ
@@ -81,8 +86,8 @@ module _ {s : List ℕ} {h : Header} {p : List ℕ} (given : PlanReady s h p) wh
         serves = leb-true _ _ (every-at (instanceOf s .slots) _ (given .served) t below);
       }
 
-  pub slot-served : {t n l : ℕ} → t < instanceOf s .slots → n ≡ getD p t 0 → l ≡ instanceOf s .load t → Served s h n l
-  slot-served {t} below e f = rw (e, f) (served-at t below)
+  pub slot-served : {t n l : ℕ} → t < length p → n ≡ getD p t 0 → l ≡ instanceOf s .load t → Served s h n l
+  slot-served {t} below e f = rw (e, f) (served-at t (in-slots (given .sized) below))
 
   pub slot-at-most : (t : ℕ) → t < instanceOf s .slots → slotAt (instanceOf s) p t ≤ 200200000000
   unfolding countAt
@@ -90,7 +95,7 @@ module _ {s : List ℕ} {h : Header} {p : List ℕ} (given : PlanReady s h p) wh
 
 -- A slot's row has room for its count.
 pub row-fits :
-    {s : List ℕ} {h : Header} {p : List ℕ} {t n load : ℕ} (l : List ℕ) (a : ℕ) → PlanReady s h p → t < instanceOf s .slots →
+    {s : List ℕ} {h : Header} {p : List ℕ} {t n load : ℕ} (l : List ℕ) (a : ℕ) → PlanReady s h p → t < length p →
     a + h .modules ≤ length l → n ≡ getD p t 0 → load ≡ instanceOf s .load t → RowFits (midOf a (a + h .modules - a) l) n load
 row-fits {s} {h} {p} {t} {n} {load} l a given below inside e f =
     let slot = slot-served given below e f in

@@ -38,11 +38,11 @@ loop-less : tie.Need-loop-less Inv-loop μ-loop
 loop-less c = omega arith
 
 loop-again : tie.Need-loop-again Inv-loop μ-loop
-loop-again c = let test = c .before .before in summed-more (test .before .loop .inv) (test .loop-test .taken) (c .stop-cost .ensures)
+loop-again c = search summed-more
 
 returns : tie.Need-returns Inv-loop μ-loop
 unfolding rowStopCost
-returns c = summed-all (c .before .loop .inv) (c .loop-test .left)
+returns c = search summed-all
 
 pub row-stop-cost-spec : {M : Type 1} → statement M
 row-stop-cost-spec =

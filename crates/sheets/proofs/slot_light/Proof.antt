@@ -39,7 +39,7 @@ loop-less : tie.Need-loop-less Inv-loop μ-loop
 loop-less c = omega arith
 
 loop-again : tie.Need-loop-again Inv-loop μ-loop
-loop-again c = let test = c .before .before in summed-more (test .before .loop .inv) (test .loop-test .taken) (c .step-of .ensures)
+loop-again c = search summed-more
 
 cast-result : tie.Need-cast-result Inv-loop μ-loop
 cast-result c =
@@ -49,7 +49,7 @@ cast-result c =
 
 returns : tie.Need-returns Inv-loop μ-loop
 unfolding rowLight
-returns c = summed-all (c .before .loop .inv) (c .loop-test .left)
+returns c = search summed-all
 
 pub slot-light-spec : {M : Type 1} → statement M
 slot-light-spec =
