@@ -8,6 +8,7 @@ use Rattle.model.specs.declared.Answer.{Answer}
 use Rattle.model.specs.declared.Answer.the-variants.{Cost, Refused}
 use Rattle.model.specs.Calls.{checkCard, applies, requestOf, lowest, answer, refusals, successCost, Accepted}
 use Rattle.card.specs.declared.Header.{Header}
+use Rattle.card.specs.declared.Checked.{Checked}
 use Rattle.card.specs.declared.Checked.the-variants.{Valid, Invalid}
 use Rattle.card.specs.Fields.{HeaderOf}
 use Rattle.card.specs.Checking.{lowestAmong, frontRefusals, sizeRefusals, bodyRefusals, headerOf, checkedAs, checkedOf, Ready}
@@ -67,18 +68,18 @@ module _ (s : List ℕ) where
             }))
 
 -- The answer behind a check's result.
-module _ (s : List ℕ) where
-  pub refused-answer : {x : Refusal} → checkedOf s ≡ Invalid x → answer (checkCard s) ≡ Refused x
+module _ (s : List ℕ) {c : Checked} (is : c ≡ checkedOf s) where
+  pub refused-answer : {x : Refusal} → c ≡ Invalid x → answer (checkCard s) ≡ Refused x
   unfolding checkedOf
-  refused-answer {x} e = go (answer (checkCard s)) e
+  refused-answer {x} e = go (answer (checkCard s)) (sym is ∙ e)
     where
       go : (a : Answer) → checkedAs a (headerOf s) ≡ Invalid x → a ≡ Refused x
       go (Cost n) f = cc
       go (Refused y) f = cc
 
-  pub accepted-answer : {h : Header} → checkedOf s ≡ Valid h → Accepted s × (headerOf s ≡ h)
+  valid-answer : {h : Header} → c ≡ Valid h → Accepted s × (headerOf s ≡ h)
   unfolding checkedOf answer successCost
-  accepted-answer {h} e = go (answer (checkCard s)) refl e
+  valid-answer {h} e = go (answer (checkCard s)) refl (sym is ∙ e)
     where
       go :
           (a : Answer) → answer (checkCard s) ≡ a → checkedAs a (headerOf s) ≡ Valid h →
@@ -86,10 +87,13 @@ module _ (s : List ℕ) where
       go (Cost n) g f = (lowest-through _ _ _ _ g, cc)
       go (Refused y) g f = (cc, cc)
 
+  pub accepted-answer : {h : Header} → c ≡ Valid h → Accepted s
+  accepted-answer e = valid-answer e .0
+
   -- An accepted card is ready for the crates above.
-  pub ready : {h : Header} → checkedOf s ≡ Valid h → Ready s h
+  pub ready : {h : Header} → c ≡ Valid h → Ready s h
   ready {h} e =
-      let (given, same) = accepted-answer e in
+      let (given, same) = valid-answer e in
       rw (← same)
       (record {
         accepted = given;

@@ -6,18 +6,19 @@ use native.Mathlib.Nat.{mul-le-mul-left, zero-mul}
 use native.Mathlib.Omega.{arith}
 use lib.ListN.{length, getD, drop}
 use borrow.Rule.Slice.PartMut.{midOf, putMid}
-use Rattle.lists.specs.Lists.{tabulate, rows, length-rows}
+use Rattle.lists.specs.Lists.{tabulate, rows, writtenOver, length-rows}
 use Rattle.lists.specs.Parts.{part-length}
 use Rattle.lists.specs.Rows.{row-within, rows-size, next-row}
 use Rattle.model.specs.Instance.{Instance}
+use Rattle.model.specs.Calls.{sheetBytes}
 use Rattle.model.specs.Plans.{moduleByte, slotRow, sheetOf}
-use Rattle.laws.specs.Running.{slot-row-length}
+use Rattle.laws.specs.Operating.{slot-row-length}
 
--- the row of slot t by a plan
+-- The row of slot t by a plan.
 abbrev planRow : Instance → List ℕ → ℕ → List ℕ
 planRow i p t = slotRow i (getD p t 0) (i .load t)
 
--- the rows of the first t slots are the plan's, the rest is as it was
+-- The rows of the first t slots are the plan's, and the rest is as it was.
 pub record Filled (i : Instance) (p old : List ℕ) (t : ℕ) (new : List ℕ) : Type 0 where
   pub within : t ≤ i .slots
   pub so-far : new ≡ rows t (planRow i p) ++ drop (t * i .modules) old
@@ -26,16 +27,16 @@ pub filled-none : (i : Instance) (p old : List ℕ) → Filled i p old 0 old
 unfolding rows
 filled-none i p old = record { within = omega arith; so-far = rw (zero-mul (i .modules)) }
 
-module _ {i : Instance} {p old l : List ℕ} {t : ℕ} (given : Filled i p old t l) (room : i .modules * i .slots ≤ length old) where
+module _ {i : Instance} {p old l : List ℕ} {t : ℕ} (given : Filled i p old t l) (room : sheetBytes i ≤ length old) where
   pub filled-size : length l ≡ length old
   filled-size =
       let rows-fit = mul-le-mul-left (i .modules) (given .within) in
       ap length (given .so-far) ∙ rows-size (i .modules) (planRow i p) (λ t. slot-row-length i _ _) t old (omega arith)
 
-  pub filled-room : i .modules * i .slots ≤ length l
+  pub filled-room : sheetBytes i ≤ length l
   filled-room = omega (arith, filled-size)
 
-  -- one slot more, where what the loop has at hand is the slot's
+  -- One slot more is filled, where what the loop has at hand is the slot's.
   pub filled-more :
       {m n load : ℕ} {row : List ℕ} → t < i .slots → m ≡ i .modules → n ≡ getD p t 0 → load ≡ i .load t →
       row ≡ tabulate (length (midOf (t * m) (t * m + m - t * m) l)) (moduleByte n load) →
@@ -55,7 +56,7 @@ module _ {i : Instance} {p old l : List ℕ} {t : ℕ} (given : Filled i p old t
       whole : row ≡ planRow i p t
       whole = filled ∙ rw (part-length (t * m) m l long, m-is, n-is, load-is)
 
-  pub filled-all : i .slots ≤ t → l ≡ sheetOf i p ++ drop (length (sheetOf i p)) old
+  pub filled-all : i .slots ≤ t → l ≡ writtenOver (sheetOf i p) old
   unfolding sheetOf
   filled-all h =
       let same : t ≡ i .slots = omega arith in

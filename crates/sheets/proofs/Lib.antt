@@ -1,6 +1,6 @@
 pub mod Row
-pub mod Bytes
-pub mod Slots
+pub mod SheetBytes
+pub mod SheetSlots
 pub mod Loads
 pub mod Filled
 pub mod States

@@ -7,6 +7,7 @@ use native.Mathlib.Nat.{mul-le-mul-left}
 use native.Mathlib.Numerals.{add-one}
 use native.Mathlib.Omega.{arith}
 use lib.ListN.{length, getD}
+use lib.Dec.{leb}
 use borrow.Author.Tests.{leb-true, le-leb, lt-leb}
 use borrow.Rule.Slice.PartMut.{midOf}
 use Rattle.lists.specs.Tests.{every-at}
@@ -15,84 +16,102 @@ use Rattle.lists.specs.Rows.{row-within}
 use Rattle.model.specs.Instance.{Instance, instanceOf}
 use Rattle.model.specs.Counts.{canServe}
 use Rattle.model.specs.Plans.{planServes}
-use Rattle.model.specs.Thesis.{countAt, stepUp}
+use Rattle.model.specs.Thesis.{countAt, slotCost}
+use Rattle.model.specs.Calls.{sheetBytes}
 use Rattle.card.specs.declared.Header.{Header}
+use Rattle.card.specs.Fields.{LoadThere}
 use Rattle.card.specs.Checking.{Ready}
+use Rattle.card.proofs.FieldsThere.{load-there}
 use Rattle.laws.specs.Acceptance.{modules-range, top-range}
 use Rattle.counts.specs.Serving.{Served}
-use Rattle.sheets.specs.Asked.{RowFits, PlanSized, PlanReady, SlotReady, RowShort}
-use Rattle.sheets.proofs.Bytes.{area-small}
-use Rattle.sheets.proofs.Slots.{slot-most}
+use Rattle.sheets.specs.SheetRequires.{RowFits, PlanSized, PlanReady, RowShort}
+use Rattle.sheets.proofs.SheetBytes.{area-small}
+use Rattle.sheets.proofs.SheetSlots.{slot-most}
 
--- a place in the plan is a slot
+-- A place in the plan is a slot.
 pub in-slots : {s : List ℕ} {h : Header} {p : List ℕ} {t : ℕ} → PlanSized s h p → t < length p → t < instanceOf s .slots
 in-slots given below = omega arith
 
+-- The load of a plan's slot can be read.
+pub slot-load-there : {s : List ℕ} {h : Header} {p : List ℕ} {t : ℕ} → PlanSized s h p → t < length p → LoadThere s h t
+slot-load-there given below = load-there (given .ready) (in-slots given below)
+
+-- Past the plan there are no more slots.
 pub no-more-slots : {s : List ℕ} {h : Header} {p : List ℕ} {t : ℕ} → PlanSized s h p → length p ≤ t → instanceOf s .slots ≤ t
 no-more-slots given past = omega arith
 
--- the row of slot t lies inside an area of m × T bytes, which are at most 200 × 1,024
+-- The row of slot t lies inside a sheet.
 pub row-there : {s : List ℕ} {h : Header} {t size : ℕ} → Ready s h → t < instanceOf s .slots →
-    instanceOf s .modules * instanceOf s .slots ≤ size → t * h .modules + h .modules ≤ size
+    sheetBytes (instanceOf s) ≤ size → t * h .modules + h .modules ≤ size
 row-there {s} given below room = rw (given .header .modules-is) (row-within (instanceOf s .modules) below room)
 
+-- A row ends among the first 200 × 1,024 bytes.
 pub row-small : {s : List ℕ} {h : Header} {t : ℕ} → Ready s h → t < instanceOf s .slots → t * h .modules + h .modules ≤ 204800
 row-small {s} given below = row-there given below (area-small s (given .accepted))
 
+-- A row has at most 200 bytes.
 pub row-short :
     {s : List ℕ} {h : Header} (l : List ℕ) (a : ℕ) → Ready s h → a + h .modules ≤ length l → RowShort (midOf a (a + h .modules - a) l)
 row-short {s} {h} l a given inside =
     record { short = omega (arith, part-length a (h .modules) l inside, modules-range s (given .accepted) .1) }
 
--- the test of a count against a load
-module _ (i : Instance) (n l : ℕ) {x y top : ℕ} (x-is : x ≡ n) (y-is : y ≡ l) (top-is : top ≡ i .topStep) where
-  pub serve-failed : x * top < y → canServe i n l ≡ false
-  unfolding canServe
-  serve-failed h = rw (← x-is, ← y-is, ← top-is) (lt-leb y (x * top) h)
+-- The tests of a count against the rack and against a load.
+module _ {s : List ℕ} {h : Header} (given : Ready s h) {n x : ℕ} (x-is : x ≡ n) where
+  pub rack-failed : h .modules < x → leb n (instanceOf s .modules) ≡ false
+  rack-failed above = rw (← x-is, ← given .header .modules-is) (lt-leb x (h .modules) above)
 
-  pub serve-passed : y ≤ x * top → canServe i n l ≡ true
-  unfolding canServe
-  serve-passed h = rw (← x-is, ← y-is, ← top-is) (le-leb y (x * top) h)
+  pub rack-passed : x ≤ h .modules → leb n (instanceOf s .modules) ≡ true
+  rack-passed below = rw (← x-is, ← given .header .modules-is) (le-leb x (h .modules) below)
 
--- the cost of slot t by counts
+  module _ {l y : ℕ} (y-is : y ≡ l) where
+    pub serve-failed : x * h .topStep < y → canServe (instanceOf s) n l ≡ false
+    unfolding canServe
+    serve-failed above = rw (← x-is, ← y-is, ← given .header .top-is) (lt-leb y (x * h .topStep) above)
+
+    pub serve-passed : y ≤ x * h .topStep → canServe (instanceOf s) n l ≡ true
+    unfolding canServe
+    serve-passed below = rw (← x-is, ← y-is, ← given .header .top-is) (le-leb y (x * h .topStep) below)
+
+-- The cost of slot t by counts.
 abbrev pub slotAt : Instance → List ℕ → ℕ → ℕ
-slotAt i p t = stepUp i (countAt 0 p t) (countAt 0 p (suc t)) (i .load t)
+slotAt i p t = slotCost i (countAt 0 p t) (countAt 0 p (suc t)) (i .load t)
 
 module _ {s : List ℕ} {h : Header} {p : List ℕ} (given : PlanReady s h p) where
-  served-at : (t : ℕ) → t < instanceOf s .slots → Served s (getD p t 0) (instanceOf s .load t)
+  served-at : (t : ℕ) → t < instanceOf s .slots → Served s h (getD p t 0) (instanceOf s .load t)
   unfolding planServes canServe
   served-at t below =
       record {
-        accepted = given .sized .ready .accepted;
+        ready = given .sized .ready;
         in-rack = given .in-rack t below;
         serves = leb-true _ _ (every-at (instanceOf s .slots) _ (given .served) t below);
       }
 
-  pub slot-ready : {t n l : ℕ} → t < instanceOf s .slots → n ≡ getD p t 0 → l ≡ instanceOf s .load t → SlotReady s h n l
-  slot-ready {t} below e f = record { ready = given .sized .ready; served = rw (e, f) (served-at t below) }
+  pub slot-served : {t n l : ℕ} → t < length p → n ≡ getD p t 0 → l ≡ instanceOf s .load t → Served s h n l
+  slot-served {t} below e f = rw (e, f) (served-at t (in-slots (given .sized) below))
 
   pub slot-at-most : (t : ℕ) → t < instanceOf s .slots → slotAt (instanceOf s) p t ≤ 200200000000
   unfolding countAt
   slot-at-most t below = slot-most (served-at t below) (countAt 0 p t)
 
--- a slot's row has room for its count
+-- A slot's row has room for its count.
 pub row-fits :
-    {s : List ℕ} {h : Header} {p : List ℕ} {t n load : ℕ} (l : List ℕ) (a : ℕ) → PlanReady s h p → t < instanceOf s .slots →
+    {s : List ℕ} {h : Header} {p : List ℕ} {t n load : ℕ} (l : List ℕ) (a : ℕ) → PlanReady s h p → t < length p →
     a + h .modules ≤ length l → n ≡ getD p t 0 → load ≡ instanceOf s .load t → RowFits (midOf a (a + h .modules - a) l) n load
 row-fits {s} {h} {p} {t} {n} {load} l a given below inside e f =
-    let slot = slot-ready given below e f .served in
+    let slot = slot-served given below e f in
     record {
       in-row = omega (arith, part-length a (h .modules) l inside);
       serves = omega (arith, mul-le-mul-left n (top-range s (given .sized .ready .accepted) .1));
     }
 
--- one slot's cost from what the loop has at hand, and the count that it keeps for the next
+-- A slot's cost by what the loop has at hand.
 pub slot-is :
-    (i : Instance) (p : List ℕ) {t prev n l r : ℕ} → prev ≡ countAt 0 p t → n ≡ getD p t 0 → l ≡ i .load t → r ≡ stepUp i prev n l →
+    (i : Instance) (p : List ℕ) {t prev n l r : ℕ} → prev ≡ countAt 0 p t → n ≡ getD p t 0 → l ≡ i .load t → r ≡ slotCost i prev n l →
     r ≡ slotAt i p t
 unfolding countAt
 slot-is i p {t} e f g k = rw (← e, ← f, ← g) k
 
+-- The count that the loop keeps for the next slot.
 pub count-next : (p : List ℕ) (t : ℕ) {n : ℕ} → n ≡ getD p t 0 → n ≡ countAt 0 p (t + 1)
 unfolding countAt
 count-next p t e = rw (add-one t) e

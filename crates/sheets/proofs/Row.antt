@@ -9,16 +9,16 @@ use Rattle.lists.specs.Lists.{tabulate, tabulate-constant}
 use Rattle.lists.specs.Filling.{Upto, upto-all}
 use Rattle.lists.specs.Parts.{upto-front, upto-part}
 use Rattle.model.specs.Plans.{moduleByte}
-use Rattle.laws.specs.Running.{byte-above, byte-at, byte-off}
-use Rattle.counts.proofs.Division.{rest-below}
+use Rattle.laws.specs.Operating.{byte-above, byte-at, byte-off}
+use Rattle.counts.proofs.Shares.{rest-below}
 
--- no module active
+-- Where no module is active, the row is all off.
 pub row-off :
     (n l : ℕ) (row : List ℕ) {new : List ℕ} → n ≡ 0 → new ≡ replicate (length row) 255 → new ≡ tabulate (length row) (moduleByte n l)
 row-off n l row e filled = filled ∙ sym (tabulate-constant (length row) (λ k h. byte-off n l k (omega arith)))
 
 module _ (n l : ℕ) (some : n ≡ 0 → ⊥) where
-  -- the first l mod n modules, the other active ones, and those that are off
+  -- The parts are the first l mod n modules, the other active ones, and those that are off.
   pub row-filled :
       (row : List ℕ) {next step rest : List ℕ} → n ≤ length row → next ≡ replicate (length (take (l % n) row)) (l / n + 1) →
       let first : List ℕ = next ++ drop (l % n) row in

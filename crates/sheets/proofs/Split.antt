@@ -14,11 +14,11 @@ use Rattle.model.specs.Instance.{Instance}
 use Rattle.sheets.specs.Marks.{byteCost, bytesCost, allOff, byteAt}
 use Rattle.sheets.proofs.States.{stateBefore}
 
--- the part of a list from place a on
+-- The part of a list from place a on.
 abbrev pub from : ℕ → List ℕ → List ℕ
 from a s = midOf a (length s - a) s
 
--- the last row begins at place last
+-- A sheet whose first row has m bytes and whose last row begins at place last.
 module _ (s : List ℕ) (m last : ℕ) (all : m + last ≡ length s) where
   pub first-length : length (take m s) ≡ m
   first-length = length-take-le m s (omega arith)

@@ -12,15 +12,17 @@ use borrow.Rule.Slice.PartMut.{midOf}
 use Rattle.lists.specs.Sums.{sum-ext}
 use Rattle.lists.specs.Parts.{getD-within, part-length, part-at}
 use Rattle.lists.specs.Rows.{row-within}
-use Rattle.model.specs.Instance.{Instance}
+use Rattle.model.specs.Instance.{Instance, instanceOf}
 use Rattle.model.specs.Sheets.{off, stepOf, stateAt, lightAt}
+use Rattle.card.specs.declared.Header.{Header}
 use Rattle.sheets.specs.Marks.{rowLight}
+use Rattle.sheets.specs.SheetRequires.{SheetSized}
 
--- the byte of the same module in the slot before byte x, where a row has m bytes
+-- The byte of the same module in the slot before byte x, where a row has m bytes.
 unfoldable pub stateBefore : ℕ → List ℕ → ℕ → ℕ
 stateBefore m s x = cond (ltb x m) off (getD s (x - m) 0)
 
--- row t of rows of m bytes, as the code lends it
+-- Row t of rows of m bytes, as the code lends it.
 abbrev lentRow : ℕ → ℕ → List ℕ → List ℕ
 lentRow m t s = midOf (t * m) (t * m + m - t * m) s
 
@@ -42,17 +44,22 @@ module _ (i : Instance) (s : List ℕ) (size : length s ≡ i .modules * i .slot
       let place : suc t * i .modules + k - i .modules ≡ t * i .modules + k = omega arith in
       rw (le-ltb (suc t * i .modules + k) (i .modules) later, place) (sym (state-is t k (omega arith) g))
 
-  -- a row's light, and the test of it
+  -- A row's light is that of its slot.
   row-light-is : {m t : ℕ} → m ≡ i .modules → t < i .slots → rowLight (lentRow m t s) ≡ lightAt i s (suc t)
   unfolding rowLight lightAt
   row-light-is {m} {t} m-is h =
       let count = part-length _ _ s (row-within (i .modules) h (omega (arith, size))) in
       rw (m-is, count) (sum-ext (i .modules) (λ k g. ap stepOf (part-at _ _ s k 0 (omega arith) ∙ sym (state-is t k h g))))
 
-  module _
-      {m t x y : ℕ} (m-is : m ≡ i .modules) (below : t < i .slots) (x-is : x ≡ rowLight (lentRow m t s)) (y-is : y ≡ i .load t) where
-    pub light-failed : (x ≡ y → ⊥) → eqb (lightAt i s (suc t)) (i .load t) ≡ false
-    light-failed h = rw (← row-light-is m-is below, ← x-is, ← y-is) (ne-eqb x y h)
+-- The test of a slot's light against its load.
+module _
+    {s : List ℕ} {h : Header} {sheet : List ℕ} (given : SheetSized s h sheet) {t : ℕ} (below : t < h .slots) {x y : ℕ}
+    (x-is : x ≡ rowLight (lentRow (h .modules) t sheet)) (y-is : y ≡ instanceOf s .load t) where
+  light-is : x ≡ lightAt (instanceOf s) sheet (suc t)
+  light-is = x-is ∙ row-light-is (instanceOf s) sheet (given .size) (given .ready .header .modules-is) (omega arith)
 
-    pub light-passed : x ≡ y → eqb (lightAt i s (suc t)) (i .load t) ≡ true
-    light-passed h = rw (← row-light-is m-is below, ← x-is, ← y-is) (eq-eqb x y h)
+  pub light-failed : (x ≡ y → ⊥) → eqb (lightAt (instanceOf s) sheet (suc t)) (instanceOf s .load t) ≡ false
+  light-failed e = rw (← light-is, ← y-is) (ne-eqb x y e)
+
+  pub light-passed : x ≡ y → eqb (lightAt (instanceOf s) sheet (suc t)) (instanceOf s .load t) ≡ true
+  light-passed e = rw (← light-is, ← y-is) (eq-eqb x y e)

@@ -7,15 +7,17 @@ use native.Mathlib.Numerals.{add-one}
 use native.Mathlib.Omega.{arith}
 use lib.ListN.{length, getD, take}
 use lib.Seq.{getD-take}
+use mir.Syntax.{w64}
+use mir.Val.{Fits}
 use borrow.Author.Tests.{le-ltb}
 use Rattle.lists.specs.Sums.{sum, sum-ext, sum-add, sum-const, sum-at-most, sum-blocks}
 use Rattle.model.specs.Instance.{Instance, instanceOf}
-use Rattle.model.specs.Sheets.{stateAt, stepCost, changeCost, sheetCost}
+use Rattle.model.specs.Sheets.{stateAt, stepCost, changeCost, sheetOperatingCost, sheetSwitchingCost, sheetCost}
 use Rattle.card.specs.declared.Header.{Header}
 use Rattle.laws.specs.Acceptance.{modules-range, down-range}
 use Rattle.sheets.specs.Marks.{byteCost, bytesCost, allOff, byteAt, stopCost, rowStopCost}
-use Rattle.sheets.specs.Asked.{BytesReady, RowPriced, SheetReady}
-use Rattle.sheets.proofs.Bytes.{part-ready, stop-each}
+use Rattle.sheets.specs.SheetRequires.{BytesReady, RowPriced, SheetReady}
+use Rattle.sheets.proofs.SheetBytes.{area-small, part-ready, stop-each, bytes-most}
 use Rattle.sheets.proofs.States.{stateBefore, state-is, before-is}
 use Rattle.sheets.proofs.Split.{from, first-length, earlier-length, later-length, later-at, last-length, last-at, rows-cost}
 
@@ -23,7 +25,7 @@ module _ (i : Instance) (s : List ℕ) (size : length s ≡ i .modules * i .slot
   abbrev beforeAt : ℕ → ℕ
   beforeAt x = stateBefore (i .modules) s x
 
-  -- bytes are counted by slots and modules
+  -- Bytes are counted by slots and modules.
   by-slots : (f : ℕ → ℕ) → sum (length s) f ≡ sum (i .slots) (λ t. sum (i .modules) (λ k. f (t * i .modules + k)))
   by-slots f = rw (size, mul-comm (i .modules) (i .slots)) (sym (sum-blocks (i .slots) (i .modules) f))
 
@@ -40,7 +42,7 @@ module _ (i : Instance) (s : List ℕ) (size : length s ≡ i .modules * i .slot
       sum-ext (i .slots)
       (λ t h. sum-ext (i .modules) (λ k g. ap₂ (changeCost i) (before-is i s size t k h g) (sym (state-is i s size t k h g))))
 
-  -- the changes after the last slot
+  -- The price of a module's change to off after the last slot.
   abbrev lastChange : ℕ → ℕ
   lastChange k = stopCost (i .powerDown) (stateAt i s (i .slots) k)
 
@@ -49,13 +51,13 @@ module _ (i : Instance) (s : List ℕ) (size : length s ≡ i .modules * i .slot
   last-is k = rw (le-ltb (i .slots) (i .slots) (le-refl (i .slots)))
 
   total : sheetCost i s ≡ bytesCost i beforeAt s + sum (i .modules) lastChange
-  unfolding sheetCost bytesCost byteCost sum
+  unfolding sheetCost sheetOperatingCost sheetSwitchingCost bytesCost byteCost sum
   total =
       let apart = sum-add (length s) (λ x. stepCost i (getD s x 0)) (λ x. changeCost i (beforeAt x) (getD s x 0)) in
       let last = sum-ext (i .modules) (λ k g. last-is k) in
       rw (add-one (i .slots)) (omega (arith, apart, steps-are, changes-are, last))
 
-  -- no slots
+  -- A sheet without slots costs nothing.
   cost-empty : i .slots ≡ 0 → 0 ≡ sheetCost i s
   unfolding bytesCost sum stateAt
   cost-empty e =
@@ -64,7 +66,7 @@ module _ (i : Instance) (s : List ℕ) (size : length s ≡ i .modules * i .slot
       let last = sum-const (i .modules) {f = lastChange} {c = 0} (λ k g. rw e) in
       omega (arith, total)
 
-  -- the rows of a sheet with slots, where the last begins at place last
+  -- The rows of a sheet with slots, where the last begins at place last.
   module _ {last t : ℕ} (slots-are : suc t ≡ i .slots) (last-is : last ≡ t * i .modules) where
     rows-all : i .modules + last ≡ length s
     rows-all = omega (arith, size, ap (λ (n : ℕ). i .modules * n) slots-are)
@@ -84,6 +86,13 @@ module _ (i : Instance) (s : List ℕ) (size : length s ≡ i .modules * i .slot
         start + rest + stop ≡ sheetCost i s
     cost-whole e f g = omega (arith, total, rows-cost s (i .modules) last rows-all i, stop-row)
 
+-- The changes to off after a row cost at most 200 times the highest price.
+row-stop-most : {down stop : ℕ} {row : List ℕ} → RowPriced down row → stop ≡ rowStopCost down row → stop ≤ 200 * 500000000
+unfolding rowStopCost
+row-stop-most {down} {stop} {row} given e =
+    let each = sum-at-most (length row) (stop-each row (given .priced)) in
+    omega (arith, each)
+
 -- The same with a header's numbers.
 module _ {s : List ℕ} {h : Header} {sheet : List ℕ} (given : SheetReady s h sheet) where
   pub sheet-empty : h .slots ≡ 0 → 0 ≡ sheetCost (instanceOf s) sheet
@@ -93,24 +102,40 @@ module _ {s : List ℕ} {h : Header} {sheet : List ℕ} (given : SheetReady s h 
     slots-before : suc (h .slots - 1) ≡ instanceOf s .slots
     slots-before = omega arith
 
-    -- the first row and the rows before the last are the whole
+    -- The first row and as many bytes as stand before the last row are the whole.
     pub header-rows : h .modules + (h .slots - 1) * h .modules ≡ length sheet
     header-rows = rw (given .sized .ready .header .modules-is) (rows-all (instanceOf s) sheet (given .sized .size) slots-before refl)
 
+    pub first-inside : h .modules ≤ length sheet
+    first-inside = omega (arith, header-rows)
+
+    pub earlier-inside : (h .slots - 1) * h .modules ≤ length sheet
+    earlier-inside = omega (arith, header-rows)
+
+    pub earlier-fits : Fits w64 ((h .slots - 1) * h .modules)
+    earlier-fits =
+        record { fits = omega (arith, earlier-inside, area-small s (given .sized .ready .accepted)) }
+
+    pub first-counted : h .modules ≡ length (take (h .modules) sheet)
+    first-counted = sym (first-length sheet _ _ header-rows)
+
+    pub earlier-counted : (h .slots - 1) * h .modules ≡ length (take ((h .slots - 1) * h .modules) sheet)
+    earlier-counted = sym (earlier-length sheet _ _ header-rows)
+
     pub first-ready : BytesReady s h (take (h .modules) sheet)
     first-ready =
-        part-ready given 0 (take (h .modules) sheet) (omega (arith, first-length sheet _ _ header-rows, header-rows))
-        (λ x below. rw (zero-add x) (getD-take (h .modules) sheet x 0 (omega (arith, first-length sheet _ _ header-rows))))
+        part-ready given 0 _ (omega (arith, first-counted, first-inside))
+        (λ x below. rw (zero-add x) (getD-take (h .modules) sheet x 0 (omega (arith, first-counted))))
 
     pub later-ready : BytesReady s h (from (h .modules) sheet)
     later-ready =
-        part-ready given (h .modules) (from (h .modules) sheet) (omega (arith, later-length sheet _ _ header-rows, header-rows))
+        part-ready given (h .modules) _ (omega (arith, later-length sheet _ _ header-rows, header-rows))
         (λ x below. later-at sheet _ _ header-rows x (omega (arith, later-length sheet _ _ header-rows)))
 
     pub rows-paired : length (take ((h .slots - 1) * h .modules) sheet) ≡ length (from (h .modules) sheet)
-    rows-paired = earlier-length sheet _ _ header-rows ∙ sym (later-length sheet _ _ header-rows)
+    rows-paired = omega (arith, earlier-counted, later-length sheet _ _ header-rows)
 
-    pub last-priced : RowPriced (h .down) (from ((h .slots - 1) * h .modules) sheet)
+    pub last-priced : RowPriced (h .powerDown) (from ((h .slots - 1) * h .modules) sheet)
     last-priced =
         let accepted = given .sized .ready .accepted in
         record {
@@ -118,18 +143,22 @@ module _ {s : List ℕ} {h : Header} {sheet : List ℕ} (given : SheetReady s h 
           priced = omega (arith, down-range s accepted);
         }
 
-    pub sheet-whole :
-        {start rest stop : ℕ} → start ≡ bytesCost (instanceOf s) allOff (take (h .modules) sheet) →
-        rest ≡ bytesCost (instanceOf s) (byteAt (take ((h .slots - 1) * h .modules) sheet)) (from (h .modules) sheet) →
-        stop ≡ rowStopCost (h .down) (from ((h .slots - 1) * h .modules) sheet) → start + rest + stop ≡ sheetCost (instanceOf s) sheet
-    sheet-whole e f g =
-        let m = given .sized .ready .header .modules-is in
-        let d = given .sized .ready .header .down-is in
-        cost-whole (instanceOf s) sheet (given .sized .size) slots-before refl (rw m at e) (rw m at f) (rw (m, d) at g)
+    module _
+        {start rest : ℕ} (start-is : start ≡ bytesCost (instanceOf s) allOff (take (h .modules) sheet))
+        (rest-is : rest ≡ bytesCost (instanceOf s) (byteAt (take ((h .slots - 1) * h .modules) sheet)) (from (h .modules) sheet)) where
+      parts-small : start + rest ≤ 2 * 204800 * 501000000
+      parts-small = omega (arith, bytes-most first-ready _ start-is, bytes-most later-ready _ rest-is)
 
--- the changes to off after a row cost little
-pub row-stop-most : {down stop : ℕ} {row : List ℕ} → RowPriced down row → stop ≡ rowStopCost down row → stop ≤ 200 * 500000000
-unfolding rowStopCost
-row-stop-most {down} {stop} {row} given e =
-    let each = sum-at-most (length row) (stop-each row (given .priced)) in
-    omega (arith, each)
+      pub rows-fit : Fits w64 (start + rest)
+      rows-fit = record { fits = omega (arith, parts-small) }
+
+      module _ {stop : ℕ} (stop-is : stop ≡ rowStopCost (h .powerDown) (from ((h .slots - 1) * h .modules) sheet)) where
+        pub total-fits : Fits w64 (start + rest + stop)
+        total-fits = record { fits = omega (arith, parts-small, row-stop-most last-priced stop-is) }
+
+        pub sheet-whole : start + rest + stop ≡ sheetCost (instanceOf s) sheet
+        sheet-whole =
+            let m = given .sized .ready .header .modules-is in
+            let d = given .sized .ready .header .down-is in
+            cost-whole (instanceOf s) sheet (given .sized .size) slots-before refl (rw m at start-is) (rw m at rest-is)
+            (rw (m, d) at stop-is)

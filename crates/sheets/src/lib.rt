@@ -2,15 +2,17 @@
 use card::Header;
 ghost use mathlib.Core.Path.{_≡_};
 ghost use lib.ListN.{length};
-ghost use Rattle.lists.specs.Lists.{tabulate};
+ghost use Rattle.lists.specs.Lists.{tabulate, writtenOver};
 ghost use Rattle.model.specs.Instance.{instanceOf};
-ghost use Rattle.model.specs.Sheets.{stepOf, sheetLight, sheetCost};
+ghost use Rattle.model.specs.Sheets.{stepOf, sheetEntries, sheetLight, sheetCost};
 ghost use Rattle.model.specs.Plans.{moduleByte, sheetOf, planServes};
-ghost use Rattle.model.specs.Thesis.{stepUp, countsCost};
-ghost use Rattle.sheets.specs.Marks.{written, countsUpTo, isEntry, entriesUpTo, rowLight};
-ghost use Rattle.sheets.specs.Marks.{byteCost, bytesCost, allOff, byteAt, stopCost, rowStopCost};
-ghost use Rattle.sheets.specs.Asked.{RowFits, SlotReady, PlanSized, PlanReady, SheetRoom};
-ghost use Rattle.sheets.specs.Asked.{ByteReady, BytesReady, RowShort, RowPriced, SheetSized, SheetReady};
+ghost use Rattle.model.specs.Thesis.{slotCost, countsCost};
+ghost use Rattle.model.specs.Calls.{entriesInRange, plan as handedPlan};
+ghost use Rattle.card.specs.Checking.{Ready};
+ghost use Rattle.counts.specs.Serving.{Served};
+ghost use Rattle.sheets.specs.Marks.{isEntry, rowLight, byteCost, bytesCost, allOff, byteAt, stopCost, rowStopCost};
+ghost use Rattle.sheets.specs.SheetRequires.{RowFits, PlanSized, PlanReady, SheetRoom};
+ghost use Rattle.sheets.specs.SheetRequires.{ByteReady, BytesReady, RowShort, RowPriced, SheetSized, SheetReady};
 
 // Fills a slot's row: the first n modules are active, the first l mod n of these at step l div n + 1, the others at l div n.
 fn fill_slot(row: &mut [u8], n: u64, l: u64)
@@ -33,14 +35,13 @@ fn fill_slot(row: &mut [u8], n: u64, l: u64)
 // Writes the sheet of a plan. Each slot's part is lent to the slot filler, which sees that slot alone.
 pub fn write_sheet(card: &[u8], h: Header, plan: &[u8], sheet: &mut [u8])
     requires { ⌜ SheetRoom (now card) h (now plan) (now sheet) ⌝ }
-    ensures { λ _. ⌜ now (sheet .exit) ≡ written (sheetOf (instanceOf (now (card .entry))) (now (plan .entry))) (now (sheet .entry)) ⌝ }
+    ensures { λ _. ⌜ now (sheet .exit) ≡ writtenOver (sheetOf (instanceOf (now (card .entry))) (now (plan .entry))) (now (sheet .entry)) ⌝ }
 {
     let modules = h.modules as usize;
-    let top = h.top;
     let mut t = 0;
     while t < plan.len() {
         let n = card::wide(plan[t]);
-        let l = card::load(card, top, t as u64);
+        let l = card::load(card, h, t as u64);
         let start = t * modules;
         let end = start + modules;
         fill_slot(&mut sheet[start..end], n, l);
@@ -48,18 +49,18 @@ pub fn write_sheet(card: &[u8], h: Header, plan: &[u8], sheet: &mut [u8])
     }
 }
 
-// The cost of a slot by counts, where prev modules were active before it: the running cost, and the switching price for each
+// The cost of a slot by counts, where prev modules were active before it: the operating cost, and the switching price for each
 // module that goes on.
 fn slot_cost(card: &[u8], h: Header, prev: u64, n: u64, l: u64) -> u64
-    requires { ⌜ SlotReady (now card) h n l ⌝ }
-    ensures { λ r. ⌜ r ≡ stepUp (instanceOf (now (card .entry))) prev n l ⌝ }
+    requires { ⌜ Served (now card) h n l ⌝ }
+    ensures { λ r. ⌜ r ≡ slotCost (instanceOf (now (card .entry))) prev n l ⌝ }
 {
-    let run = counts::operating_cost(card, n, l);
+    let operating = counts::operating_cost(card, h, n, l);
     if n <= prev {
-        return run;
+        return operating;
     }
-    let price = h.up + h.down;
-    run + price * (n - prev)
+    let price = h.powerUp + h.powerDown;
+    operating + price * (n - prev)
 }
 
 // The cost of a plan by its counts.
@@ -67,13 +68,12 @@ pub fn plan_cost(card: &[u8], h: Header, plan: &[u8]) -> u64
     requires { ⌜ PlanReady (now card) h (now plan) ⌝ }
     ensures { λ r. ⌜ r ≡ countsCost (instanceOf (now (card .entry))) 0 (now (plan .entry)) ⌝ }
 {
-    let top = h.top;
     let mut cost: u64 = 0;
     let mut prev: u64 = 0;
     let mut t = 0;
     while t < plan.len() {
         let n = card::wide(plan[t]);
-        cost += slot_cost(card, h, prev, n, card::load(card, top, t as u64));
+        cost += slot_cost(card, h, prev, n, card::load(card, h, t as u64));
         prev = n;
         t += 1;
     }
@@ -81,8 +81,9 @@ pub fn plan_cost(card: &[u8], h: Header, plan: &[u8]) -> u64
 }
 
 // Each count of the plan is at most m.
-pub fn plan_in_rack(h: Header, plan: &[u8]) -> bool
-    ensures { λ r. ⌜ r ≡ countsUpTo (h .modules) (now (plan .entry)) ⌝ }
+pub fn plan_in_rack(card: &[u8], h: Header, plan: &[u8]) -> bool
+    requires { ⌜ PlanSized (now card) h (now plan) ⌝ }
+    ensures { λ r. ⌜ r ≡ entriesInRange (instanceOf (now (card .entry))) (handedPlan (now (plan .entry))) ⌝ }
 {
     let modules = h.modules;
     let mut t = 0;
@@ -100,11 +101,11 @@ pub fn plan_serves(card: &[u8], h: Header, plan: &[u8]) -> bool
     requires { ⌜ PlanSized (now card) h (now plan) ⌝ }
     ensures { λ r. ⌜ r ≡ planServes (instanceOf (now (card .entry))) (now (plan .entry)) ⌝ }
 {
-    let top = h.top;
+    let top_step = h.topStep;
     let mut t = 0;
     while t < plan.len() {
-        let most = card::wide(plan[t]) * top;
-        if most < card::load(card, top, t as u64) {
+        let most = card::wide(plan[t]) * top_step;
+        if most < card::load(card, h, t as u64) {
             return false;
         }
         t += 1;
@@ -122,13 +123,15 @@ fn is_entry(top: u64, b: u8) -> bool
     card::wide(b) <= top
 }
 
-// Each byte of the sheet is a step up to top, or off.
-pub fn sheet_entries(top: u64, sheet: &[u8]) -> bool
-    ensures { λ r. ⌜ r ≡ entriesUpTo top (now (sheet .entry)) ⌝ }
+// Each byte of the sheet is a step of the table, or off.
+pub fn sheet_entries(card: &[u8], h: Header, sheet: &[u8]) -> bool
+    requires { ⌜ Ready (now card) h ⌝ }
+    ensures { λ r. ⌜ r ≡ sheetEntries (instanceOf (now (card .entry))) (now (sheet .entry)) ⌝ }
 {
+    let top_step = h.topStep;
     let mut x = 0;
     while x < sheet.len() {
-        if !is_entry(top, sheet[x]) {
+        if !is_entry(top_step, sheet[x]) {
             return false;
         }
         x += 1;
@@ -167,13 +170,12 @@ pub fn sheet_light(card: &[u8], h: Header, sheet: &[u8]) -> bool
 {
     let modules = h.modules as usize;
     let slots = h.slots as usize;
-    let top = h.top;
     let mut t = 0;
     while t < slots {
         let start = t * modules;
         let end = start + modules;
         let light = slot_light(&sheet[start..end]);
-        if light != card::load(card, top, t as u64) {
+        if light != card::load(card, h, t as u64) {
             return false;
         }
         t += 1;
@@ -197,13 +199,13 @@ fn byte_cost(card: &[u8], h: Header, prev: u8, byte: u8) -> u64
     ensures { λ r. ⌜ r ≡ byteCost (instanceOf (now (card .entry))) prev byte ⌝ }
 {
     if byte == 255 {
-        return stop_cost(h.down, prev);
+        return stop_cost(h.powerDown, prev);
     }
-    let run = card::entry(card, card::wide(byte));
+    let operating = card::entry(card, h, card::wide(byte));
     if prev == 255 {
-        return run + h.up;
+        return operating + h.powerUp;
     }
-    run
+    operating
 }
 
 // The cost of the first slot's row.
@@ -261,6 +263,6 @@ pub fn sheet_cost(card: &[u8], h: Header, sheet: &[u8]) -> u64
     let last = ((h.slots - 1) * h.modules) as usize;
     let start = row_start_cost(card, h, &sheet[..second]);
     let rest = rows_cost(card, h, &sheet[..last], &sheet[second..]);
-    let stop = row_stop_cost(h.down, &sheet[last..]);
+    let stop = row_stop_cost(h.powerDown, &sheet[last..]);
     start + rest + stop
 }

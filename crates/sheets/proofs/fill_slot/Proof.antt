@@ -3,12 +3,12 @@ use Prim.Native.Nat.{_/_, _%_, _≤_, _<_}
 use native.Mathlib.Omega.{arith}
 use lib.Seq.{length-take-le}
 use borrow.Author.Needs.{needs}
-use Rattle.counts.proofs.Division.{rest-below, step-within}
+use Rattle.counts.proofs.Shares.{rest-below, step-within}
 use Rattle.sheets.proofs.Row.{row-off, row-filled}
 use Rattle.sheets.proofs.fill_slot.Statement.{statement}
 use Rattle.sheets.proofs.fill_slot.Tie as tie
 
--- where modules are active: the rest is below their number, and the step is at most 200
+-- Where modules are active, the rest is below their number, and the step is at most 200.
 rest : (c : tie.Else1) → let a = c .before .before .args in a .l % a .n < a .n
 rest c = let a = c .before .before .args in rest-below (a .n) (a .l) (c .if1 .left)
 

@@ -1,4 +1,4 @@
-use Rattle.sheets.proofs.Bytes.{off-entry, active-entry}
+use Rattle.sheets.proofs.SheetBytes.{off-entry, active-entry}
 use borrow.Author.Needs.{needs}
 use Rattle.sheets.proofs.is_entry.Statement.{statement}
 use Rattle.sheets.proofs.is_entry.Tie as tie

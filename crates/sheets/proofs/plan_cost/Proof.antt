@@ -7,21 +7,16 @@ use Rattle.lists.specs.Summing.{Summed, summed-none, summed-more, summed-all, s
 use Rattle.model.specs.Instance.{instanceOf}
 use Rattle.model.specs.Thesis.{countAt, countsCost}
 use Rattle.laws.specs.Acceptance.{slots-range}
-use Rattle.card.proofs.Room.{load-there}
-use Rattle.sheets.proofs.Loads.{in-slots, no-more-slots, slotAt, slot-ready, slot-at-most, slot-is, count-next}
+use Rattle.sheets.proofs.Loads.{in-slots, no-more-slots, slot-load-there, slotAt, slot-served, slot-at-most, slot-is, count-next}
 use Rattle.sheets.proofs.plan_cost.Statement.{statement}
 use Rattle.sheets.proofs.plan_cost.Tie as tie
 
 abbrev Inv-loop : tie.InvT-loop
-Inv-loop card h plan top cost₀ prev₀ t₀ cost prev t =
+Inv-loop card h plan cost₀ prev₀ t₀ cost prev t =
     Summed (instanceOf card .slots) (slotAt (instanceOf card) plan) t cost × (prev ≡ countAt 0 plan t)
 
 abbrev μ-loop : tie.MeasureT-loop
-μ-loop card h plan top cost₀ prev₀ t₀ cost prev t = length plan - t
-
--- The start of the function, seen from its loop.
-abbrev start : tie.At-loop Inv-loop μ-loop → tie.Start Inv-loop μ-loop
-start c = c .before .before .before
+μ-loop card h plan cost₀ prev₀ t₀ cost prev t = length plan - t
 
 loop-holds : tie.Need-loop-holds Inv-loop μ-loop
 unfolding countAt
@@ -34,25 +29,17 @@ wide-requires : tie.Need-wide-requires Inv-loop μ-loop
 wide-requires c κs = search needs
 
 load-requires : tie.Need-load-requires Inv-loop μ-loop
-load-requires c κs =
-    let test = c .before .before in
-    let p = start (test .before) .pre .sized in
-    load-there (p .ready) (in-slots p (test .loop-test .taken))
+load-requires c κs = search slot-load-there
 
 slot-cost-requires : tie.Need-slot-cost-requires Inv-loop μ-loop
-slot-cost-requires c κs =
-    let test = c .before .before .before in
-    let p = start (test .before) .pre in
-    slot-ready p (in-slots (p .sized) (test .loop-test .taken)) (c .before .wide .ensures) (c .load .ensures .is)
+slot-cost-requires c κs = search slot-served
 
 add-cost : tie.Need-add-cost Inv-loop μ-loop
 add-cost c =
-    let test = c .before .before .before .before in
-    let p = start (test .before) .pre in
-    let inv = test .before .loop .inv in
-    let slot = slot-is _ _ (inv .1) (c .before .before .wide .ensures) (c .before .load .ensures .is) (c .slot-cost .ensures) in
-    let room = summed-room (inv .0) (in-slots (p .sized) (test .loop-test .taken)) slot (slot-at-most p) in
-    record { fits = omega (arith, room, slots-range _ (p .sized .ready .accepted)) }
+    let loop = c .before .before .before .before .before in
+    let given = loop .before .before .before .pre in
+    let room = summed-room {y = c .slot-cost .result} (loop .loop .inv .0) (search in-slots) (search slot-is) (slot-at-most given) in
+    record { fits = omega (arith, room, slots-range _ (given .sized .ready .accepted)) }
 
 add-t : tie.Need-add-t Inv-loop μ-loop
 add-t c = omega arith
@@ -62,15 +49,11 @@ loop-less c = omega arith
 
 loop-again : tie.Need-loop-again Inv-loop μ-loop
 loop-again c =
-    let test = c .before .before .before .before in
-    let inv = test .before .loop .inv in
-    let n = c .before .before .wide .ensures in
-    let slot = slot-is _ _ (inv .1) n (c .before .load .ensures .is) (c .slot-cost .ensures) in
-    (summed-more (inv .0) (in-slots (start (test .before) .pre .sized) (test .loop-test .taken)) slot, count-next _ _ n)
+    (summed-more (c .before .before .before .before .before .loop .inv .0) (search in-slots) (search slot-is), search count-next)
 
 returns : tie.Need-returns Inv-loop μ-loop
 unfolding countsCost
-returns c = summed-all (c .before .loop .inv .0) (no-more-slots (start (c .before) .pre .sized) (c .loop-test .left))
+returns c = summed-all (c .before .loop .inv .0) (search no-more-slots)
 
 pub plan-cost-spec : {M : Type 1} → statement M
 plan-cost-spec =

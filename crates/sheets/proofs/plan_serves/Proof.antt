@@ -7,20 +7,15 @@ use Rattle.lists.specs.Tests.{Passed, passed-none, passed-more, passed-all, pas
 use Rattle.model.specs.Instance.{instanceOf}
 use Rattle.model.specs.Counts.{canServe}
 use Rattle.model.specs.Plans.{planServes}
-use Rattle.card.proofs.Room.{load-there}
-use Rattle.sheets.proofs.Loads.{in-slots, no-more-slots, serve-failed, serve-passed}
+use Rattle.sheets.proofs.Loads.{in-slots, no-more-slots, slot-load-there, serve-failed, serve-passed}
 use Rattle.sheets.proofs.plan_serves.Statement.{statement}
 use Rattle.sheets.proofs.plan_serves.Tie as tie
 
 abbrev Inv-loop : tie.InvT-loop
-Inv-loop card plan top t₀ t = Passed (instanceOf card .slots) (λ u. canServe (instanceOf card) (getD plan u 0) (instanceOf card .load u)) t
+Inv-loop card h plan top t₀ t = Passed (instanceOf card .slots) (λ u. canServe (instanceOf card) (getD plan u 0) (instanceOf card .load u)) t
 
 abbrev μ-loop : tie.MeasureT-loop
-μ-loop card plan top t₀ t = length plan - t
-
--- The start of the function, seen from its loop.
-abbrev start : tie.At-loop Inv-loop μ-loop → tie.Start Inv-loop μ-loop
-start c = c .before .before .before
+μ-loop card h plan top t₀ t = length plan - t
 
 loop-holds : tie.Need-loop-holds Inv-loop μ-loop
 loop-holds c = passed-none _ _
@@ -35,21 +30,14 @@ mul-most : tie.Need-mul-most Inv-loop μ-loop
 mul-most c =
     let loop = c .before .before .before in
     let n : c .wide .result ≤ 255 = omega (arith, c .before .shared-slice-known3 .given (loop .loop .t)) in
-    record { fits = omega (arith, mul-le-mul n (start loop .pre .ready .header .top-bound)) }
+    record { fits = omega (arith, mul-le-mul n (loop .before .before .before .pre .ready .header .top-bound)) }
 
 load-requires : tie.Need-load-requires Inv-loop μ-loop
-load-requires c κs =
-    let test = c .before .before in
-    let p = start (test .before) .pre in
-    load-there (p .ready) (in-slots p (test .loop-test .taken))
+load-requires c κs = search slot-load-there
 
 returns : tie.Need-returns Inv-loop μ-loop
 unfolding planServes
-returns c =
-    let test = c .before .before .before .before in
-    let p = start (test .before) .pre in
-    passed-not (test .before .loop .inv) (in-slots p (test .loop-test .taken))
-    (serve-failed _ _ _ (c .before .before .wide .ensures) (c .before .load .ensures .is) (p .ready .header .top-is) (c .if1 .taken))
+returns c = passed-not (c .before .before .before .before .before .loop .inv) (search in-slots) (search serve-failed)
 
 add-t : tie.Need-add-t Inv-loop μ-loop
 add-t c = omega arith
@@ -58,15 +46,11 @@ loop-less : tie.Need-loop-less Inv-loop μ-loop
 loop-less c = omega arith
 
 loop-again : tie.Need-loop-again Inv-loop μ-loop
-loop-again c =
-    let test = c .before .before .before .before in
-    let p = start (test .before) .pre in
-    passed-more (test .before .loop .inv) (in-slots p (test .loop-test .taken))
-    (serve-passed _ _ _ (c .before .before .wide .ensures) (c .before .load .ensures .is) (p .ready .header .top-is) (c .if1 .left))
+loop-again c = passed-more (c .before .before .before .before .before .loop .inv) (search in-slots) (search serve-passed)
 
 returns-2 : tie.Need-returns-2 Inv-loop μ-loop
 unfolding planServes
-returns-2 c = passed-all (c .before .loop .inv) (no-more-slots (start (c .before) .pre) (c .loop-test .left))
+returns-2 c = passed-all (c .before .loop .inv) (search no-more-slots)
 
 pub plan-serves-spec : {M : Type 1} → statement M
 plan-serves-spec =

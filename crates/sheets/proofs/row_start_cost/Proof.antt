@@ -4,7 +4,7 @@ use lib.ListN.{length, getD}
 use Rattle.lists.specs.Summing.{Summed, summed-none, summed-more, summed-all, summed-room}
 use Rattle.model.specs.Instance.{instanceOf}
 use Rattle.sheets.specs.Marks.{byteCost, bytesCost, allOff}
-use Rattle.sheets.proofs.Bytes.{byte-ready, bytes-each}
+use Rattle.sheets.proofs.SheetBytes.{byte-ready, bytes-each}
 use Rattle.sheets.proofs.row_start_cost.Statement.{statement}
 use Rattle.sheets.proofs.row_start_cost.Tie as tie
 
@@ -14,10 +14,6 @@ Inv-loop card h row cost₀ k₀ cost k = Summed (length row) (λ j. byteCost (i
 abbrev μ-loop : tie.MeasureT-loop
 μ-loop card h row cost₀ k₀ cost k = length row - k
 
--- The start of the function, seen from its loop.
-abbrev start : tie.At-loop Inv-loop μ-loop → tie.Start Inv-loop μ-loop
-start c = c .before .before .before
-
 loop-holds : tie.Need-loop-holds Inv-loop μ-loop
 loop-holds c = summed-none _ _
 
@@ -25,13 +21,13 @@ shared-slice-read-byte-cost : tie.Need-shared-slice-read-byte-cost Inv-loop μ-l
 shared-slice-read-byte-cost c = omega arith
 
 byte-cost-requires : tie.Need-byte-cost-requires Inv-loop μ-loop
-byte-cost-requires c κs = byte-ready _ (start (c .before .before) .pre) (c .before .loop-test .taken)
+byte-cost-requires c κs = search byte-ready
 
 add-cost : tie.Need-add-cost Inv-loop μ-loop
 add-cost c =
     let test = c .before .before in
-    let p = start (test .before) .pre in
-    let room = summed-room (test .before .loop .inv) (test .loop-test .taken) (c .byte-cost .ensures) (bytes-each p allOff) in
+    let each = bytes-each (test .before .before .before .before .pre) allOff in
+    let room = summed-room (test .before .loop .inv) (test .loop-test .taken) (c .byte-cost .ensures) each in
     record { fits = omega (arith, room) }
 
 add-k : tie.Need-add-k Inv-loop μ-loop
@@ -41,11 +37,11 @@ loop-less : tie.Need-loop-less Inv-loop μ-loop
 loop-less c = omega arith
 
 loop-again : tie.Need-loop-again Inv-loop μ-loop
-loop-again c = let test = c .before .before in summed-more (test .before .loop .inv) (test .loop-test .taken) (c .byte-cost .ensures)
+loop-again c = search summed-more
 
 returns : tie.Need-returns Inv-loop μ-loop
 unfolding bytesCost
-returns c = summed-all (c .before .loop .inv) (c .loop-test .left)
+returns c = search summed-all
 
 pub row-start-cost-spec : {M : Type 1} → statement M
 row-start-cost-spec =

@@ -4,7 +4,7 @@ use lib.ListN.{length, getD}
 use borrow.Author.Needs.{needs}
 use Rattle.lists.specs.Summing.{Summed, summed-none, summed-more, summed-all, summed-room}
 use Rattle.sheets.specs.Marks.{stopCost, rowStopCost}
-use Rattle.sheets.proofs.Bytes.{stop-each}
+use Rattle.sheets.proofs.SheetBytes.{stop-each}
 use Rattle.sheets.proofs.row_stop_cost.Statement.{statement}
 use Rattle.sheets.proofs.row_stop_cost.Tie as tie
 
@@ -38,11 +38,11 @@ loop-less : tie.Need-loop-less Inv-loop μ-loop
 loop-less c = omega arith
 
 loop-again : tie.Need-loop-again Inv-loop μ-loop
-loop-again c = let test = c .before .before in summed-more (test .before .loop .inv) (test .loop-test .taken) (c .stop-cost .ensures)
+loop-again c = search summed-more
 
 returns : tie.Need-returns Inv-loop μ-loop
 unfolding rowStopCost
-returns c = summed-all (c .before .loop .inv) (c .loop-test .left)
+returns c = search summed-all
 
 pub row-stop-cost-spec : {M : Type 1} → statement M
 row-stop-cost-spec =

@@ -4,7 +4,7 @@ use lib.ListN.{length, getD}
 use Rattle.lists.specs.Summing.{Summed, summed-none, summed-more, summed-all, summed-room}
 use Rattle.model.specs.Instance.{instanceOf}
 use Rattle.sheets.specs.Marks.{byteCost, bytesCost, byteAt}
-use Rattle.sheets.proofs.Bytes.{byte-ready, bytes-each}
+use Rattle.sheets.proofs.SheetBytes.{byte-ready, bytes-each}
 use Rattle.sheets.proofs.rows_cost.Statement.{statement}
 use Rattle.sheets.proofs.rows_cost.Tie as tie
 
@@ -14,10 +14,6 @@ Inv-loop card h earlier later cost₀ x₀ cost x =
 
 abbrev μ-loop : tie.MeasureT-loop
 μ-loop card h earlier later cost₀ x₀ cost x = length later - x
-
--- The start of the function, seen from its loop.
-abbrev start : tie.At-loop Inv-loop μ-loop → tie.Start Inv-loop μ-loop
-start c = c .before .before .before .before
 
 loop-holds : tie.Need-loop-holds Inv-loop μ-loop
 loop-holds c = summed-none _ _
@@ -29,13 +25,13 @@ shared-slice-read-byte-cost-2 : tie.Need-shared-slice-read-byte-cost-2 Inv-loop 
 shared-slice-read-byte-cost-2 c = omega arith
 
 byte-cost-requires : tie.Need-byte-cost-requires Inv-loop μ-loop
-byte-cost-requires c κs = let test = c .before .before in byte-ready _ (start (test .before) .pre .0) (test .loop-test .taken)
+byte-cost-requires c κs = search byte-ready
 
 add-cost : tie.Need-add-cost Inv-loop μ-loop
 add-cost c =
     let test = c .before .before .before in
-    let s = start (test .before) in
-    let each = bytes-each (s .pre .0) (byteAt (s .args .earlier .now)) in
+    let start = test .before .before .before .before .before in
+    let each = bytes-each (start .pre .0) (byteAt (start .args .earlier .now)) in
     let room = summed-room (test .before .loop .inv) (test .loop-test .taken) (c .byte-cost .ensures) each in
     record { fits = omega (arith, room) }
 
@@ -46,13 +42,11 @@ loop-less : tie.Need-loop-less Inv-loop μ-loop
 loop-less c = omega arith
 
 loop-again : tie.Need-loop-again Inv-loop μ-loop
-loop-again c =
-    let test = c .before .before .before in
-    summed-more (test .before .loop .inv) (test .loop-test .taken) (c .byte-cost .ensures)
+loop-again c = search summed-more
 
 returns : tie.Need-returns Inv-loop μ-loop
 unfolding bytesCost
-returns c = summed-all (c .before .loop .inv) (c .loop-test .left)
+returns c = search summed-all
 
 pub rows-cost-spec : {M : Type 1} → statement M
 rows-cost-spec =

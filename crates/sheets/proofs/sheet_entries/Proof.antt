@@ -2,18 +2,19 @@ use Prim.Native.Nat.{_-_}
 use native.Mathlib.Omega.{arith}
 use lib.ListN.{length, getD}
 use borrow.Author.Needs.{needs}
-use Rattle.lists.specs.Tests.{Passed, passed-none, passed-more, passed-all, passed-not, test-failed, test-passed}
-use Rattle.model.specs.Sheets.{off}
-use Rattle.sheets.specs.Marks.{isEntry, entriesUpTo}
-use Rattle.sheets.proofs.Bytes.{entry-read}
+use Rattle.lists.specs.Tests.{Passed, passed-none, passed-more, passed-all, passed-not}
+use Rattle.model.specs.Instance.{instanceOf}
+use Rattle.model.specs.Sheets.{off, sheetEntries}
+use Rattle.sheets.specs.Marks.{isEntry}
+use Rattle.sheets.proofs.SheetBytes.{entry-failed, entry-passed}
 use Rattle.sheets.proofs.sheet_entries.Statement.{statement}
 use Rattle.sheets.proofs.sheet_entries.Tie as tie
 
 abbrev Inv-loop : tie.InvT-loop
-Inv-loop top sheet x₀ x = Passed (length sheet) (λ y. isEntry top (getD sheet y off)) x
+Inv-loop card sheet top x₀ x = Passed (length sheet) (λ y. isEntry (instanceOf card .topStep) (getD sheet y off)) x
 
 abbrev μ-loop : tie.MeasureT-loop
-μ-loop top sheet x₀ x = length sheet - x
+μ-loop card sheet top x₀ x = length sheet - x
 
 loop-holds : tie.Need-loop-holds Inv-loop μ-loop
 loop-holds c = passed-none _ _
@@ -25,13 +26,8 @@ is-entry-requires : tie.Need-is-entry-requires Inv-loop μ-loop
 is-entry-requires c κs = search needs
 
 returns : tie.Need-returns Inv-loop μ-loop
-unfolding entriesUpTo
-returns c =
-    let test = c .before .before .before in
-    let inside = test .loop-test .taken in
-    let a = test .before .before .before .args in
-    passed-not (test .before .loop .inv) inside
-    (entry-read (a .top) (a .sheet .now) inside (test-failed (c .before .is-entry .ensures) (c .if1 .taken)))
+unfolding sheetEntries
+returns c = passed-not (c .before .before .before .before .loop .inv) (c .before .before .before .loop-test .taken) (search entry-failed)
 
 add-x : tie.Need-add-x Inv-loop μ-loop
 add-x c = omega arith
@@ -40,16 +36,11 @@ loop-less : tie.Need-loop-less Inv-loop μ-loop
 loop-less c = omega arith
 
 loop-again : tie.Need-loop-again Inv-loop μ-loop
-loop-again c =
-    let test = c .before .before .before in
-    let inside = test .loop-test .taken in
-    let a = test .before .before .before .args in
-    passed-more (test .before .loop .inv) inside
-    (entry-read (a .top) (a .sheet .now) inside (test-passed (c .before .is-entry .ensures) (c .if1 .left)))
+loop-again c = passed-more (c .before .before .before .before .loop .inv) (c .before .before .before .loop-test .taken) (search entry-passed)
 
 returns-2 : tie.Need-returns-2 Inv-loop μ-loop
-unfolding entriesUpTo
-returns-2 c = passed-all (c .before .loop .inv) (c .loop-test .left)
+unfolding sheetEntries
+returns-2 c = search passed-all
 
 pub sheet-entries-spec : {M : Type 1} → statement M
 sheet-entries-spec =

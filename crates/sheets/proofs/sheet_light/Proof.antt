@@ -1,23 +1,24 @@
 use Prim.Native.Nat.{suc, _-_}
 use native.Mathlib.Omega.{arith}
 use lib.Dec.{eqb}
+use borrow.Author.Needs.{needs}
 use Rattle.lists.specs.Tests.{Passed, passed-none, passed-more, passed-all, passed-not}
 use Rattle.model.specs.Instance.{instanceOf}
 use Rattle.model.specs.Sheets.{lightAt, sheetLight}
-use Rattle.card.proofs.Room.{in-header, past-header, load-there}
+use Rattle.card.proofs.FieldsThere.{sized, in-header, past-header}
 use Rattle.sheets.proofs.Loads.{row-there, row-small, row-short}
 use Rattle.sheets.proofs.States.{light-failed, light-passed}
 use Rattle.sheets.proofs.sheet_light.Statement.{statement}
 use Rattle.sheets.proofs.sheet_light.Tie as tie
 
 abbrev Inv-loop : tie.InvT-loop
-Inv-loop card sheet modules slots top t₀ t =
+Inv-loop card h sheet modules slots t₀ t =
     Passed (instanceOf card .slots) (λ u. eqb (lightAt (instanceOf card) sheet (suc u)) (instanceOf card .load u)) t
 
 abbrev μ-loop : tie.MeasureT-loop
-μ-loop card sheet modules slots top t₀ t = slots - t
+μ-loop card h sheet modules slots t₀ t = slots - t
 
--- The start of the function, seen from its loop.
+-- The start of the function, from its loop.
 abbrev start : tie.At-loop Inv-loop μ-loop → tie.Start Inv-loop μ-loop
 start c = c .before .before .before
 
@@ -26,13 +27,13 @@ loop-holds c = passed-none _ _
 
 mul-start : tie.Need-mul-start Inv-loop μ-loop
 mul-start c =
-    let p = start (c .before) .pre .ready in
-    record { fits = omega (arith, row-small p (in-header p (c .loop-test .taken))) }
+    let ready = start (c .before) .pre .ready in
+    record { fits = omega (arith, row-small ready (in-header ready (c .loop-test .taken))) }
 
 add-end : tie.Need-add-end Inv-loop μ-loop
 add-end c =
-    let p = start (c .before) .pre .ready in
-    record { fits = omega (arith, row-small p (in-header p (c .loop-test .taken))) }
+    let ready = start (c .before) .pre .ready in
+    record { fits = omega (arith, row-small ready (in-header ready (c .loop-test .taken))) }
 
 sub-slot-light : tie.Need-sub-slot-light Inv-loop μ-loop
 sub-slot-light c = omega arith
@@ -41,32 +42,19 @@ part-slot-light-start : tie.Need-part-slot-light-start Inv-loop μ-loop
 part-slot-light-start c = omega arith
 
 part-slot-light-end : tie.Need-part-slot-light-end Inv-loop μ-loop
-part-slot-light-end c =
-    let p = start (c .before) .pre in
-    row-there (p .ready) (in-header (p .ready) (c .loop-test .taken)) (omega arith)
+part-slot-light-end c = row-there (start (c .before) .pre .ready) (search in-header) (omega arith)
 
 slot-light-requires : tie.Need-slot-light-requires Inv-loop μ-loop
 slot-light-requires c κs =
-    let test = c .before in
-    let p = start (test .before) .pre in
-    row-short _ _ (p .ready) (row-there (p .ready) (in-header (p .ready) (test .loop-test .taken)) (omega arith))
+    let ready = start (c .before .before) .pre .ready in
+    row-short _ _ ready (row-there ready (in-header ready (c .before .loop-test .taken)) (omega arith))
 
 load-requires : tie.Need-load-requires Inv-loop μ-loop
-load-requires c κs =
-    let test = c .before .before in
-    let p = start (test .before) .pre .ready in
-    load-there p (in-header p (test .loop-test .taken))
+load-requires c κs = record { sized = search sized; in-show = search needs }
 
 returns : tie.Need-returns Inv-loop μ-loop
 unfolding sheetLight
-returns c =
-    let test = c .before .before .before .before in
-    let p = start (test .before) .pre in
-    let below = in-header (p .ready) (test .loop-test .taken) in
-    let light = c .before .before .slot-light .ensures in
-    passed-not (test .before .loop .inv) below
-    (light-failed _ _ (p .size) (p .ready .header .modules-is) below light (c .before .load .ensures .is)
-    (λ e. omega arith))
+returns c = passed-not (c .before .before .before .before .before .loop .inv) (search in-header) (search light-failed)
 
 add-t : tie.Need-add-t Inv-loop μ-loop
 add-t c = omega arith
@@ -75,17 +63,11 @@ loop-less : tie.Need-loop-less Inv-loop μ-loop
 loop-less c = omega arith
 
 loop-again : tie.Need-loop-again Inv-loop μ-loop
-loop-again c =
-    let test = c .before .before .before .before in
-    let p = start (test .before) .pre in
-    let below = in-header (p .ready) (test .loop-test .taken) in
-    let light = c .before .before .slot-light .ensures in
-    passed-more (test .before .loop .inv) below
-    (light-passed _ _ (p .size) (p .ready .header .modules-is) below light (c .before .load .ensures .is) (c .if1 .left))
+loop-again c = passed-more (c .before .before .before .before .before .loop .inv) (search in-header) (search light-passed)
 
 returns-2 : tie.Need-returns-2 Inv-loop μ-loop
 unfolding sheetLight
-returns-2 c = passed-all (c .before .loop .inv) (past-header (start (c .before) .pre .ready) (c .loop-test .left))
+returns-2 c = passed-all (c .before .loop .inv) (search past-header)
 
 pub sheet-light-spec : {M : Type 1} → statement M
 sheet-light-spec =

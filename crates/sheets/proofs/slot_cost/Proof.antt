@@ -1,7 +1,7 @@
 use native.Mathlib.Omega.{arith}
 use Rattle.laws.specs.Acceptance.{up-range, down-range}
-use Rattle.counts.proofs.Division.{running-most}
-use Rattle.sheets.proofs.Slots.{switching-most, slot-kept, slot-raised}
+use Rattle.counts.proofs.Shares.{operating-most}
+use Rattle.sheets.proofs.SheetSlots.{switching-most, slot-kept, slot-raised}
 use borrow.Author.Needs.{needs}
 use Rattle.sheets.proofs.slot_cost.Statement.{statement}
 use Rattle.sheets.proofs.slot_cost.Tie as tie
@@ -10,34 +10,28 @@ operating-cost-requires : tie.Need-operating-cost-requires
 operating-cost-requires c κs = search needs
 
 returns : tie.Need-returns
-returns c = slot-kept _ _ _ _ (c .before .operating-cost .ensures) (c .if1 .taken)
+returns c = search slot-kept
 
 add-price : tie.Need-add-price
 add-price c =
-    let p = c .before .before .before .before .pre .ready in
-    record { fits = omega (arith, up-range _ (p .accepted), down-range _ (p .accepted)) }
+    let accepted = c .before .before .before .before .pre .ready .accepted in
+    record { fits = omega (arith, up-range _ accepted, down-range _ accepted) }
 
 sub-result : tie.Need-sub-result
 sub-result c = search needs
 
 mul-result : tie.Need-mul-result
 mul-result c =
-    let s = c .before .before .before .before in
-    let p = s .pre .ready .header in
-    record { fits = omega (arith, switching-most (s .pre .served) (s .args .prev) (p .up-is) (p .down-is)) }
+    let start = c .before .before .before .before in
+    record { fits = omega (arith, switching-most (start .pre) (start .args .prev)) }
 
 add-result : tie.Need-add-result
 add-result c =
-    let s = c .before .before .before .before in
-    let p = s .pre .ready .header in
-    let run = running-most (s .pre .served) in
-    let switching = switching-most (s .pre .served) (s .args .prev) (p .up-is) (p .down-is) in
-    record { fits = omega (arith, run, switching) }
+    let start = c .before .before .before .before in
+    record { fits = omega (arith, operating-most (start .pre), switching-most (start .pre) (start .args .prev)) }
 
 returns-2 : tie.Need-returns-2
-returns-2 c =
-    let p = c .before .before .before .before .pre .ready .header in
-    slot-raised _ _ _ _ (c .before .before .operating-cost .ensures) (p .up-is) (p .down-is)
+returns-2 c = search slot-raised
 
 pub slot-cost-spec : {M : Type 1} → statement M
 slot-cost-spec = tie.close (tie.spec operating-cost-requires returns add-price sub-result mul-result add-result returns-2)

@@ -5,7 +5,7 @@ use borrow.Author.Needs.{needs}
 use Rattle.lists.specs.Summing.{Summed, summed-none, summed-more, summed-all, summed-most, summed-room}
 use Rattle.model.specs.Sheets.{stepOf}
 use Rattle.sheets.specs.Marks.{rowLight}
-use Rattle.sheets.proofs.Bytes.{step-each}
+use Rattle.sheets.proofs.SheetBytes.{step-each}
 use Rattle.sheets.proofs.slot_light.Statement.{statement}
 use Rattle.sheets.proofs.slot_light.Tie as tie
 
@@ -39,7 +39,7 @@ loop-less : tie.Need-loop-less Inv-loop μ-loop
 loop-less c = omega arith
 
 loop-again : tie.Need-loop-again Inv-loop μ-loop
-loop-again c = let test = c .before .before in summed-more (test .before .loop .inv) (test .loop-test .taken) (c .step-of .ensures)
+loop-again c = search summed-more
 
 cast-result : tie.Need-cast-result Inv-loop μ-loop
 cast-result c =
@@ -49,7 +49,7 @@ cast-result c =
 
 returns : tie.Need-returns Inv-loop μ-loop
 unfolding rowLight
-returns c = summed-all (c .before .loop .inv) (c .loop-test .left)
+returns c = search summed-all
 
 pub slot-light-spec : {M : Type 1} → statement M
 slot-light-spec =

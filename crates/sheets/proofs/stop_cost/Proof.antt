@@ -1,4 +1,4 @@
-use Rattle.sheets.proofs.Bytes.{off-none, active-all}
+use Rattle.sheets.proofs.SheetBytes.{off-none, active-all}
 use Rattle.sheets.proofs.stop_cost.Statement.{statement}
 use Rattle.sheets.proofs.stop_cost.Tie as tie
 

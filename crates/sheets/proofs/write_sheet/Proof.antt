@@ -3,19 +3,18 @@ use native.Mathlib.Omega.{arith}
 use lib.ListN.{length}
 use borrow.Author.Needs.{needs}
 use Rattle.model.specs.Instance.{instanceOf}
-use Rattle.card.proofs.Room.{load-there}
-use Rattle.sheets.proofs.Loads.{in-slots, no-more-slots, row-there, row-small, row-fits}
+use Rattle.sheets.proofs.Loads.{in-slots, no-more-slots, slot-load-there, row-there, row-small, row-fits}
 use Rattle.sheets.proofs.Filled.{Filled, filled-none, filled-size, filled-room, filled-more, filled-all}
 use Rattle.sheets.proofs.write_sheet.Statement.{statement}
 use Rattle.sheets.proofs.write_sheet.Tie as tie
 
 abbrev Inv-loop : tie.InvT-loop
-Inv-loop card plan sheet₀ modules top t₀ sheet t = Filled (instanceOf card) plan sheet₀ t sheet
+Inv-loop card h plan sheet₀ modules t₀ sheet t = Filled (instanceOf card) plan sheet₀ t sheet
 
 abbrev μ-loop : tie.MeasureT-loop
-μ-loop card plan sheet₀ modules top t₀ sheet t = length plan - t
+μ-loop card h plan sheet₀ modules t₀ sheet t = length plan - t
 
--- The start of the function, seen from its loop.
+-- The start of the function, from its loop.
 abbrev start : tie.At-loop Inv-loop μ-loop → tie.Start Inv-loop μ-loop
 start c = c .before .before .before .before
 
@@ -29,22 +28,19 @@ wide-requires : tie.Need-wide-requires Inv-loop μ-loop
 wide-requires c κs = search needs
 
 load-requires : tie.Need-load-requires Inv-loop μ-loop
-load-requires c κs =
-    let test = c .before .before in
-    let p = start (test .before) .pre .plan .sized in
-    load-there (p .ready) (in-slots p (test .loop-test .taken))
+load-requires c κs = search slot-load-there
 
 mul-start : tie.Need-mul-start Inv-loop μ-loop
 mul-start c =
     let test = c .before .before .before in
-    let p = start (test .before) .pre .plan .sized in
-    record { fits = omega (arith, row-small (p .ready) (in-slots p (test .loop-test .taken))) }
+    let sized = start (test .before) .pre .plan .sized in
+    record { fits = omega (arith, row-small (sized .ready) (in-slots sized (test .loop-test .taken))) }
 
 add-end : tie.Need-add-end Inv-loop μ-loop
 add-end c =
     let test = c .before .before .before in
-    let p = start (test .before) .pre .plan .sized in
-    record { fits = omega (arith, row-small (p .ready) (in-slots p (test .loop-test .taken))) }
+    let sized = start (test .before) .pre .plan .sized in
+    record { fits = omega (arith, row-small (sized .ready) (in-slots sized (test .loop-test .taken))) }
 
 sub-fill-slot : tie.Need-sub-fill-slot Inv-loop μ-loop
 sub-fill-slot c = omega arith
@@ -54,18 +50,17 @@ part-fill-slot-start c = omega arith
 
 part-fill-slot-end : tie.Need-part-fill-slot-end Inv-loop μ-loop
 part-fill-slot-end c =
-    let test = c .before .before .before in
-    let p = start (test .before) .pre in
-    let below = in-slots (p .plan .sized) (test .loop-test .taken) in
-    row-there (p .plan .sized .ready) below (filled-room (test .before .loop .inv) (p .room))
+    let loop = c .before .before .before .before in
+    let given = start loop .pre in
+    row-there (given .plan .sized .ready) (search in-slots) (filled-room (loop .loop .inv) (given .room))
 
 fill-slot-requires : tie.Need-fill-slot-requires Inv-loop μ-loop
 fill-slot-requires c κs =
     let test = c .before .before .before .before in
-    let p = start (test .before) .pre in
-    let below = in-slots (p .plan .sized) (test .loop-test .taken) in
-    let inside = row-there (p .plan .sized .ready) below (filled-room (test .before .loop .inv) (p .room)) in
-    row-fits _ _ (p .plan) below inside (c .before .before .wide .ensures) (c .before .load .ensures .is)
+    let given = start (test .before) .pre in
+    let below = in-slots (given .plan .sized) (test .loop-test .taken) in
+    let inside = row-there (given .plan .sized .ready) below (filled-room (test .before .loop .inv) (given .room)) in
+    search row-fits
 
 add-t : tie.Need-add-t Inv-loop μ-loop
 add-t c = omega arith
@@ -75,20 +70,16 @@ loop-less c = omega arith
 
 loop-again : tie.Need-loop-again Inv-loop μ-loop
 loop-again c =
-    let read = c .before .before .before .before in
-    let test = read .before .before .before in
-    let p = start (test .before) .pre in
-    let sized = p .plan .sized in
-    filled-more (test .before .loop .inv) (p .room) (in-slots sized (test .loop-test .taken)) (sized .ready .header .modules-is)
-    (read .before .wide .ensures) (read .load .ensures .is) (c .before .before .fill-slot .ensures)
+    let test = c .before .before .before .before .before .before .before in
+    let below = in-slots (start (test .before) .pre .plan .sized) (test .loop-test .taken) in
+    search filled-more
 
 same-length : tie.Need-same-length Inv-loop μ-loop
 same-length c = filled-size (c .before .loop .inv) (start (c .before) .pre .room)
 
 returns : tie.Need-returns Inv-loop μ-loop
 returns c =
-    let p = start (c .before) .pre in
-    filled-all (c .before .loop .inv) (p .room) (no-more-slots (p .plan .sized) (c .loop-test .left))
+    filled-all (c .before .loop .inv) (start (c .before) .pre .room) (search no-more-slots)
 
 pub write-sheet-spec : {M : Type 1} → statement M
 write-sheet-spec =

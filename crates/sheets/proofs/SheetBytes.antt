@@ -1,7 +1,7 @@
 -- A sheet's byte: whether it is an entry, its step and its cost.
 use Prim.Native.Nat.{ℕ, _+_, _*_, _≤_, _<_}
-use mathlib.Core.Path.{_≡_}
-use mathlib.Core.Bool.{Bool, true, false, cond, or-true, or-false}
+use mathlib.Core.Path.{_≡_, _∙_}
+use mathlib.Core.Bool.{Bool, true, false, cond, not, or-true, or-false}
 use mathlib.Core.List.{List}
 use mathlib.Core.Logic.{⊎-elim}
 use native.Mathlib.Nat.{mul-le-mul}
@@ -12,23 +12,23 @@ use mir.Syntax.{w8}
 use mir.Val.{Fits}
 use borrow.Author.Tests.{leb-true, eq-eqb, ne-eqb, eqb-false}
 use Rattle.lists.specs.Numbers.{true-or-false}
-use Rattle.lists.specs.Tests.{every-at}
+use Rattle.lists.specs.Tests.{every-at, test-failed, test-passed}
 use Rattle.lists.specs.Sums.{sum-at-most}
 use Rattle.lists.specs.Parts.{getD-within}
 use Rattle.model.specs.Instance.{Instance, instanceOf}
 use Rattle.model.specs.Sheets.{off, isOff, stepOf, sheetEntries, stepCost, changeCost}
-use Rattle.model.specs.declared.Answer.the-variants.{Cost}
-use Rattle.model.specs.Calls.{checkCard, answer}
+use Rattle.model.specs.Calls.{sheetBytes, Accepted}
 use Rattle.card.specs.declared.Header.{Header}
+use Rattle.card.specs.Checking.{Ready}
 use Rattle.laws.specs.Acceptance.{modules-range, slots-range, table-range, up-range, down-range}
 use Rattle.sheets.specs.Marks.{isEntry, byteCost, bytesCost, stopCost}
-use Rattle.sheets.specs.Asked.{ByteReady, BytesReady, SheetReady}
+use Rattle.sheets.specs.SheetRequires.{ByteReady, BytesReady, SheetReady}
 
 module _ {b : ℕ} (is-off : b ≡ off) where
   pub off-entry : (top : ℕ) → true ≡ isEntry top b
   off-entry top = rw (eq-eqb b off is-off, or-true (leb b top))
 
-  -- what only active modules have
+  -- A module that is off has 0 of what only active modules have.
   pub off-none : (x : ℕ) → 0 ≡ cond (isOff b) 0 x
   off-none x = rw (eq-eqb b off is-off)
 
@@ -36,27 +36,35 @@ module _ {b : ℕ} (active : b ≡ off → ⊥) where
   pub active-entry : (top : ℕ) {x : ℕ} → x ≡ b → leb x top ≡ isEntry top b
   active-entry top {x} e = rw (ne-eqb b off active, or-false (leb b top), e)
 
+  -- An active module has the whole of it.
   pub active-all : (x : ℕ) → x ≡ cond (isOff b) 0 x
   active-all x = rw (ne-eqb b off active)
 
-  -- the step of an active module is at most the top step
+  -- The step of an active module is at most the top step.
   pub active-step : (top : ℕ) → isEntry top b ≡ true → b ≤ top
   active-step top e = leb-true b top (rw (ne-eqb b off active, or-false (leb b top)) at e)
 
--- a byte of a sheet, read inside it
-pub entry-read :
-    (top : ℕ) (sheet : List ℕ) {x : ℕ} {t : Bool} → x < length sheet → isEntry top (getD sheet x 0) ≡ t → isEntry top (getD sheet x off) ≡ t
-entry-read top sheet {x} h e = rw (getD-within sheet x off 0 h) e
+-- The test of a byte against the card's top step.
+module _ {s : List ℕ} {h : Header} (given : Ready s h) (sheet : List ℕ) {x : ℕ} (inside : x < length sheet) {flag : Bool}
+    (flag-is : flag ≡ isEntry (h .topStep) (getD sheet x 0)) where
+  entry-is : isEntry (instanceOf s .topStep) (getD sheet x off) ≡ isEntry (h .topStep) (getD sheet x 0)
+  entry-is = rw (getD-within sheet x off 0 inside, given .header .top-is)
+
+  pub entry-failed : not flag ≡ true → isEntry (instanceOf s .topStep) (getD sheet x off) ≡ false
+  entry-failed f = entry-is ∙ test-failed flag-is f
+
+  pub entry-passed : not flag ≡ false → isEntry (instanceOf s .topStep) (getD sheet x off) ≡ true
+  entry-passed f = entry-is ∙ test-passed flag-is f
 
 pub byte-ready :
     {s : List ℕ} {h : Header} {bytes : List ℕ} (x : ℕ) → BytesReady s h bytes → x < length bytes → ByteReady s h (getD bytes x 0)
 byte-ready x given below = record { ready = given .ready; in-range = given .in-range x below }
 
--- m × T is at most 200 × 1,024
-pub area-small : (s : List ℕ) → answer (checkCard s) ≡ Cost 0 → instanceOf s .modules * instanceOf s .slots ≤ 204800
+-- A sheet has at most 200 × 1,024 bytes.
+pub area-small : (s : List ℕ) → Accepted s → sheetBytes (instanceOf s) ≤ 204800
 area-small s accepted = mul-le-mul (modules-range s accepted .1) (slots-range s accepted)
 
--- a part of a sheet, from place a on
+-- The part of a sheet from place a on is ready as the sheet is.
 pub part-ready :
     {s : List ℕ} {h : Header} {sheet : List ℕ} → SheetReady s h sheet → (a : ℕ) (part : List ℕ) → a + length part ≤ length sheet →
     ((x : ℕ) → x < length part → getD part x 0 ≡ getD sheet (a + x) 0) → BytesReady s h part
@@ -76,16 +84,16 @@ module _ (i : Instance) (prev b : ℕ) where
   unfolding byteCost stepCost changeCost
   cost-stopped is-off p e = rw (eq-eqb b off is-off, e, p) (omega arith)
 
-  module _ (active : b ≡ off → ⊥) {run : ℕ} (run-is : run ≡ i .table b) where
-    pub cost-started : prev ≡ off → {up : ℕ} → up ≡ i .powerUp → run + up ≡ byteCost i prev b
+  module _ (active : b ≡ off → ⊥) {x operating : ℕ} (x-is : x ≡ b) (is : operating ≡ i .table x) where
+    pub cost-started : prev ≡ off → {up : ℕ} → up ≡ i .powerUp → operating + up ≡ byteCost i prev b
     unfolding byteCost stepCost changeCost
-    cost-started e p = rw (eq-eqb prev off e, ne-eqb b off active, run-is, p)
+    cost-started e p = rw (eq-eqb prev off e, ne-eqb b off active, is, x-is, p)
 
-    pub cost-kept : (prev ≡ off → ⊥) → run ≡ byteCost i prev b
+    pub cost-kept : (prev ≡ off → ⊥) → operating ≡ byteCost i prev b
     unfolding byteCost stepCost changeCost
-    cost-kept n = rw (ne-eqb prev off n, ne-eqb b off active, run-is) (omega arith)
+    cost-kept n = rw (ne-eqb prev off n, ne-eqb b off active, is, x-is) (omega arith)
 
--- the step of any byte is at most 255, and its change to off costs at most the price
+-- What only active modules have is at most what an active module has.
 at-most : (b : ℕ) {x y : ℕ} → x ≤ y → cond (isOff b) 0 x ≤ y
 at-most b {x} {y} h = go (isOff b)
   where
@@ -93,9 +101,11 @@ at-most b {x} {y} h = go (isOff b)
     go true = omega arith
     go false = h
 
+-- The step of any byte is at most 255.
 pub step-each : (row : List ℕ) → ((j : ℕ) → Fits w8 (getD row j 0)) → (k : ℕ) → k < length row → stepOf (getD row k 0) ≤ 255
 step-each row bytes k h = let b = bytes k in at-most (getD row k 0) (omega arith)
 
+-- The change of any byte to off costs at most the price.
 pub stop-each : (row : List ℕ) {down most : ℕ} → down ≤ most → (k : ℕ) → k < length row → stopCost down (getD row k 0) ≤ most
 stop-each row below k h = at-most (getD row k 0) below
 

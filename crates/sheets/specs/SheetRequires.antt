@@ -7,63 +7,58 @@ use lib.ListN.{length, getD}
 use Rattle.model.specs.Instance.{instanceOf}
 use Rattle.model.specs.Sheets.{sheetEntries}
 use Rattle.model.specs.Plans.{planServes}
+use Rattle.model.specs.Calls.{sheetBytes}
 use Rattle.card.specs.declared.Header.{Header}
 use Rattle.card.specs.Checking.{Ready}
-use Rattle.counts.specs.Serving.{Served}
 use Rattle.sheets.specs.Marks.{isEntry}
 
--- a row with room for n active modules, which serve the load l at steps up to 200
+-- The row has room for n active modules, which serve the load l at steps up to 200.
 pub record RowFits (row : List ℕ) (n l : ℕ) : Type 0 where
   pub in-row : n ≤ length row
   pub serves : l ≤ n * 200
 
--- an accepted card with its header, and a count that serves a load
-pub record SlotReady (s : List ℕ) (h : Header) (n l : ℕ) : Type 0 where
-  pub ready : Ready s h
-  pub served : Served s n l
-
--- an accepted card with its header, and a plan of one count a slot,
+-- An accepted card with its header, and a plan with one count for each slot.
 pub record PlanSized (s : List ℕ) (h : Header) (p : List ℕ) : Type 0 where
   pub ready : Ready s h
   pub slotwise : length p ≡ instanceOf s .slots
 
--- whose counts are in the rack and serve the loads
+-- An accepted card with its header, and a plan with one count for each slot, which is in the rack and serves the slot's load.
 pub record PlanReady (s : List ℕ) (h : Header) (p : List ℕ) : Type 0 where
   pub sized : PlanSized s h p
   pub in-rack : (t : ℕ) → t < instanceOf s .slots → getD p t 0 ≤ instanceOf s .modules
   pub served : planServes (instanceOf s) p ≡ true
 
--- such a plan, and a sheet buffer of at least m × T bytes
+-- A plan that is ready, and a sheet buffer of at least m × T bytes.
 pub record SheetRoom (s : List ℕ) (h : Header) (p sheet : List ℕ) : Type 0 where
   pub plan : PlanReady s h p
-  pub room : instanceOf s .modules * instanceOf s .slots ≤ length sheet
+  pub room : sheetBytes (instanceOf s) ≤ length sheet
 
--- an accepted card with its header, and a byte that is 0 to Q or 255
+-- An accepted card with its header, and a byte that is 0 to Q or 255.
 pub record ByteReady (s : List ℕ) (h : Header) (byte : ℕ) : Type 0 where
   pub ready : Ready s h
   pub in-range : isEntry (instanceOf s .topStep) byte ≡ true
 
--- an accepted card with its header, and at most 200 × 1,024 bytes, each 0 to Q or 255
+-- An accepted card with its header, and at most 200 × 1,024 bytes, each of which is 0 to Q or 255.
 pub record BytesReady (s : List ℕ) (h : Header) (bytes : List ℕ) : Type 0 where
   pub ready : Ready s h
   pub few : length bytes ≤ 204800
   pub in-range : (x : ℕ) → x < length bytes → isEntry (instanceOf s .topStep) (getD bytes x 0) ≡ true
 
--- a row of at most 200 bytes
+-- The row has at most 200 bytes.
 pub record RowShort (row : List ℕ) : Type 0 where
   pub short : length row ≤ 200
 
--- a row of at most 200 bytes, and a price in range
+-- The row has at most 200 bytes, and the price is in range.
 pub record RowPriced (price : ℕ) (row : List ℕ) : Type 0 where
   pub short : length row ≤ 200
   pub priced : price ≤ 500000000
 
--- an accepted card with its header, and a sheet of m × T bytes,
+-- An accepted card with its header, and a sheet of m × T bytes.
 pub record SheetSized (s : List ℕ) (h : Header) (sheet : List ℕ) : Type 0 where
   pub ready : Ready s h
-  pub size : length sheet ≡ instanceOf s .modules * instanceOf s .slots
+  pub size : length sheet ≡ sheetBytes (instanceOf s)
 
--- each 0 to Q or 255
+-- An accepted card with its header, and a sheet of m × T bytes, each of which is 0 to Q or 255.
 pub record SheetReady (s : List ℕ) (h : Header) (sheet : List ℕ) : Type 0 where
   pub sized : SheetSized s h sheet
   pub entries : sheetEntries (instanceOf s) sheet ≡ true

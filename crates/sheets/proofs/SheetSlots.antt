@@ -1,0 +1,36 @@
+-- The cost of a slot by counts.
+use Prim.Native.Nat.{ℕ, _+_, _-_, _*_, _≤_}
+use mathlib.Core.Path.{_≡_, refl}
+use mathlib.Core.List.{List}
+use native.Mathlib.Nat.{mul-le-mul}
+use native.Mathlib.Omega.{arith}
+use Rattle.model.specs.Instance.{Instance, instanceOf}
+use Rattle.model.specs.Counts.{operatingCost}
+use Rattle.model.specs.Thesis.{switchingPrice, slotCost}
+use Rattle.laws.specs.Acceptance.{modules-range, up-range, down-range}
+use Rattle.card.specs.declared.Header.{Header}
+use Rattle.counts.specs.Serving.{Served}
+use Rattle.counts.proofs.Shares.{operating-most}
+
+module _ {s : List ℕ} {h : Header} {n l : ℕ} (given : Served s h n l) (prev : ℕ) where
+  -- Going up by at most 200 modules costs at most 200 times the highest switching price.
+  pub switching-most : (h .powerUp + h .powerDown) * (n - prev) ≤ 1000000000 * 200
+  switching-most =
+      mul-le-mul {n₁ = h .powerUp + h .powerDown} {m₁ = n - prev} {n₂ = 1000000000} {m₂ = 200}
+      (omega (arith, up-range s (given .ready .accepted), down-range s (given .ready .accepted)))
+      (omega (arith, modules-range s (given .ready .accepted) .1))
+
+  -- Where fewer modules or as many are active, only the operating cost is left.
+  pub slot-kept : {operating : ℕ} → operating ≡ operatingCost (instanceOf s) n l → n ≤ prev → operating ≡ slotCost (instanceOf s) prev n l
+  unfolding slotCost
+  slot-kept is below = let none : n - prev ≡ 0 = omega arith in rw (none, is) (omega arith)
+
+  pub slot-raised :
+      {operating : ℕ} → operating ≡ operatingCost (instanceOf s) n l →
+      operating + (h .powerUp + h .powerDown) * (n - prev) ≡ slotCost (instanceOf s) prev n l
+  unfolding slotCost
+  slot-raised is = rw (is, given .ready .header .up-is, given .ready .header .down-is)
+
+  -- A slot costs at most 200 times 1,000,000 for operating and 200 times 1,000,000,000 for switching.
+  pub slot-most : slotCost (instanceOf s) prev n l ≤ 200200000000
+  slot-most = omega (arith, slot-raised refl, operating-most given, switching-most)
