@@ -6,12 +6,34 @@ use counts::PlannerKind;
 use model::Answer;
 use model::Refusal;
 ghost use mathlib.Core.Path.{_≡_};
+ghost use Rattle.model.specs.Answers.{refusalNumber};
 ghost use Rattle.model.specs.Instance.{instanceOf};
 ghost use Rattle.model.specs.Planners.{workBytes, tableAllowed};
 ghost use Rattle.model.specs.Calls.{answer, checkCard, runningCost, planShow, makeSheet, markSheet, roundCount};
 ghost use Rattle.model.specs.Calls.{planAtExit, workAtExit, sheetAtExit};
 ghost use Rattle.card.specs.Checking.{Ready};
 ghost use Rattle.counts.specs.AllowedCounts.{plannerOf};
+
+// The number of a refusal.
+pub fn refusal_number(x: Refusal) -> u64
+    ensures { λ r. ⌜ r ≡ refusalNumber x ⌝ }
+{
+    match x {
+        Refusal::NotACard => 1,
+        Refusal::Version => 2,
+        Refusal::RackSize => 3,
+        Refusal::SlotCount => 4,
+        Refusal::CardLength => 5,
+        Refusal::PriceRange => 6,
+        Refusal::NotConvex => 7,
+        Refusal::LoadRange => 8,
+        Refusal::NotMonotone => 9,
+        Refusal::BufferTooShort => 10,
+        Refusal::WrongLength => 11,
+        Refusal::EntryRange => 12,
+        Refusal::LoadNotServed => 13,
+    }
+}
 
 // Checks a card: refusals 1 to 8, else cost 0.
 pub fn check_card(card: &[u8]) -> Answer

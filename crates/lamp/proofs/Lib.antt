@@ -1,8 +1,1 @@
-mod Answering
-mod Areas
-mod Running
-mod Rounding
-mod Marking
-mod Making
-mod Planning
 mod Promised

@@ -1,57 +1,31 @@
-use mathlib.Core.Path.{sym, _∙_}
-use Rattle.card.proofs.Groups.{refused-answer, ready}
-use Rattle.theory.specs.Outcomes.{coarse-refused}
-use Rattle.lamp.proofs.Planning.{coarse-exits, refused-exits}
-use Rattle.lamp.proofs.Promised.{coarse-own, coarse-bound}
 use borrow.Author.Needs.{needs}
 use Rattle.lamp.proofs.lamp_plan_coarse.Statement.{statement}
 use Rattle.lamp.proofs.lamp_plan_coarse.Tie as tie
+use Rattle.lamp.proofs.lamp_plan_coarse.Reads as reads
+use Rattle.lamp.proofs.lamp_plan_coarse.Lts as lts
+use Rattle.calls.proofs.plan_show.Reads as plan-show-reads
+use Rattle.lamp.proofs.to_c.Reads as to-c-reads
 
-check-requires : tie.Need-check-requires
-check-requires c κs = search needs
+-- src/lib.rt:94:10
+plan-show-requires : tie.Need-plan-show-requires
+plan-show-requires c κs = search needs
 
-enum-known-h : tie.Need-enum-known-h
-enum-known-h c = search needs
+-- src/lib.rt:94:5
+to-c-requires : tie.Need-to-c-requires
+to-c-requires c κs = search needs
 
-plan-coarse-requires : tie.Need-plan-coarse-requires
-plan-coarse-requires c κs =
-    let h = c .before .before .before .h in
-    let check = c .before .before .before .before .before .check in
-    ready _ (sym (check .ensures) ∙ h .given .1)
-
-enum-known-x : tie.Need-enum-known-x
-enum-known-x c = search needs
-
-refused-requires : tie.Need-refused-requires
-refused-requires c κs = search needs
-
+-- src/lib.rt:86:1
 same-length : tie.Need-same-length
 same-length c = search needs
 
+-- src/lib.rt:86:1
 same-length-2 : tie.Need-same-length-2
 same-length-2 c = search needs
 
+-- src/lib.rt:86:1
 returns : tie.Need-returns
-returns c =
-    let e = c .before .before .before .before .plan-coarse .ensures in
-    (e .0, (e .1 .0, (e .1 .1, (coarse-own _ _ _ (e .0) (e .1 .0), coarse-bound _ _ _ (e .0)))))
-
-returns-2 : tie.Need-returns-2
-returns-2 c =
-    let a = refused-answer _ (sym (c .before .before .before .before .check .ensures) ∙ c .before .before .x .given .1) in
-    let e = coarse-exits _ _ _ (refused-exits (coarse-refused _ _ _ a) (c .refused .ensures)) in
-    (e .0, (e .1 .0, (e .1 .1, (coarse-own _ _ _ (e .0) (e .1 .0), coarse-bound _ _ _ (e .0)))))
+returns c = ?
 
 pub lamp-plan-coarse-spec : {M : Type 1} → statement M
 lamp-plan-coarse-spec =
-    tie.close
-    (tie.spec
-    check-requires
-    enum-known-h
-    plan-coarse-requires
-    enum-known-x
-    refused-requires
-    same-length
-    same-length-2
-    returns
-    returns-2)
+    tie.close (tie.spec plan-show-requires to-c-requires same-length same-length-2 returns)

@@ -1,52 +1,26 @@
-use mathlib.Core.Path.{sym, _∙_}
-use Rattle.card.proofs.Groups.{refused-answer, ready}
-use Rattle.lamp.proofs.Answering.{gives-as}
-use Rattle.lamp.proofs.Making.{make-refused, sheet-kept, marked-alike}
 use borrow.Author.Needs.{needs}
 use Rattle.lamp.proofs.lamp_sheet.Statement.{statement}
 use Rattle.lamp.proofs.lamp_sheet.Tie as tie
+use Rattle.lamp.proofs.lamp_sheet.Reads as reads
+use Rattle.lamp.proofs.lamp_sheet.Lts as lts
+use Rattle.calls.proofs.make_sheet.Reads as make-sheet-reads
+use Rattle.lamp.proofs.to_c.Reads as to-c-reads
 
-check-requires : tie.Need-check-requires
-check-requires c κs = search needs
-
-enum-known-h : tie.Need-enum-known-h
-enum-known-h c = search needs
-
+-- src/lib.rt:61:10
 make-sheet-requires : tie.Need-make-sheet-requires
-make-sheet-requires c κs = ready _ (sym (c .before .before .before .before .check .ensures) ∙ c .before .before .h .given .1)
+make-sheet-requires c κs = search needs
 
-enum-known-x : tie.Need-enum-known-x
-enum-known-x c = search needs
+-- src/lib.rt:61:5
+to-c-requires : tie.Need-to-c-requires
+to-c-requires c κs = search needs
 
-refused-requires : tie.Need-refused-requires
-refused-requires c κs = search needs
-
+-- src/lib.rt:55:1
 same-length : tie.Need-same-length
 same-length c = search needs
 
+-- src/lib.rt:55:1
 returns : tie.Need-returns
-returns c =
-    let g = c .before .before .make-sheet .ensures .0 in
-    let e = c .before .before .make-sheet .ensures .1 in
-    (g, (e, marked-alike _ _ _ g e))
-
-returns-2 : tie.Need-returns-2
-returns-2 c =
-    let check = c .before .before .before .before .check in
-    let a = make-refused _ _ _ (refused-answer _ (sym (check .ensures) ∙ c .before .before .x .given .1)) in
-    let g = gives-as a (c .refused .ensures) in
-    let e = sheet-kept _ _ _ a in
-    (g, (e, marked-alike _ _ _ g e))
+returns c = ?
 
 pub lamp-sheet-spec : {M : Type 1} → statement M
-lamp-sheet-spec =
-    tie.close
-    (tie.spec
-    check-requires
-    enum-known-h
-    make-sheet-requires
-    enum-known-x
-    refused-requires
-    same-length
-    returns
-    returns-2)
+lamp-sheet-spec = tie.close (tie.spec make-sheet-requires to-c-requires same-length returns)

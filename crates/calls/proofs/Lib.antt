@@ -1,0 +1,6 @@
+mod Sizes
+mod RunningCost
+mod RoundedCount
+mod Marking
+mod Making
+mod Planning
