@@ -19,7 +19,9 @@ use Rattle.model.specs.Instance.{Instance, instanceOf}
 use Rattle.model.specs.Sheets.{off, isOff, stepOf, sheetEntries, stepCost, changeCost}
 use Rattle.model.specs.Calls.{sheetBytes, Accepted}
 use Rattle.card.specs.declared.Header.{Header}
+use Rattle.card.specs.Fields.{EntryThere}
 use Rattle.card.specs.Checking.{Ready}
+use Rattle.card.proofs.FieldsThere.{entry-there}
 use Rattle.laws.specs.Acceptance.{modules-range, slots-range, table-range, up-range, down-range}
 use Rattle.sheets.specs.Marks.{isEntry, byteCost, bytesCost, stopCost}
 use Rattle.sheets.specs.SheetRequires.{ByteReady, BytesReady, SheetReady}
@@ -36,12 +38,12 @@ module _ {b : ℕ} (active : b ≡ off → ⊥) where
   pub active-entry : (top : ℕ) {x : ℕ} → x ≡ b → leb x top ≡ isEntry top b
   active-entry top {x} e = rw (ne-eqb b off active, or-false (leb b top), e)
 
-  -- An active module has the whole of it.
+  -- An active module has all of what only active modules have.
   pub active-all : (x : ℕ) → x ≡ cond (isOff b) 0 x
   active-all x = rw (ne-eqb b off active)
 
   -- The step of an active module is at most the top step.
-  pub active-step : (top : ℕ) → isEntry top b ≡ true → b ≤ top
+  active-step : (top : ℕ) → isEntry top b ≡ true → b ≤ top
   active-step top e = leb-true b top (rw (ne-eqb b off active, or-false (leb b top)) at e)
 
 -- The test of a byte against the card's top step.
@@ -56,9 +58,15 @@ module _ {s : List ℕ} {h : Header} (given : Ready s h) (sheet : List ℕ) {x :
   pub entry-passed : not flag ≡ false → isEntry (instanceOf s .topStep) (getD sheet x off) ≡ true
   entry-passed f = entry-is ∙ test-passed flag-is f
 
+-- Each of some bytes that are ready is ready alone.
 pub byte-ready :
     {s : List ℕ} {h : Header} {bytes : List ℕ} (x : ℕ) → BytesReady s h bytes → x < length bytes → ByteReady s h (getD bytes x 0)
 byte-ready x given below = record { ready = given .ready; in-range = given .in-range x below }
+
+-- The table has the entry of an active module's step.
+pub step-there :
+    {s : List ℕ} {h : Header} {b x : ℕ} → ByteReady s h b → (b ≡ off → ⊥) → x ≡ b → EntryThere s h x
+step-there given active e = rw e (entry-there (given .ready) (active-step active _ (given .in-range)))
 
 -- A sheet has at most 200 × 1,024 bytes.
 pub area-small : (s : List ℕ) → Accepted s → sheetBytes (instanceOf s) ≤ 204800

@@ -4,9 +4,9 @@ use mathlib.Core.Path.{_≡_, refl}
 use mathlib.Core.List.{List}
 use native.Mathlib.Nat.{mul-le-mul}
 use native.Mathlib.Omega.{arith}
-use Rattle.model.specs.Instance.{Instance, instanceOf}
+use Rattle.model.specs.Instance.{instanceOf}
 use Rattle.model.specs.Counts.{operatingCost}
-use Rattle.model.specs.Thesis.{switchingPrice, slotCost}
+use Rattle.model.specs.Thesis.{slotCost}
 use Rattle.laws.specs.Acceptance.{modules-range, up-range, down-range}
 use Rattle.card.specs.declared.Header.{Header}
 use Rattle.counts.specs.Serving.{Served}

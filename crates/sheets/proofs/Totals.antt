@@ -93,7 +93,11 @@ row-stop-most {down} {stop} {row} given e =
     let each = sum-at-most (length row) (stop-each row (given .priced)) in
     omega (arith, each)
 
--- The same with a header's numbers.
+-- The place where the last row begins, by a header.
+abbrev lastPlace : Header → ℕ
+lastPlace h = (h .slots - 1) * h .modules
+
+-- A sheet's rows and their costs by its header.
 module _ {s : List ℕ} {h : Header} {sheet : List ℕ} (given : SheetReady s h sheet) where
   pub sheet-empty : h .slots ≡ 0 → 0 ≡ sheetCost (instanceOf s) sheet
   sheet-empty e = cost-empty (instanceOf s) sheet (given .sized .size) (sym (given .sized .ready .header .slots-is) ∙ e)
@@ -103,23 +107,22 @@ module _ {s : List ℕ} {h : Header} {sheet : List ℕ} (given : SheetReady s h 
     slots-before = omega arith
 
     -- The first row and as many bytes as stand before the last row are the whole.
-    pub header-rows : h .modules + (h .slots - 1) * h .modules ≡ length sheet
+    header-rows : h .modules + lastPlace h ≡ length sheet
     header-rows = rw (given .sized .ready .header .modules-is) (rows-all (instanceOf s) sheet (given .sized .size) slots-before refl)
 
     pub first-inside : h .modules ≤ length sheet
     first-inside = omega (arith, header-rows)
 
-    pub earlier-inside : (h .slots - 1) * h .modules ≤ length sheet
+    pub earlier-inside : lastPlace h ≤ length sheet
     earlier-inside = omega (arith, header-rows)
 
-    pub earlier-fits : Fits w64 ((h .slots - 1) * h .modules)
-    earlier-fits =
-        record { fits = omega (arith, earlier-inside, area-small s (given .sized .ready .accepted)) }
+    pub earlier-fits : Fits w64 (lastPlace h)
+    earlier-fits = record { fits = omega (arith, earlier-inside, area-small s (given .sized .ready .accepted)) }
 
     pub first-counted : h .modules ≡ length (take (h .modules) sheet)
     first-counted = sym (first-length sheet _ _ header-rows)
 
-    pub earlier-counted : (h .slots - 1) * h .modules ≡ length (take ((h .slots - 1) * h .modules) sheet)
+    pub earlier-counted : lastPlace h ≡ length (take (lastPlace h) sheet)
     earlier-counted = sym (earlier-length sheet _ _ header-rows)
 
     pub first-ready : BytesReady s h (take (h .modules) sheet)
@@ -132,10 +135,10 @@ module _ {s : List ℕ} {h : Header} {sheet : List ℕ} (given : SheetReady s h 
         part-ready given (h .modules) _ (omega (arith, later-length sheet _ _ header-rows, header-rows))
         (λ x below. later-at sheet _ _ header-rows x (omega (arith, later-length sheet _ _ header-rows)))
 
-    pub rows-paired : length (take ((h .slots - 1) * h .modules) sheet) ≡ length (from (h .modules) sheet)
+    pub rows-paired : length (take (lastPlace h) sheet) ≡ length (from (h .modules) sheet)
     rows-paired = omega (arith, earlier-counted, later-length sheet _ _ header-rows)
 
-    pub last-priced : RowPriced (h .powerDown) (from ((h .slots - 1) * h .modules) sheet)
+    pub last-priced : RowPriced (h .powerDown) (from (lastPlace h) sheet)
     last-priced =
         let accepted = given .sized .ready .accepted in
         record {
@@ -145,16 +148,16 @@ module _ {s : List ℕ} {h : Header} {sheet : List ℕ} (given : SheetReady s h 
 
     module _
         {start rest : ℕ} (start-is : start ≡ bytesCost (instanceOf s) allOff (take (h .modules) sheet))
-        (rest-is : rest ≡ bytesCost (instanceOf s) (byteAt (take ((h .slots - 1) * h .modules) sheet)) (from (h .modules) sheet)) where
-      parts-small : start + rest ≤ 2 * 204800 * 501000000
-      parts-small = omega (arith, bytes-most first-ready _ start-is, bytes-most later-ready _ rest-is)
+        (rest-is : rest ≡ bytesCost (instanceOf s) (byteAt (take (lastPlace h) sheet)) (from (h .modules) sheet)) where
+      rows-small : start + rest ≤ 2 * 204800 * 501000000
+      rows-small = omega (arith, bytes-most first-ready _ start-is, bytes-most later-ready _ rest-is)
 
       pub rows-fit : Fits w64 (start + rest)
-      rows-fit = record { fits = omega (arith, parts-small) }
+      rows-fit = record { fits = omega (arith, rows-small) }
 
-      module _ {stop : ℕ} (stop-is : stop ≡ rowStopCost (h .powerDown) (from ((h .slots - 1) * h .modules) sheet)) where
-        pub total-fits : Fits w64 (start + rest + stop)
-        total-fits = record { fits = omega (arith, parts-small, row-stop-most last-priced stop-is) }
+      module _ {stop : ℕ} (stop-is : stop ≡ rowStopCost (h .powerDown) (from (lastPlace h) sheet)) where
+        pub total-small : start + rest + stop ≤ 3 * 204800 * 501000000
+        total-small = omega (arith, rows-small, row-stop-most last-priced stop-is)
 
         pub sheet-whole : start + rest + stop ≡ sheetCost (instanceOf s) sheet
         sheet-whole =

@@ -128,10 +128,10 @@ pub fn sheet_entries(card: &[u8], h: Header, sheet: &[u8]) -> bool
     requires { ⌜ Ready (now card) h ⌝ }
     ensures { λ r. ⌜ r ≡ sheetEntries (instanceOf (now (card .entry))) (now (sheet .entry)) ⌝ }
 {
-    let top_step = h.topStep;
+    let top = h.topStep;
     let mut x = 0;
     while x < sheet.len() {
-        if !is_entry(top_step, sheet[x]) {
+        if !is_entry(top, sheet[x]) {
             return false;
         }
         x += 1;

@@ -1,7 +1,6 @@
 use native.Mathlib.Omega.{arith}
 use Rattle.laws.specs.Acceptance.{up-range}
-use Rattle.card.proofs.FieldsThere.{entry-there}
-use Rattle.sheets.proofs.SheetBytes.{active-step, cost-stopped, cost-started, cost-kept}
+use Rattle.sheets.proofs.SheetBytes.{step-there, cost-stopped, cost-started, cost-kept}
 use borrow.Author.Needs.{needs}
 use Rattle.sheets.proofs.byte_cost.Statement.{statement}
 use Rattle.sheets.proofs.byte_cost.Tie as tie
@@ -16,14 +15,12 @@ wide-requires : tie.Need-wide-requires
 wide-requires c κs = search needs
 
 entry-requires : tie.Need-entry-requires
-entry-requires c κs =
-    let p = c .before .before .before .pre in
-    rw (c .wide .ensures) (entry-there (p .ready) (active-step (c .before .if1 .left) _ (p .in-range)))
+entry-requires c κs = search step-there
 
 add-result : tie.Need-add-result
 add-result c =
-    let p = c .before .before .before .before .before .before .pre .ready in
-    record { fits = omega (arith, up-range _ (p .accepted)) }
+    let start = c .before .before .before .before .before .before in
+    record { fits = omega (arith, up-range _ (start .pre .ready .accepted)) }
 
 returns-2 : tie.Need-returns-2
 returns-2 c = search cost-started

@@ -22,9 +22,7 @@ same-length : tie.Need-same-length
 same-length c = search needs
 
 returns : tie.Need-returns
-returns c =
-    let a = c .before .before .before .before .before .before .args in
-    row-off _ (a .l) (a .row .now) (c .before .before .before .before .if1 .taken) (c .before .before .fill .ensures)
+returns c = search row-off
 
 rem-rest : tie.Need-rem-rest
 rem-rest c = search needs
@@ -75,12 +73,7 @@ same-length-2 : tie.Need-same-length-2
 same-length-2 c = search needs
 
 returns-2 : tie.Need-returns-2
-returns-2 c =
-    let active = c .before .before .before .before .before .before in
-    let first = active .before .before .before .before in
-    let some = first .before .before in
-    row-filled _ _ (some .if1 .left) _ (some .before .before .pre .in-row) (first .fill2 .ensures) (active .fill3 .ensures)
-    (c .before .before .fill4 .ensures)
+returns-2 c = search row-filled
 
 pub fill-slot-spec : {M : Type 1} → statement M
 fill-slot-spec =

@@ -12,7 +12,8 @@ use Rattle.sheets.proofs.plan_serves.Statement.{statement}
 use Rattle.sheets.proofs.plan_serves.Tie as tie
 
 abbrev Inv-loop : tie.InvT-loop
-Inv-loop card h plan top t₀ t = Passed (instanceOf card .slots) (λ u. canServe (instanceOf card) (getD plan u 0) (instanceOf card .load u)) t
+Inv-loop card h plan top t₀ t =
+    Passed (instanceOf card .slots) (λ u. canServe (instanceOf card) (getD plan u 0) (instanceOf card .load u)) t
 
 abbrev μ-loop : tie.MeasureT-loop
 μ-loop card h plan top t₀ t = length plan - t

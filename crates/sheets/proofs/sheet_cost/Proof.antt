@@ -1,6 +1,8 @@
+use Prim.Native.Nat.{_+_, _*_, _≤_}
+use native.Mathlib.Omega.{arith}
 use Rattle.sheets.proofs.Totals.{first-inside, earlier-inside, earlier-fits, first-counted, earlier-counted}
 use Rattle.sheets.proofs.Totals.{first-ready, later-ready, rows-paired, last-priced}
-use Rattle.sheets.proofs.Totals.{rows-fit, total-fits, sheet-empty, sheet-whole}
+use Rattle.sheets.proofs.Totals.{rows-fit, total-small, sheet-empty, sheet-whole}
 use borrow.Author.Needs.{needs}
 use Rattle.sheets.proofs.sheet_cost.Statement.{statement}
 use Rattle.sheets.proofs.sheet_cost.Tie as tie
@@ -51,7 +53,11 @@ add-result : tie.Need-add-result
 add-result c = search rows-fit
 
 add-result-2 : tie.Need-add-result-2
-add-result-2 c = search total-fits
+add-result-2 c =
+    let start = c .before .before .before .before .before .row-start-cost .result in
+    let rest = c .before .before .rows-cost .result in
+    let small : start + rest + c .row-stop-cost .result ≤ 3 * 204800 * 501000000 = search total-small in
+    record { fits = omega arith }
 
 returns-2 : tie.Need-returns-2
 returns-2 c = search sheet-whole

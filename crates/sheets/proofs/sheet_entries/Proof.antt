@@ -27,7 +27,8 @@ is-entry-requires c κs = search needs
 
 returns : tie.Need-returns Inv-loop μ-loop
 unfolding sheetEntries
-returns c = passed-not (c .before .before .before .before .loop .inv) (c .before .before .before .loop-test .taken) (search entry-failed)
+returns c =
+    passed-not (c .before .before .before .before .loop .inv) (c .before .before .before .loop-test .taken) (search entry-failed)
 
 add-x : tie.Need-add-x Inv-loop μ-loop
 add-x c = omega arith
@@ -36,7 +37,8 @@ loop-less : tie.Need-loop-less Inv-loop μ-loop
 loop-less c = omega arith
 
 loop-again : tie.Need-loop-again Inv-loop μ-loop
-loop-again c = passed-more (c .before .before .before .before .loop .inv) (c .before .before .before .loop-test .taken) (search entry-passed)
+loop-again c =
+    passed-more (c .before .before .before .before .loop .inv) (c .before .before .before .loop-test .taken) (search entry-passed)
 
 returns-2 : tie.Need-returns-2 Inv-loop μ-loop
 unfolding sheetEntries

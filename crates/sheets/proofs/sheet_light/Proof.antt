@@ -1,4 +1,5 @@
 use Prim.Native.Nat.{suc, _-_}
+use mathlib.Core.Path.{_≡_}
 use native.Mathlib.Omega.{arith}
 use lib.Dec.{eqb}
 use borrow.Author.Needs.{needs}
@@ -54,7 +55,9 @@ load-requires c κs = record { sized = search sized; in-show = search needs }
 
 returns : tie.Need-returns Inv-loop μ-loop
 unfolding sheetLight
-returns c = passed-not (c .before .before .before .before .before .loop .inv) (search in-header) (search light-failed)
+returns c =
+    let differ : c .before .before .slot-light .result ≡ c .before .load .result → ⊥ = λ e. omega arith in
+    passed-not (c .before .before .before .before .before .loop .inv) (search in-header) (search light-failed)
 
 add-t : tie.Need-add-t Inv-loop μ-loop
 add-t c = omega arith

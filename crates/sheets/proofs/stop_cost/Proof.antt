@@ -3,10 +3,10 @@ use Rattle.sheets.proofs.stop_cost.Statement.{statement}
 use Rattle.sheets.proofs.stop_cost.Tie as tie
 
 returns : tie.Need-returns
-returns c = off-none (c .if1 .taken) (c .before .args .down)
+returns c = search off-none
 
 returns-2 : tie.Need-returns-2
-returns-2 c = active-all (c .if1 .left) (c .before .args .down)
+returns-2 c = search active-all
 
 pub stop-cost-spec : {M : Type 1} → statement M
 stop-cost-spec = tie.close (tie.spec returns returns-2)

@@ -78,8 +78,7 @@ same-length : tie.Need-same-length Inv-loop μ-loop
 same-length c = filled-size (c .before .loop .inv) (start (c .before) .pre .room)
 
 returns : tie.Need-returns Inv-loop μ-loop
-returns c =
-    filled-all (c .before .loop .inv) (start (c .before) .pre .room) (search no-more-slots)
+returns c = filled-all (c .before .loop .inv) (start (c .before) .pre .room) (search no-more-slots)
 
 pub write-sheet-spec : {M : Type 1} → statement M
 write-sheet-spec =
