@@ -83,8 +83,7 @@ module _ (k : Planner) (s p w : List ℕ) where
           unfolding atExit
           plan-done (cost-is, (plan-is, cleared)) =
               let size = best-fits k s (r .accepted) .slotwise ∙ sym (r .header .slots-is) in
-              let zeros = length-take-le n w work-room ∙ n-is in
-              (
+              let zeros = length-take-le n w work-room ∙ n-is in (
                 ap Cost cost-is ∙ sym cost-given,
                 (
                   rw (plan-at-exit k s p w, cost-given, plan-is, size),

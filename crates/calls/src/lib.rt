@@ -179,7 +179,13 @@ fn table_allowed(kind: PlannerKind, card: &[u8], h: Header) -> bool
 }
 
 // A planner on an accepted card.
-pub fn plan_show_on(kind: PlannerKind, card: &[u8], h: Header, plan: &mut [u8], work: &mut [u8]) -> Answer
+pub fn plan_show_on(
+    kind: PlannerKind,
+    card: &[u8],
+    h: Header,
+    plan: &mut [u8],
+    work: &mut [u8],
+) -> Answer
     requires { ⌜ Ready (now card) h ⌝ }
     ensures { λ r. ⌜ r ≡ answer (planShow (plannerOf kind) (now (card .entry)) (now (plan .entry)) (now (work .entry))) ⌝ }
     ensures { λ r. ⌜ now (plan .exit) ≡ planAtExit (planShow (plannerOf kind) (now (card .entry)) (now (plan .entry)) (now (work .entry))) ⌝ }

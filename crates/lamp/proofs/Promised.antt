@@ -30,8 +30,7 @@ module _ (s x : List ℕ) {a : Answer} (is : a ≡ answer (markSheet s x)) {numb
   pub marks :
       Gives (answer (markSheet s x)) number cost × AcceptsExactly s x number
   marks =
-      let g = gives-as is given in
-      (
+      let g = gives-as is given in (
         g,
         record {
           only-serving = λ e. mark-number s x .0 (sym (g .number-is) ∙ e);
@@ -46,8 +45,7 @@ module _
   pub makes :
       Gives (answer (makeSheet s p x)) number cost × ((y ≡ sheetAtExit (makeSheet s p x)) × MarkedAlike s y number cost)
   makes =
-      let g = gives-as (exit .0) given in
-      (
+      let g = gives-as (exit .0) given in (
         g,
         (
           exit .1,

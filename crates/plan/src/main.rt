@@ -1,14 +1,15 @@
 // The program: reads a card from standard input, and prints its exact plan or its refusal.
-use card::Cursor;
+use card::Checked;
+use card::Header;
+use counts::PlannerKind;
 use libc::STDIN_FILENO;
 use libc::STDOUT_FILENO;
+use model::Answer;
 ghost use mathlib.Core.Path.{_≡_};
-ghost use Prim.Native.Nat.{_≤_};
 ghost use lib.ListN.{length};
-ghost use Rattle.lists.specs.Writing.{atStart};
-ghost use Rattle.model.specs.Instance.{instanceOf};
-ghost use Rattle.model.specs.Listing.{printed};
-ghost use Rattle.plan.specs.Program.{TextArea, Planned, exactListing};
+ghost use Rattle.lists.specs.Lists.{writtenOver};
+ghost use Rattle.model.specs.Listing.{exactListing, printed};
+ghost use Rattle.plan.specs.Program.{TextArea, AcceptedText, PlannedText};
 
 // An area for a plan.
 fn plan_area() -> [u8; 1024]
@@ -24,51 +25,45 @@ fn text_area() -> [u8; 300000]
     [0; 300000]
 }
 
-fn modules_of(card: &[u8]) -> u64
-    requires { ⌜ 17 ≤ length (now card) ⌝ }
-    ensures { λ r. ⌜ r ≡ instanceOf (now (card .entry)) .modules ⌝ }
-{
-    let place = Cursor { at: 5 };
-    let read = place.one(card);
-    read.value
-}
-
-fn slots_of(card: &[u8]) -> u64
-    requires { ⌜ 17 ≤ length (now card) ⌝ }
-    ensures { λ r. ⌜ r ≡ instanceOf (now (card .entry)) .slots ⌝ }
-{
-    let place = Cursor { at: 7 };
-    let read = place.two(card);
-    read.value
-}
-
-// The listing of a card's exact plan, which stands in the plan area.
-fn print_plan(card: &[u8], plan: &[u8], cost: u64, out: &mut [u8]) -> usize
-    requires { ⌜ Planned (now card) (now plan) (now out) ⌝ }
+// The listing of an accepted card's exact plan, which stands in the plan area.
+fn print_plan(card: &[u8], h: Header, plan: &[u8], cost: u64, out: &mut [u8]) -> usize
+    requires { ⌜ PlannedText (now card) h (now plan) (now out) ⌝ }
     ensures size { λ r. ⌜ r ≡ length (exactListing (now (card .entry)) cost) ⌝ }
-    ensures bytes { λ _. ⌜ now (out .exit) ≡ atStart (exactListing (now (card .entry)) cost) (now (out .entry)) ⌝ }
+    ensures bytes { λ _. ⌜ now (out .exit) ≡ writtenOver (exactListing (now (card .entry)) cost) (now (out .entry)) ⌝ }
 {
-    let modules = modules_of(card);
-    let slots = slots_of(card) as usize;
+    let modules = h.modules;
+    let slots = h.slots as usize;
     let entries = modules as usize * slots;
     let mut sheet = io::large_buffer();
-    lamp::lamp_sheet(card, &plan[..slots], &mut sheet);
+    calls::make_sheet_on(card, h, &plan[..slots], &mut sheet);
     listing::write_listing(out, modules, cost, &plan[..slots], &sheet[..entries])
+}
+
+// The text for an accepted card.
+fn print_accepted(card: &[u8], h: Header, out: &mut [u8]) -> usize
+    requires { ⌜ AcceptedText (now card) h (now out) ⌝ }
+    ensures size { λ r. ⌜ r ≡ length (printed (now (card .entry))) ⌝ }
+    ensures bytes { λ _. ⌜ now (out .exit) ≡ writtenOver (printed (now (card .entry))) (now (out .entry)) ⌝ }
+{
+    let mut plan = plan_area();
+    let mut work = io::large_buffer();
+    let planned = calls::plan_show_on(PlannerKind::Exact, card, h, &mut plan, &mut work);
+    match planned {
+        Answer::Cost(cost) => print_plan(card, h, &plan, cost, out),
+        Answer::Refused(x) => listing::write_refusal(out, calls::refusal_number(x)),
+    }
 }
 
 // The text for a card.
 fn print_card(card: &[u8], out: &mut [u8]) -> usize
     requires { ⌜ TextArea (now out) ⌝ }
     ensures size { λ r. ⌜ r ≡ length (printed (now (card .entry))) ⌝ }
-    ensures bytes { λ _. ⌜ now (out .exit) ≡ atStart (printed (now (card .entry))) (now (out .entry)) ⌝ }
+    ensures bytes { λ _. ⌜ now (out .exit) ≡ writtenOver (printed (now (card .entry))) (now (out .entry)) ⌝ }
 {
-    let mut plan = plan_area();
-    let mut work = io::large_buffer();
-    let planned = lamp::lamp_plan_exact(card, &mut plan, &mut work);
-    if planned.number != 0 {
-        return listing::write_refusal(out, planned.number);
+    match card::check(card) {
+        Checked::Valid(h) => print_accepted(card, h, out),
+        Checked::Invalid(x) => listing::write_refusal(out, calls::refusal_number(x)),
     }
-    print_plan(card, &plan, planned.cost, out)
 }
 
 // Reads until 2,870 bytes are there, one more than the longest card has, or the input ends.

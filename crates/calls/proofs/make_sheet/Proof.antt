@@ -3,36 +3,25 @@ use Rattle.calls.proofs.Making.{make-refused}
 use borrow.Author.Needs.{needs}
 use Rattle.calls.proofs.make_sheet.Statement.{statement}
 use Rattle.calls.proofs.make_sheet.Tie as tie
-use Rattle.calls.proofs.make_sheet.Reads as reads
-use Rattle.calls.proofs.make_sheet.Lts as lts
-use Rattle.calls.proofs.make_sheet_on.Reads as make-sheet-on-reads
-use Rattle.card.proofs.check.Reads as check-reads
 
--- src/lib.rt:103:11
 check-requires : tie.Need-check-requires
 check-requires c κs = search needs
 
--- src/lib.rt:104:24
 enum-known-h : tie.Need-enum-known-h
 enum-known-h c = search needs
 
--- src/lib.rt:104:30
 make-sheet-on-requires : tie.Need-make-sheet-on-requires
 make-sheet-on-requires c κs = search ready
 
--- src/lib.rt:105:26
 enum-known-x : tie.Need-enum-known-x
 enum-known-x c = search needs
 
--- src/lib.rt:99:1
 same-length : tie.Need-same-length
 same-length c = search needs
 
--- src/lib.rt:99:1
 returns : tie.Need-returns
 returns c = search needs
 
--- src/lib.rt:99:1
 returns-2 : tie.Need-returns-2
 returns-2 c = make-refused _ _ _ (c .before .before .before .check .ensures) (c .before .x .given .1)
 

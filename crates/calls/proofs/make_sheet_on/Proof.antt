@@ -2,41 +2,30 @@ use Rattle.calls.proofs.Making.{made-ready, made-written, made-kept}
 use borrow.Author.Needs.{needs}
 use Rattle.calls.proofs.make_sheet_on.Statement.{statement}
 use Rattle.calls.proofs.make_sheet_on.Tie as tie
-use Rattle.calls.proofs.make_sheet_on.Reads as reads
-use Rattle.calls.proofs.make_sheet_on.Lts as lts
-use Rattle.calls.proofs.check_plan.Reads as check-plan-reads
-use Rattle.sheets.proofs.write_sheet.Reads as write-sheet-reads
 
--- src/lib.rt:91:9
 check-plan-requires : tie.Need-check-plan-requires
 check-plan-requires c κs = search needs
 
--- src/lib.rt:93:44
 enum-told : tie.Need-enum-told
 enum-told c = search needs
 
--- src/lib.rt:93:9
 write-sheet-requires : tie.Need-write-sheet-requires
 write-sheet-requires c κs = search made-ready
 
 enum-told-2 : tie.Need-enum-told-2
 enum-told-2 c = search needs
 
--- src/lib.rt:86:1
 same-length : tie.Need-same-length
 same-length c = search needs
 
--- src/lib.rt:86:1
 returns : tie.Need-returns
-returns c = 
+returns c =
     let told = c .before .before .before .before in
     made-written _ _ _ (told .before .before .check-plan .ensures) (told .enum-told .given .1) (c .before .before .write-sheet .ensures)
 
--- src/lib.rt:86:1
 same-length-2 : tie.Need-same-length-2
 same-length-2 c = search needs
 
--- src/lib.rt:86:1
 returns-2 : tie.Need-returns-2
 returns-2 c = made-kept _ _ _ (c .before .before .check-plan .ensures) (c .enum-told2 .given .1)
 

@@ -5,73 +5,55 @@ use Rattle.calls.proofs.Planning.{plan-falls, plan-short, work-short, p
 use borrow.Author.Needs.{needs}
 use Rattle.calls.proofs.plan_show_on.Statement.{statement}
 use Rattle.calls.proofs.plan_show_on.Tie as tie
-use Rattle.calls.proofs.plan_show_on.Reads as reads
-use Rattle.calls.proofs.plan_show_on.Lts as lts
-use Rattle.calls.proofs.table_allowed.Reads as table-allowed-reads
-use Rattle.calls.proofs.work_bytes.Reads as work-bytes-reads
-use Rattle.planners.proofs.plan_by.Reads as plan-by-reads
 
--- src/lib.rt:167:9
 work-bytes-requires : tie.Need-work-bytes-requires
 work-bytes-requires c κs = search needs
 
--- src/lib.rt:168:9
 table-allowed-requires : tie.Need-table-allowed-requires
 table-allowed-requires c κs = search needs
 
--- src/lib.rt:169:9
 returns : tie.Need-returns
-returns c = 
+returns c =
     let tested = c .before in
     let start = tested .before .before .before .before .before in
     plan-falls _ _ _ _ (start .pre) (test-failed (tested .table-allowed .ensures) (c .if1 .taken))
 
--- src/lib.rt:172:9
 returns-2 : tie.Need-returns-2
-returns-2 c = 
+returns-2 c =
     let tested = c .before .before in
     let start = tested .before .before .before .before .before in
     plan-short _ _ _ _ (start .pre) (test-passed (tested .table-allowed .ensures) (c .before .if1 .left)) (c .if2 .taken)
 
--- src/lib.rt:175:9
 returns-3 : tie.Need-returns-3
-returns-3 c = 
+returns-3 c =
     let tested = c .before .before .before in
     let start = tested .before .before .before .before .before in
     work-short _ _ _ _ (start .pre) (test-passed (tested .table-allowed .ensures) (c .before .before .if1 .left)) (c .before .if2 .left)
     (tested .before .work-bytes .ensures) (c .if3 .taken)
 
--- src/lib.rt:177:51
 slice-relend-prefix-plan-by : tie.Need-slice-relend-prefix-plan-by
 slice-relend-prefix-plan-by c = search needs
 
--- src/lib.rt:177:51
 slice-aggregate-plan-by : tie.Need-slice-aggregate-plan-by
 slice-aggregate-plan-by c = sym (length-take-le _ _ (c .before .before .if2 .left))
 
--- src/lib.rt:177:71
 slice-relend-prefix-plan-by-2 : tie.Need-slice-relend-prefix-plan-by-2
 slice-relend-prefix-plan-by-2 c = search needs
 
--- src/lib.rt:177:71
 slice-aggregate-plan-by-2 : tie.Need-slice-aggregate-plan-by-2
 slice-aggregate-plan-by-2 c = sym (length-take-le _ _ (c .before .before .if3 .left))
 
--- src/lib.rt:177:18
 plan-by-requires : tie.Need-plan-by-requires
 plan-by-requires c κs = search (parts-lent, test-passed)
 
--- src/lib.rt:160:1
 same-length : tie.Need-same-length
 same-length c = search needs
 
--- src/lib.rt:160:1
 same-length-2 : tie.Need-same-length-2
 same-length-2 c = search needs
 
--- src/lib.rt:160:1
 returns-4 : tie.Need-returns-4
-returns-4 c = 
+returns-4 c =
     let work-tested = c .before .before .before .before .before .before .before in
     let tested = work-tested .before .before .before in
     let start = tested .before .before .before .before .before in

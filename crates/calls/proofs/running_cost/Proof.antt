@@ -3,32 +3,22 @@ use Rattle.calls.proofs.RunningCost.{running-refused}
 use borrow.Author.Needs.{needs}
 use Rattle.calls.proofs.running_cost.Statement.{statement}
 use Rattle.calls.proofs.running_cost.Tie as tie
-use Rattle.calls.proofs.running_cost.Reads as reads
-use Rattle.calls.proofs.running_cost.Lts as lts
-use Rattle.calls.proofs.running_cost_on.Reads as running-cost-on-reads
-use Rattle.card.proofs.check.Reads as check-reads
 
--- src/lib.rt:44:11
 check-requires : tie.Need-check-requires
 check-requires c κs = search needs
 
--- src/lib.rt:45:24
 enum-known-h : tie.Need-enum-known-h
 enum-known-h c = search needs
 
--- src/lib.rt:45:30
 running-cost-on-requires : tie.Need-running-cost-on-requires
 running-cost-on-requires c κs = search ready
 
--- src/lib.rt:46:26
 enum-known-x : tie.Need-enum-known-x
 enum-known-x c = search needs
 
--- src/lib.rt:41:1
 returns : tie.Need-returns
 returns c = search needs
 
--- src/lib.rt:41:1
 returns-2 : tie.Need-returns-2
 returns-2 c = search running-refused
 

@@ -3,28 +3,20 @@ use Rattle.card.proofs.FieldsThere.{sized}
 use borrow.Author.Needs.{needs}
 use Rattle.calls.proofs.table_allowed.Statement.{statement}
 use Rattle.calls.proofs.table_allowed.Tie as tie
-use Rattle.calls.proofs.table_allowed.Reads as reads
-use Rattle.calls.proofs.table_allowed.Lts as lts
-use Rattle.card.proofs.never_falls.Reads as never-falls-reads
 
--- src/lib.rt:154:31
 enum-told : tie.Need-enum-told
 enum-told c = search needs
 
--- src/lib.rt:155:32
 enum-told-2 : tie.Need-enum-told-2
 enum-told-2 c = search needs
 
--- src/lib.rt:155:32
 never-falls-requires : tie.Need-never-falls-requires
 never-falls-requires c κs = search sized
 
--- src/lib.rt:149:1
 returns : tie.Need-returns
 unfolding tableAllowed
 returns c = rw (c .enum-told .given .1)
 
--- src/lib.rt:149:1
 returns-2 : tie.Need-returns-2
 unfolding tableAllowed
 returns-2 c = rw (c .before .enum-told2 .given .1, ← (c .before .before .before .before .pre .header .top-is)) (c .never-falls .ensures)

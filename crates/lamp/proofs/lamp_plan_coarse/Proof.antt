@@ -1,30 +1,23 @@
+use Rattle.model.specs.Planners.{coarse}
+use Rattle.lamp.proofs.Promised.{plans}
 use borrow.Author.Needs.{needs}
 use Rattle.lamp.proofs.lamp_plan_coarse.Statement.{statement}
 use Rattle.lamp.proofs.lamp_plan_coarse.Tie as tie
-use Rattle.lamp.proofs.lamp_plan_coarse.Reads as reads
-use Rattle.lamp.proofs.lamp_plan_coarse.Lts as lts
-use Rattle.calls.proofs.plan_show.Reads as plan-show-reads
-use Rattle.lamp.proofs.to_c.Reads as to-c-reads
 
--- src/lib.rt:94:10
 plan-show-requires : tie.Need-plan-show-requires
 plan-show-requires c κs = search needs
 
--- src/lib.rt:94:5
 to-c-requires : tie.Need-to-c-requires
 to-c-requires c κs = search needs
 
--- src/lib.rt:86:1
 same-length : tie.Need-same-length
 same-length c = search needs
 
--- src/lib.rt:86:1
 same-length-2 : tie.Need-same-length-2
 same-length-2 c = search needs
 
--- src/lib.rt:86:1
 returns : tie.Need-returns
-returns c = ?
+returns c = plans coarse _ _ _ (c .before .before .before .before .before .plan-show .ensures) (c .to-c .ensures)
 
 pub lamp-plan-coarse-spec : {M : Type 1} → statement M
 lamp-plan-coarse-spec =

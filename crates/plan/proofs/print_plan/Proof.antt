@@ -1,16 +1,10 @@
 use Rattle.lists.specs.Writing.{start-same}
 use mathlib.Core.Path.{sym}
 use lib.Seq.{length-take-le}
-use Rattle.plan.proofs.Printing.{header-within, slots-within, entries-fit, entries-within, print-ready, print-done}
+use Rattle.plan.proofs.Printing.{slots-within, entries-fit, entries-within, print-ready, print-done}
 use borrow.Author.Needs.{needs}
 use Rattle.plan.proofs.print_plan.Statement.{statement}
 use Rattle.plan.proofs.print_plan.Tie as tie
-
-modules-of-requires : tie.Need-modules-of-requires
-modules-of-requires c κs = search header-within
-
-slots-of-requires : tie.Need-slots-of-requires
-slots-of-requires c κs = search header-within
 
 mul-entries : tie.Need-mul-entries
 mul-entries c = search entries-fit
@@ -18,14 +12,14 @@ mul-entries c = search entries-fit
 large-buffer-requires : tie.Need-large-buffer-requires
 large-buffer-requires c κs = search needs
 
-slice-aggregate-lamp-sheet : tie.Need-slice-aggregate-lamp-sheet
-slice-aggregate-lamp-sheet c = sym (length-take-le _ _ (search slots-within))
+slice-aggregate-make-sheet-on : tie.Need-slice-aggregate-make-sheet-on
+slice-aggregate-make-sheet-on c = sym (length-take-le _ _ (search slots-within))
 
-slice-aggregate-lamp-sheet-2 : tie.Need-slice-aggregate-lamp-sheet-2
-slice-aggregate-lamp-sheet-2 c = search needs
+slice-aggregate-make-sheet-on-2 : tie.Need-slice-aggregate-make-sheet-on-2
+slice-aggregate-make-sheet-on-2 c = search needs
 
-lamp-sheet-requires : tie.Need-lamp-sheet-requires
-lamp-sheet-requires c κs = search needs
+make-sheet-on-requires : tie.Need-make-sheet-on-requires
+make-sheet-on-requires c κs = search needs
 
 slice-aggregate-write-listing : tie.Need-slice-aggregate-write-listing
 slice-aggregate-write-listing c = sym (length-take-le _ _ (search slots-within))
@@ -43,19 +37,22 @@ same-length : tie.Need-same-length
 same-length c = search needs
 
 returns : tie.Need-returns
-returns c = start-same _ _ _ (search print-done) (c .before .before .write-listing .ensures)
+returns c =
+    let made = c .before .before .before .before .before .before .before in
+    let area = made .before .before .before in
+    let start = area .before .before .before .before in
+    start-same _ _ _ (print-done (start .pre) _ _ (area .large-buffer .ensures) (made .make-sheet-on .ensures .1) _)
+    (c .before .before .write-listing .ensures)
 
 pub print-plan-spec : {M : Type 1} → statement M
 print-plan-spec =
     tie.close
     (tie.spec
-    modules-of-requires
-    slots-of-requires
     mul-entries
     large-buffer-requires
-    slice-aggregate-lamp-sheet
-    slice-aggregate-lamp-sheet-2
-    lamp-sheet-requires
+    slice-aggregate-make-sheet-on
+    slice-aggregate-make-sheet-on-2
+    make-sheet-on-requires
     slice-aggregate-write-listing
     array-share-prefix-sheet
     slice-aggregate-write-listing-2
