@@ -11,7 +11,8 @@ use Rattle.card.specs.declared.Header.{Header}
 pub record Within (s : List ℕ) (p w : ℕ) : Type 0 where
   pub within : p + w ≤ length s
 
--- 'Each field read yields its number and the position after it.' (document 01, 'The show card')
+-- 'Each field read yields its number and the position after it' (document 01, 'The show card'): the value is the number in the w bytes
+-- from place p on, and next the place after them.
 pub record ReadAt (s : List ℕ) (p w value next : ℕ) : Type 0 where
   pub number : value ≡ littleEndian w s p
   pub bound : value < 256 ^ w

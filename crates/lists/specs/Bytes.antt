@@ -7,17 +7,17 @@ use native.Mathlib.Omega.{arith}
 use lib.ListN.{length, getD, take}
 use lib.Seq.{getD-take, getD-append-add}
 
--- the number in the w bytes of s from place p on, least byte first
+-- The number in the w bytes of s from place p on, least byte first.
 unfoldable pub littleEndian : ℕ → List ℕ → ℕ → ℕ
 littleEndian zero s p = 0
 littleEndian (suc w) s p = getD s p 0 + 256 * littleEndian w s (p + 1)
 
--- one byte
+-- A number of one byte is that byte.
 pub little-one : (s : List ℕ) (p : ℕ) → littleEndian 1 s p ≡ getD s p 0
 unfolding littleEndian
 little-one s p = omega arith
 
--- a number of v + w bytes is one of v bytes and then one of w
+-- A number of v + w bytes is one of v bytes and then one of w.
 pub little-join : (v w : ℕ) (s : List ℕ) (p : ℕ) → littleEndian (v + w) s p ≡ littleEndian v s p + 256 ^ v * littleEndian w s (p + v)
 unfolding littleEndian
 little-join zero w s p = simp (zero-add, pow-zero, one-mul, add-zero)
@@ -26,7 +26,7 @@ little-join (suc v) w s p =
     let at : p + suc v ≡ p + 1 + v = omega arith in
     rw (suc-add v w, e, at, pow-suc) (omega arith)
 
--- a number within the first n bytes is one of those bytes alone
+-- A number within the first n bytes is one of those bytes alone.
 pub little-take : (w n : ℕ) (s : List ℕ) (p : ℕ) → p + w ≤ n → littleEndian w (take n s) p ≡ littleEndian w s p
 unfolding littleEndian
 little-take zero n s p h = refl
@@ -34,7 +34,7 @@ little-take (suc w) n s p h =
     let here : p < n = omega arith in
     rw (getD-take n s p 0 here, little-take w n s (p + 1) (omega arith))
 
--- a number of w bytes is told by these bytes alone
+-- A number of w bytes is told by these bytes alone.
 pub little-same :
     (w : ℕ) (s r : List ℕ) (p q : ℕ) → ((j : ℕ) → j < w → getD s (p + j) 0 ≡ getD r (q + j) 0) → littleEndian w s p ≡ littleEndian w r q
 unfolding littleEndian
@@ -64,7 +64,7 @@ unfolding bytesOf
 length-bytes zero n = refl
 length-bytes (suc w) n = omega (arith, length-bytes w (n / 256))
 
--- a number that fits w bytes is read back from them
+-- A number that fits w bytes is read back from them.
 pub little-bytes : (w n : ℕ) → n < 256 ^ w → littleEndian w (bytesOf w n) 0 ≡ n
 unfolding littleEndian bytesOf
 little-bytes zero n h = omega arith

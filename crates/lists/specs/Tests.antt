@@ -10,16 +10,16 @@ use native.Mathlib.Omega.{arith}
 use borrow.Author.Tests.{not-true, not-false}
 use Rattle.lists.specs.Numbers.{le-or-lt, true-or-false}
 
--- f holds at each of 0 to n - 1
+-- The test f holds at each of 0 to n - 1.
 unfoldable pub every : ℕ → (ℕ → Bool) → Bool
 every zero f = true
 every (suc n) f = every n f && f n
 
--- f holds at one of 0 to n - 1
+-- The test f holds at one of 0 to n - 1.
 abbrev pub any : ℕ → (ℕ → Bool) → Bool
 any n f = not (every n (λ k. not (f k)))
 
--- f holds at each element of a list
+-- The test f holds at each element of a list.
 unfoldable pub allOf : (ℕ → Bool) → List ℕ → Bool
 allOf f [] = true
 allOf f (x ∷ xs) = f x && allOf f xs
@@ -43,7 +43,7 @@ pub or-cases : (a b : Bool) → (a || b) ≡ true → (a ≡ true) ⊎ (b ≡ tr
 or-cases true b e = inl refl
 or-cases false b e = inr e
 
--- what holds at every index holds at each
+-- A test that holds at every index below n holds at each of them.
 pub every-at : (n : ℕ) (f : ℕ → Bool) → every n f ≡ true → (k : ℕ) → k < n → f k ≡ true
 unfolding every
 every-at zero f e k h = absurd (not-suc-le-zero h)
@@ -53,7 +53,7 @@ every-at (suc n) f e k h =
     (every-at n f (and-left (every n f) (f n) e) k)
     (le-or-lt n k)
 
--- what holds at each index holds at every index
+-- A test that holds at each index below n holds at all of them.
 pub every-all : (n : ℕ) (f : ℕ → Bool) → ((k : ℕ) → k < n → f k ≡ true) → every n f ≡ true
 unfolding every
 every-all zero f h = refl
@@ -65,7 +65,7 @@ unfolding every
 every-same zero f g same = refl
 every-same (suc n) f g same = rw (every-same n f g (λ k h. same k (omega arith)), same n (omega arith))
 
--- one index at which it fails
+-- A test that fails at one index does not hold at every index.
 pub every-fails : (n : ℕ) (f : ℕ → Bool) (k : ℕ) → k < n → f k ≡ false → every n f ≡ false
 every-fails n f k h e =
     ⊎-elim
@@ -73,7 +73,7 @@ every-fails n f k h e =
     (λ (t : every n f ≡ false). t)
     (true-or-false (every n f))
 
--- where it does not hold at every index, it fails at one
+-- A test that does not hold at every index fails at one.
 pub every-not : (n : ℕ) (f : ℕ → Bool) → every n f ≡ false → (k : ℕ) × (k < n) × (f k ≡ false)
 unfolding every
 every-not zero f e = absurd (true≢false e)

@@ -6,7 +6,7 @@ use Rattle.model.specs.declared.Refusal.the-variants.{LoadRange, NotMono
 use Rattle.model.specs.declared.Answer.{Answer}
 use Rattle.model.specs.declared.Answer.the-variants.{Cost, Refused}
 
--- the table's column 'no.'
+-- The number of a refusal: the table's column 'no.'.
 abbrev pub refusalNumber : Refusal → ℕ
 refusalNumber NotACard = 1
 refusalNumber Version = 2
@@ -22,12 +22,12 @@ refusalNumber WrongLength = 11
 refusalNumber EntryRange = 12
 refusalNumber LoadNotServed = 13
 
--- 'A success gives number 0 and the cost'
+-- The number of an answer: 'A success gives number 0', a refusal its number.
 abbrev pub numberOf : Answer → ℕ
 numberOf (Cost c) = 0
 numberOf (Refused r) = refusalNumber r
 
--- 'A refusal gives its number and cost 0'
+-- The cost of an answer: 'A refusal gives its number and cost 0'.
 abbrev pub costOf : Answer → ℕ
 costOf (Cost c) = c
 costOf (Refused r) = 0

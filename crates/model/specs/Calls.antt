@@ -37,7 +37,7 @@ pub data HandedIn : Type 0 where
   sheet : (bytes : List ℕ) → HandedIn
   inRack : (count modules : ℕ) → HandedIn
 
--- 11: 'handed-in plan not T bytes, sheet not m × T'
+-- What is handed in has the right length. Refusal 11: 'handed-in plan not T bytes, sheet not m × T'.
 unfoldable pub rightLength : Instance → HandedIn → Bool
 rightLength i nothing = true
 rightLength i (pair n l) = true
@@ -45,7 +45,7 @@ rightLength i (plan p) = eqb (length p) (i .slots)
 rightLength i (sheet s) = sheetLength i s
 rightLength i (inRack n m) = true
 
--- 12: 'a count above m, or a sheet byte from Q + 1 to 254'
+-- The entries of what is handed in are in range. Refusal 12: 'a count above m, or a sheet byte from Q + 1 to 254'.
 unfoldable pub entriesInRange : Instance → HandedIn → Bool
 entriesInRange i nothing = true
 entriesInRange i (pair n l) = leb n (i .modules)
@@ -53,7 +53,8 @@ entriesInRange i (plan p) = every (i .slots) (λ t. leb (getD p t 0) (i .modules
 entriesInRange i (sheet s) = sheetEntries i s
 entriesInRange i (inRack n m) = leb n m
 
--- 13: 'a slot's steps don't sum to its load; or a plan's count, or the count given to running cost, can't serve its load'
+-- What is handed in serves the loads. Refusal 13: 'a slot's steps don't sum to its load; or a plan's count, or the count given to
+-- running cost, can't serve its load'.
 unfoldable pub loadsServed : Instance → HandedIn → Bool
 loadsServed i nothing = true
 loadsServed i (pair n l) = canServe i n l
@@ -67,18 +68,20 @@ pub record Buffer : Type 0 where
   pub asked : ℕ
   pub writes : List ℕ
 
--- 'a plan area of at least T bytes'; 'After success the bytes asked for hold the answer'
+-- The plan buffer of a planner: 'a plan area of at least T bytes'; 'After success the bytes asked for hold the answer'.
 abbrev pub planBuffer : Planner → Instance → List ℕ → Buffer
 planBuffer k i p = record { entry = p; asked = i .slots; writes = plannedBy k i }
 
--- 'a work area of at least (m + 1)T bytes for exact, 10T for coarse'; 'the work bytes asked for are zero'
+-- The work buffer of a planner: 'a work area of at least (m + 1)T bytes for exact, 10T for coarse'; 'the work bytes asked for are
+-- zero'.
 abbrev pub workBuffer : Planner → Instance → List ℕ → Buffer
 workBuffer k i w = record { entry = w; asked = workBytes k i; writes = replicate (workBytes k i) 0 }
 
--- 'a sheet area of at least m × T'
+-- The bytes of a sheet: m × T.
 abbrev pub sheetBytes : Instance → ℕ
 sheetBytes i = i .modules * i .slots
 
+-- The sheet buffer of the sheet call: 'a sheet area of at least m × T'.
 abbrev pub sheetBuffer : Instance → (plan sheet : List ℕ) → Buffer
 sheetBuffer i p s = record { entry = s; asked = sheetBytes i; writes = sheetOf i p }
 
@@ -91,7 +94,7 @@ buffersOf (makeSheet c p s) = sheetBuffer (instanceOf c) p s ∷ []
 buffersOf (markSheet c s) = []
 buffersOf (roundCount n m) = []
 
--- 10: 'a lent area shorter than asked for'
+-- One of the buffers is too short. Refusal 10: 'a lent area shorter than asked for'.
 unfoldable pub anyShort : List Buffer → Bool
 anyShort [] = false
 anyShort (b ∷ bs) = ltb (length (b .entry)) (b .asked) || anyShort bs
@@ -108,10 +111,11 @@ abbrev pub onCard : List ℕ → List Buffer → HandedIn → Request
 onCard c bs h =
     record { card = c; rack = instanceOf c .modules ∷ instanceOf c .topStep ∷ []; buffers = bs; handed = h }
 
--- 'The rounded count takes n and m only.'
+-- A request on a rack alone: 'The rounded count takes n and m only.'
 abbrev pub onRack : (count modules : ℕ) → Request
 onRack n m = record { card = []; rack = m ∷ []; buffers = []; handed = inRack n m }
 
+-- What the refusals of each call look at.
 unfoldable pub requestOf : Call → Request
 requestOf (checkCard c) = onCard c [] nothing
 requestOf (runningCost c n l) = onCard c [] (pair n l)
@@ -124,7 +128,7 @@ requestOf (roundCount n m) = onRack n m
 abbrev pub shown : Request → Instance
 shown r = instanceOf (r .card)
 
--- The table's column 'when', a line a number.
+-- A refusal applies to a request: the table's column 'when', a line a number.
 unfoldable pub applies : Request → Refusal → Bool
 applies r NotACard = ltb (length (r .card)) headLength || not (sameList (markOf (r .card)) cardMark)
 applies r Version = not (eqb (versionOf (r .card)) cardVersion)
@@ -144,7 +148,7 @@ applies r LoadNotServed = not (loadsServed (shown r) (r .handed))
 abbrev pub cardRefusals : List Refusal
 cardRefusals = NotACard ∷ Version ∷ RackSize ∷ SlotCount ∷ CardLength ∷ PriceRange ∷ NotConvex ∷ LoadRange ∷ []
 
--- 'Running cost adds 12 and 13; the sheet adds 10 to 13; marking adds 11 to 13; the two planners add 10, the coarse one also 9.'
+-- The refusals of each call, ascending: 'Running cost adds 12 and 13; the sheet adds 10 to 13; marking adds 11 to 13; the two planners add 10, the coarse one also 9.'
 unfoldable pub refusals : Call → List Refusal
 refusals (checkCard c) = cardRefusals
 refusals (runningCost c n l) = cardRefusals ++ (EntryRange ∷ LoadNotServed ∷ [])
@@ -158,7 +162,7 @@ unfoldable pub lowest : (Refusal → Bool) → List Refusal → Answer → Answe
 lowest test [] success = success
 lowest test (x ∷ xs) success = cond (test x) (Refused x) (lowest test xs success)
 
--- 'the plan's from a planner or the sheet call, the sheet's from marking, the pair's from running cost. The rounded count gives
+-- The cost that a success gives: 'the plan's from a planner or the sheet call, the sheet's from marking, the pair's from running cost. The rounded count gives
 -- its count in that place; a call without a cost gives 0.'
 unfoldable pub successCost : Call → ℕ
 successCost (checkCard c) = 0
@@ -190,14 +194,15 @@ lent c = map (λ b. b .entry) (buffersOf c)
 unfoldable pub buffersAtExit : Call → List (List ℕ)
 buffersAtExit c = map (atExit (answer c)) (buffersOf c)
 
--- The buffers at exit by name. A planner is lent a plan buffer and then a work buffer;
+-- The plan buffer of a planner at exit, which is the first one lent to it.
 unfoldable pub planAtExit : Call → List ℕ
 planAtExit c = getD (buffersAtExit c) 0 []
 
+-- The work buffer of a planner at exit, which is the second one lent to it.
 unfoldable pub workAtExit : Call → List ℕ
 workAtExit c = getD (buffersAtExit c) 1 []
 
--- the sheet call is lent a sheet buffer alone.
+-- The sheet buffer of the sheet call at exit, which is the only one lent to it.
 unfoldable pub sheetAtExit : Call → List ℕ
 sheetAtExit c = getD (buffersAtExit c) 0 []
 

@@ -1,4 +1,4 @@
--- Counts of active modules: their running cost, and which counts are allowed (document 01, 'Running cost of a count', 'The plans').
+-- Counts of active modules: their operating cost, and which counts are allowed (document 01, 'Running cost of a count', 'The plans').
 use Prim.Native.Nat.{ℕ, _+_, _-_, _*_, _/_, _%_, _^_}
 use mathlib.Core.Bool.{Bool, cond, _||_}
 use mathlib.Core.List.{List, headD}
@@ -11,25 +11,26 @@ use Rattle.model.specs.Instance.{Instance}
 unfoldable pub canServe : Instance → ℕ → ℕ → Bool
 canServe i n l = leb l (n * i .topStep)
 
--- 'Running cost of a count': (n − r)F(q) + rF(q+1) with q = L div n and r = L mod n; with r = 0 the second term is 0; count 0
+-- The operating cost (01: 'Running cost of a count'): (n − r)F(q) + rF(q+1) with q = L div n and r = L mod n; with r = 0 the second term is 0; count 0
 -- costs 0. Of a count that cannot serve the load the result means nothing.
 unfoldable pub operatingCost : Instance → ℕ → ℕ → ℕ
 operatingCost i n l =
     cond (eqb n 0) 0
     ((n - l % n) * i .table (l / n) + cond (eqb (l % n) 0) 0 (l % n * i .table (l / n + 1)))
 
--- 'all from 0 to m'
+-- The exact planner's counts: 'all from 0 to m', ascending.
 unfoldable pub allCounts : ℕ → List ℕ
 allCounts m = tabulate (m + 1) (λ n. n)
 
--- n is 2 to some power; that power is below n
+-- The number n is a power of two: 2 to some number below n.
 unfoldable pub powerOfTwo : ℕ → Bool
 powerOfTwo n = any n (λ j. eqb n (2 ^ j))
 
--- 'Coarse: the allowed counts 0, each power of two up to m, and m', ascending
+-- A count n of a rack of m is one of the coarse planner's: 0, a power of two, or m.
 abbrev pub isCoarse : ℕ → ℕ → Bool
 isCoarse m n = eqb n 0 || (eqb n m || powerOfTwo n)
 
+-- 'Coarse: .. the allowed counts 0, each power of two up to m, and m', ascending.
 unfoldable pub coarseCounts : ℕ → List ℕ
 coarseCounts m = keep (isCoarse m) (allCounts m)
 

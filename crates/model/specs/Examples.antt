@@ -19,7 +19,7 @@ use Rattle.model.specs.Counts.{canServe, operatingCost, allCounts, power
 use Rattle.model.specs.Sheets.{stateAt, sheetLength, sheetEntries, lightAt, sheetLight, stepCost, changeCost}
 use Rattle.model.specs.Sheets.{sheetOperatingCost, sheetSwitchingCost, sheetCost}
 use Rattle.model.specs.Plans.{moduleByte, slotRow, sheetOf, planCost, planServes, plansInOrder, cheapest, cheapestOf, leastPlan}
-use Rattle.model.specs.Planners.{Planner, exact, coarse, allowedCounts, workBytes, plannerRefusals, plannedBy}
+use Rattle.model.specs.Planners.{exact, coarse, allowedCounts, workBytes, plannerRefusals, plannedBy}
 use Rattle.model.specs.Listing.{digits, decimal, costLine, planLine, stepText, slotLine, listing, refusedLine, printedFor, printed}
 use Rattle.model.specs.Calls.{Call, checkCard, runningCost, planShow, makeSheet, markSheet, roundCount}
 use Rattle.model.specs.Calls.{rightLength, entriesInRange, loadsServed, buffersOf, anyShort, requestOf, applies, refusals, lowest}

@@ -62,7 +62,7 @@ instanceOf card =
       load = λ t. littleEndian 2 card (loadPlace (littleEndian 1 card topStepPlace) t);
     }
 
--- 'mark, hex 44 4C 53 ("DLS")'
+-- The mark that a card begins with: 'hex 44 4C 53 ("DLS")'.
 abbrev pub cardMark : List ℕ
 cardMark = 0x44 ∷ 0x4C ∷ 0x53 ∷ []
 
@@ -70,7 +70,7 @@ cardMark = 0x44 ∷ 0x4C ∷ 0x53 ∷ []
 abbrev pub markOf : List ℕ → List ℕ
 markOf card = take versionPlace card
 
--- 'version, 1'
+-- The version that is read: 'version, 1'.
 abbrev pub cardVersion : ℕ
 cardVersion = 1
 
@@ -92,30 +92,31 @@ cardBytes i =
     let loads = rows (i .slots) (λ t. bytesOf 2 (i .load t)) in
     cardMark ++ (bytesOf 2 cardVersion ++ (rack ++ (prices ++ (entries ++ loads))))
 
--- 'm, 1 to 200'; 'Q, 1 to 200'
+-- A number that the rack may have: 'modules m, 1 to 200', 'Q, 1 to 200'.
 abbrev pub rackNumber : ℕ → Bool
 rackNumber n = leb 1 n && leb n 200
 
--- 'The table is convex: F(k−1) + F(k+1) ≥ 2F(k) for 1 ≤ k < Q.' Here k counts from 0.
+-- A table is convex at an entry: 'F(k−1) + F(k+1) ≥ 2F(k)', where k counts from 0 here.
 unfoldable pub convexAt : (ℕ → ℕ) → ℕ → Bool
 convexAt f k = leb (2 * f (k + 1)) (f k + f (k + 2))
 
+-- 'The table is convex: F(k−1) + F(k+1) ≥ 2F(k) for 1 ≤ k < Q.'
 unfoldable pub convex : ℕ → (ℕ → ℕ) → Bool
 convex q f = every (q - 1) (convexAt f)
 
--- 'never falls: F(k) ≤ F(k+1) for 0 ≤ k < Q'
+-- A table never falls: 'F(k) ≤ F(k+1) for 0 ≤ k < Q'.
 unfoldable pub neverFalls : ℕ → (ℕ → ℕ) → Bool
 neverFalls q f = every q (λ k. leb (f k) (f (k + 1)))
 
--- 'F(0) to F(Q), each at most 1,000,000'
+-- The entries of a table keep their bound: 'F(0) to F(Q), each at most 1,000,000'.
 unfoldable pub tableInRange : ℕ → (ℕ → ℕ) → Bool
 tableInRange q f = every (q + 1) (λ k. leb (f k) 1000000)
 
--- 'warm-up price, at most 500,000,000', the cool-down price likewise, and the table
+-- The prices and the table keep their bounds: 'warm-up price, at most 500,000,000', the cool-down price likewise, and each entry.
 unfoldable pub pricesInRange : Instance → Bool
 pricesInRange i = leb (i .powerUp) 500000000 && (leb (i .powerDown) 500000000 && tableInRange (i .topStep) (i .table))
 
--- 'T loads, each at most m × Q'
+-- The loads keep their bound: 'T loads, each at most m × Q'.
 unfoldable pub loadsInRange : Instance → Bool
 loadsInRange i = every (i .slots) (λ t. leb (i .load t) (i .modules * i .topStep))
 

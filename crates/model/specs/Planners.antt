@@ -8,6 +8,7 @@ use Rattle.model.specs.Instance.{Instance, neverFalls}
 use Rattle.model.specs.Counts.{allCounts, coarseCounts}
 use Rattle.model.specs.Plans.{leastPlan, leastCost}
 
+-- The two planners.
 pub data Planner : Type 0 where
   exact : Planner
   coarse : Planner
@@ -17,7 +18,7 @@ unfoldable pub allowedCounts : Planner → (m : ℕ) → List ℕ
 allowedCounts exact m = allCounts m
 allowedCounts coarse m = coarseCounts m
 
--- 'a work area of at least (m + 1)T bytes for exact, 10T for coarse'
+-- The work bytes that a planner asks for: 'at least (m + 1)T bytes for exact, 10T for coarse'.
 unfoldable pub workBytes : Planner → Instance → ℕ
 workBytes exact i = (i .modules + 1) * i .slots
 workBytes coarse i = 10 * i .slots
@@ -38,7 +39,7 @@ abbrev pub ratioOf : Planner → ℕ
 ratioOf exact = 1
 ratioOf coarse = 2
 
--- 'each plan is least among the plans that serve every load with the counts allowed it'
+-- The plan that a planner writes: 'each plan is least among the plans that serve every load with the counts allowed it'.
 unfoldable pub plannedBy : Planner → Instance → List ℕ
 plannedBy k i = leastPlan i (allowedCounts k (i .modules))
 

@@ -9,7 +9,7 @@ use Rattle.lists.specs.Sums.{sum}
 use Rattle.lists.specs.Lists.{tabulate}
 use Rattle.model.specs.Instance.{Instance}
 
--- 'the step, or 255 for off'
+-- The byte for a module that is off: 'the step, or 255 for off'.
 abbrev pub off : ℕ
 off = 255
 
@@ -23,11 +23,11 @@ unfoldable pub stateAt : Instance → List ℕ → (time : ℕ) → ℕ → ℕ
 stateAt i s zero k = off
 stateAt i s (suc t) k = cond (ltb t (i .slots)) (getD s (t * i .modules + k) off) off
 
--- 'A sheet serves it if it has m × T bytes,'
+-- A sheet has the right length: 'it has m × T bytes'.
 unfoldable pub sheetLength : Instance → List ℕ → Bool
 sheetLength i s = eqb (length s) (i .modules * i .slots)
 
--- 'each 0 to Q or 255,'
+-- The bytes of a sheet are entries: 'each 0 to Q or 255'.
 unfoldable pub sheetEntries : Instance → List ℕ → Bool
 sheetEntries i s = every (length s) (λ k. leb (getD s k off) (i .topStep) || isOff (getD s k off))
 
@@ -39,19 +39,19 @@ stepOf b = cond (isOff b) 0 b
 unfoldable pub lightAt : Instance → List ℕ → (time : ℕ) → ℕ
 lightAt i s time = sum (i .modules) (λ k. stepOf (stateAt i s time k))
 
--- 'and in every slot the steps of the burning modules sum to the load.'
+-- A sheet has the right light: 'in every slot the steps of the burning modules sum to the load'.
 unfoldable pub sheetLight : Instance → List ℕ → Bool
 sheetLight i s = every (i .slots) (λ t. eqb (lightAt i s (suc t)) (i .load t))
 
--- 'A sheet serves it' if all three hold.
+-- 'A sheet serves it if it has m × T bytes, each 0 to Q or 255, and in every slot the steps of the burning modules sum to the load.'
 unfoldable pub serves : Instance → List ℕ → Bool
 serves i s = sheetLength i s && (sheetEntries i s && sheetLight i s)
 
--- 'A module at step 0 burns and costs F(0); one that is off costs nothing.'
+-- The cost of a state for one slot: 'A module at step 0 burns and costs F(0); one that is off costs nothing.'
 unfoldable pub stepCost : Instance → ℕ → ℕ
 stepCost i b = cond (isOff b) 0 (i .table b)
 
--- 'Each change from off to burning costs the warm-up price, each change to off the cool-down price'
+-- The price of a change of state: 'Each change from off to burning costs the warm-up price, each change to off the cool-down price'.
 unfoldable pub changeCost : Instance → ℕ → ℕ → ℕ
 changeCost i a b = cond (isOff a) (cond (isOff b) 0 (i .powerUp)) (cond (isOff b) (i .powerDown) 0)
 

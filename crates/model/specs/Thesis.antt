@@ -14,7 +14,7 @@ pub record Schedule : Type 0 where
   pub active : ℕ → ℕ → ℕ
   pub assigned : ℕ → ℕ → ℕ
 
--- β, 'the combined switching costs'
+-- The switching price β, 'the combined switching costs': both prices together.
 abbrev pub switchingPrice : Instance → ℕ
 switchingPrice i = i .powerUp + i .powerDown
 

@@ -22,7 +22,7 @@ use Rattle.theory.specs.Outcomes.{written-taken, best-fits, sheet-accepted, she
 use Rattle.card.specs.declared.Header.{Header}
 use Rattle.card.specs.declared.Checked.{Checked}
 use Rattle.card.specs.declared.Checked.the-variants.{Valid, Invalid}
-use Rattle.card.specs.Checking.{Ready, checkedOf}
+use Rattle.card.specs.Checking.{checkedOf}
 use Rattle.card.proofs.Groups.{refused-answer, ready}
 use Rattle.listing.specs.Texts.{Printable}
 use Rattle.plan.specs.Program.{TextArea, AcceptedText, PlannedText}

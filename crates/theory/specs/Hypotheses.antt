@@ -6,7 +6,7 @@ use mathlib.Core.List.{List}
 use lib.ListN.{length, getD}
 use lib.Dec.{leb}
 use Rattle.lists.specs.Sums.{sum}
-use Rattle.model.specs.Instance.{Instance, neverFalls}
+use Rattle.model.specs.Instance.{Instance}
 use Rattle.model.specs.Counts.{canServe, operatingCost}
 use Rattle.model.specs.Sheets.{isOff, stepOf, stepCost, off}
 use Rattle.model.specs.Thesis.{switchingPrice, countAt, slotCost, countsCost}

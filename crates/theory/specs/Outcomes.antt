@@ -16,7 +16,7 @@ use Rattle.model.specs.declared.Answer.the-variants.{Cost, Refused}
 use Rattle.model.specs.Answers.{numberOf}
 use Rattle.model.specs.Instance.{instanceOf}
 use Rattle.model.specs.Sheets.{serves, sheetCost}
-use Rattle.model.specs.Plans.{sheetOf, planCost, leastCost}
+use Rattle.model.specs.Plans.{sheetOf, planCost}
 use Rattle.model.specs.Planners.{Planner, exact, coarse, workBytes, plannerRefusals, tableAllowed, plannedBy, plannedCost}
 use Rattle.model.specs.Calls.{checkCard, planShow, makeSheet, markSheet, nothing, plan, sheet, onCard, Request, shown, requestOf}
 use Rattle.model.specs.Calls.{Buffer, planBuffer, workBuffer, sheetBuffer, sheetBytes, buffersOf, anyShort}

@@ -7,12 +7,6 @@ use Rattle.calls.proofs.check_card.Tie as tie
 check-requires : tie.Need-check-requires
 check-requires c κs = search needs
 
-enum-told : tie.Need-enum-told
-enum-told c = search needs
-
-enum-known-x : tie.Need-enum-known-x
-enum-known-x c = search needs
-
 returns : tie.Need-returns
 returns c = sym (search accepted-answer)
 
@@ -20,4 +14,4 @@ returns-2 : tie.Need-returns-2
 returns-2 c = sym (search refused-answer)
 
 pub check-card-spec : {M : Type 1} → statement M
-check-card-spec = tie.close (tie.spec check-requires enum-told enum-known-x returns returns-2)
+check-card-spec = tie.close (tie.spec check-requires (λ c. search needs) (λ c. search needs) returns returns-2)

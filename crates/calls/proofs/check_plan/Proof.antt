@@ -38,14 +38,5 @@ returns-5 c = search (make-cost, test-passed)
 
 pub check-plan-spec : {M : Type 1} → statement M
 check-plan-spec =
-    tie.close
-    (tie.spec
-    mul-size
-    returns
-    returns-2
-    plan-in-rack-requires
-    returns-3
-    plan-serves-requires
-    returns-4
-    plan-cost-requires
+    tie.close (tie.spec mul-size returns returns-2 plan-in-rack-requires returns-3 plan-serves-requires returns-4 plan-cost-requires
     returns-5)

@@ -7,17 +7,8 @@ use Rattle.calls.proofs.make_sheet.Tie as tie
 check-requires : tie.Need-check-requires
 check-requires c κs = search needs
 
-enum-known-h : tie.Need-enum-known-h
-enum-known-h c = search needs
-
 make-sheet-on-requires : tie.Need-make-sheet-on-requires
 make-sheet-on-requires c κs = search ready
-
-enum-known-x : tie.Need-enum-known-x
-enum-known-x c = search needs
-
-same-length : tie.Need-same-length
-same-length c = search needs
 
 returns : tie.Need-returns
 returns c = search needs
@@ -27,12 +18,4 @@ returns-2 c = make-refused _ _ _ (c .before .before .before .check .ensures) (c 
 
 pub make-sheet-spec : {M : Type 1} → statement M
 make-sheet-spec =
-    tie.close
-    (tie.spec
-    check-requires
-    enum-known-h
-    make-sheet-on-requires
-    enum-known-x
-    same-length
-    returns
-    returns-2)
+    tie.close (tie.spec check-requires (λ c. search needs) make-sheet-on-requires (λ c. search needs) (λ c. search needs) returns returns-2)

@@ -12,32 +12,15 @@ enum-told c = search needs
 write-sheet-requires : tie.Need-write-sheet-requires
 write-sheet-requires c κs = search made-ready
 
-enum-told-2 : tie.Need-enum-told-2
-enum-told-2 c = search needs
-
-same-length : tie.Need-same-length
-same-length c = search needs
-
 returns : tie.Need-returns
 returns c =
     let told = c .before .before .before .before in
     made-written _ _ _ (told .before .before .check-plan .ensures) (told .enum-told .given .1) (c .before .before .write-sheet .ensures)
-
-same-length-2 : tie.Need-same-length-2
-same-length-2 c = search needs
 
 returns-2 : tie.Need-returns-2
 returns-2 c = made-kept _ _ _ (c .before .before .check-plan .ensures) (c .enum-told2 .given .1)
 
 pub make-sheet-on-spec : {M : Type 1} → statement M
 make-sheet-on-spec =
-    tie.close
-    (tie.spec
-    check-plan-requires
-    enum-told
-    write-sheet-requires
-    enum-told-2
-    same-length
-    returns
-    same-length-2
-    returns-2)
+    tie.close (tie.spec check-plan-requires enum-told write-sheet-requires (λ c. search needs) (λ c. search needs) returns
+    (λ c. search needs) returns-2)

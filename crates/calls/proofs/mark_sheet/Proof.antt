@@ -7,14 +7,8 @@ use Rattle.calls.proofs.mark_sheet.Tie as tie
 check-requires : tie.Need-check-requires
 check-requires c κs = search needs
 
-enum-known-h : tie.Need-enum-known-h
-enum-known-h c = search needs
-
 mark-sheet-on-requires : tie.Need-mark-sheet-on-requires
 mark-sheet-on-requires c κs = search ready
-
-enum-known-x : tie.Need-enum-known-x
-enum-known-x c = search needs
 
 returns : tie.Need-returns
 returns c = search needs
@@ -23,6 +17,4 @@ returns-2 : tie.Need-returns-2
 returns-2 c = search mark-refused
 
 pub mark-sheet-spec : {M : Type 1} → statement M
-mark-sheet-spec =
-    tie.close
-    (tie.spec check-requires enum-known-h mark-sheet-on-requires enum-known-x returns returns-2)
+mark-sheet-spec = tie.close (tie.spec check-requires (λ c. search needs) mark-sheet-on-requires (λ c. search needs) returns returns-2)

@@ -31,13 +31,4 @@ returns-4 c = search (mark-cost, test-passed)
 
 pub mark-sheet-on-spec : {M : Type 1} → statement M
 mark-sheet-on-spec =
-    tie.close
-    (tie.spec
-    mul-size
-    returns
-    sheet-entries-requires
-    returns-2
-    sheet-light-requires
-    returns-3
-    sheet-cost-requires
-    returns-4)
+    tie.close (tie.spec mul-size returns sheet-entries-requires returns-2 sheet-light-requires returns-3 sheet-cost-requires returns-4)

@@ -7,20 +7,8 @@ use Rattle.calls.proofs.plan_show.Tie as tie
 check-requires : tie.Need-check-requires
 check-requires c κs = search needs
 
-enum-known-h : tie.Need-enum-known-h
-enum-known-h c = search needs
-
 plan-show-on-requires : tie.Need-plan-show-on-requires
 plan-show-on-requires c κs = search ready
-
-enum-known-x : tie.Need-enum-known-x
-enum-known-x c = search needs
-
-same-length : tie.Need-same-length
-same-length c = search needs
-
-same-length-2 : tie.Need-same-length-2
-same-length-2 c = search needs
 
 returns : tie.Need-returns
 returns c = search needs
@@ -30,13 +18,5 @@ returns-2 c = plan-refused _ _ _ _ (c .before .before .before .check .ensures) (
 
 pub plan-show-spec : {M : Type 1} → statement M
 plan-show-spec =
-    tie.close
-    (tie.spec
-    check-requires
-    enum-known-h
-    plan-show-on-requires
-    enum-known-x
-    same-length
-    same-length-2
-    returns
-    returns-2)
+    tie.close (tie.spec check-requires (λ c. search needs) plan-show-on-requires (λ c. search needs) (λ c. search needs) (λ c. search needs)
+    returns returns-2)

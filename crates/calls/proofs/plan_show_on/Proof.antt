@@ -31,26 +31,14 @@ returns-3 c =
     work-short _ _ _ _ (start .pre) (test-passed (tested .table-allowed .ensures) (c .before .before .if1 .left)) (c .before .if2 .left)
     (tested .before .work-bytes .ensures) (c .if3 .taken)
 
-slice-relend-prefix-plan-by : tie.Need-slice-relend-prefix-plan-by
-slice-relend-prefix-plan-by c = search needs
-
 slice-aggregate-plan-by : tie.Need-slice-aggregate-plan-by
 slice-aggregate-plan-by c = sym (length-take-le _ _ (c .before .before .if2 .left))
-
-slice-relend-prefix-plan-by-2 : tie.Need-slice-relend-prefix-plan-by-2
-slice-relend-prefix-plan-by-2 c = search needs
 
 slice-aggregate-plan-by-2 : tie.Need-slice-aggregate-plan-by-2
 slice-aggregate-plan-by-2 c = sym (length-take-le _ _ (c .before .before .if3 .left))
 
 plan-by-requires : tie.Need-plan-by-requires
 plan-by-requires c κs = search (parts-lent, test-passed)
-
-same-length : tie.Need-same-length
-same-length c = search needs
-
-same-length-2 : tie.Need-same-length-2
-same-length-2 c = search needs
 
 returns-4 : tie.Need-returns-4
 returns-4 c =
@@ -63,18 +51,5 @@ returns-4 c =
 
 pub plan-show-on-spec : {M : Type 1} → statement M
 plan-show-on-spec =
-    tie.close
-    (tie.spec
-    work-bytes-requires
-    table-allowed-requires
-    returns
-    returns-2
-    returns-3
-    slice-relend-prefix-plan-by
-    slice-aggregate-plan-by
-    slice-relend-prefix-plan-by-2
-    slice-aggregate-plan-by-2
-    plan-by-requires
-    same-length
-    same-length-2
-    returns-4)
+    tie.close (tie.spec work-bytes-requires table-allowed-requires returns returns-2 returns-3 (λ c. search needs) slice-aggregate-plan-by
+    (λ c. search needs) slice-aggregate-plan-by-2 plan-by-requires (λ c. search needs) (λ c. search needs) returns-4)

@@ -20,5 +20,4 @@ returns-3 : tie.Need-returns-3
 returns-3 c = search (round-cost, test-passed)
 
 pub rounded-count-spec : {M : Type 1} → statement M
-rounded-count-spec =
-    tie.close (tie.spec rack-number-requires returns returns-2 rounded-requires returns-3)
+rounded-count-spec = tie.close (tie.spec rack-number-requires returns returns-2 rounded-requires returns-3)

@@ -7,14 +7,8 @@ use Rattle.calls.proofs.running_cost.Tie as tie
 check-requires : tie.Need-check-requires
 check-requires c κs = search needs
 
-enum-known-h : tie.Need-enum-known-h
-enum-known-h c = search needs
-
 running-cost-on-requires : tie.Need-running-cost-on-requires
 running-cost-on-requires c κs = search ready
-
-enum-known-x : tie.Need-enum-known-x
-enum-known-x c = search needs
 
 returns : tie.Need-returns
 returns c = search needs
@@ -23,6 +17,4 @@ returns-2 : tie.Need-returns-2
 returns-2 c = search running-refused
 
 pub running-cost-spec : {M : Type 1} → statement M
-running-cost-spec =
-    tie.close
-    (tie.spec check-requires enum-known-h running-cost-on-requires enum-known-x returns returns-2)
+running-cost-spec = tie.close (tie.spec check-requires (λ c. search needs) running-cost-on-requires (λ c. search needs) returns returns-2)

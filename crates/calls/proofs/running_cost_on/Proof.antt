@@ -18,5 +18,4 @@ returns-3 : tie.Need-returns-3
 returns-3 c = search running-cost
 
 pub running-cost-on-spec : {M : Type 1} → statement M
-running-cost-on-spec =
-    tie.close (tie.spec returns mul-if2 returns-2 operating-cost-requires returns-3)
+running-cost-on-spec = tie.close (tie.spec returns mul-if2 returns-2 operating-cost-requires returns-3)

@@ -7,9 +7,6 @@ use Rattle.calls.proofs.table_allowed.Tie as tie
 enum-told : tie.Need-enum-told
 enum-told c = search needs
 
-enum-told-2 : tie.Need-enum-told-2
-enum-told-2 c = search needs
-
 never-falls-requires : tie.Need-never-falls-requires
 never-falls-requires c κs = search sized
 
@@ -22,5 +19,4 @@ unfolding tableAllowed
 returns-2 c = rw (c .before .enum-told2 .given .1, ← (c .before .before .before .before .pre .header .top-is)) (c .never-falls .ensures)
 
 pub table-allowed-spec : {M : Type 1} → statement M
-table-allowed-spec =
-    tie.close (tie.spec enum-told enum-told-2 never-falls-requires returns returns-2)
+table-allowed-spec = tie.close (tie.spec enum-told (λ c. search needs) never-falls-requires returns returns-2)

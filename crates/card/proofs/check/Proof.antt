@@ -7,14 +7,8 @@ use Rattle.card.proofs.check.Tie as tie
 check-front-requires : tie.Need-check-front-requires
 check-front-requires c κs = search needs
 
-enum-known-front : tie.Need-enum-known-front
-enum-known-front c = search needs
-
 returns : tie.Need-returns
 returns c = search front-refused
-
-enum-told : tie.Need-enum-told
-enum-told c = search needs
 
 read-header-requires : tie.Need-read-header-requires
 read-header-requires c κs = search front-length
@@ -22,45 +16,19 @@ read-header-requires c κs = search front-length
 check-size-requires : tie.Need-check-size-requires
 check-size-requires c κs = search needs
 
-enum-known-size : tie.Need-enum-known-size
-enum-known-size c = search needs
-
 returns-2 : tie.Need-returns-2
 returns-2 c = search size-refused
-
-enum-told-2 : tie.Need-enum-told-2
-enum-told-2 c = search needs
 
 check-body-requires : tie.Need-check-body-requires
 check-body-requires c κs = search size-of
 
-enum-known-body : tie.Need-enum-known-body
-enum-known-body c = search needs
-
 returns-3 : tie.Need-returns-3
 returns-3 c = search body-refused
-
-enum-told-3 : tie.Need-enum-told-3
-enum-told-3 c = search needs
 
 returns-4 : tie.Need-returns-4
 returns-4 c = search all-passed
 
 pub check-spec : {M : Type 1} → statement M
 check-spec =
-    tie.close
-    (tie.spec
-    check-front-requires
-    enum-known-front
-    returns
-    enum-told
-    read-header-requires
-    check-size-requires
-    enum-known-size
-    returns-2
-    enum-told-2
-    check-body-requires
-    enum-known-body
-    returns-3
-    enum-told-3
-    returns-4)
+    tie.close (tie.spec check-front-requires (λ c. search needs) returns (λ c. search needs) read-header-requires check-size-requires
+    (λ c. search needs) returns-2 (λ c. search needs) check-body-requires (λ c. search needs) returns-3 (λ c. search needs) returns-4)

@@ -33,14 +33,5 @@ returns-6 c = search (body-passed, test-passed)
 
 pub check-body-spec : {M : Type 1} → statement M
 check-body-spec =
-    tie.close
-    (tie.spec
-    returns
-    returns-2
-    table-in-range-requires
-    returns-3
-    is-convex-requires
-    returns-4
-    loads-in-range-requires
-    returns-5
+    tie.close (tie.spec returns returns-2 table-in-range-requires returns-3 is-convex-requires returns-4 loads-in-range-requires returns-5
     returns-6)

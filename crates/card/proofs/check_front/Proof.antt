@@ -23,5 +23,4 @@ returns-4 : tie.Need-returns-4
 returns-4 c = search (front-passed, test-passed)
 
 pub check-front-spec : {M : Type 1} → statement M
-check-front-spec =
-    tie.close (tie.spec returns has-mark-requires returns-2 version-requires returns-3 returns-4)
+check-front-spec = tie.close (tie.spec returns has-mark-requires returns-2 version-requires returns-3 returns-4)

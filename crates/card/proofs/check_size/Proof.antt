@@ -23,6 +23,4 @@ returns-4 : tie.Need-returns-4
 returns-4 c = search (size-passed, test-passed)
 
 pub check-size-spec : {M : Type 1} → statement M
-check-size-spec =
-    tie.close
-    (tie.spec rack-in-range-requires returns returns-2 load-place-requires returns-3 returns-4)
+check-size-spec = tie.close (tie.spec rack-in-range-requires returns returns-2 load-place-requires returns-3 returns-4)

@@ -22,5 +22,4 @@ returns-3 : tie.Need-returns-3
 returns-3 c = search mark-third
 
 pub has-mark-spec : {M : Type 1} → statement M
-has-mark-spec =
-    tie.close (tie.spec one-requires returns one-requires-2 returns-2 one-requires-3 returns-3)
+has-mark-spec = tie.close (tie.spec one-requires returns one-requires-2 returns-2 one-requires-3 returns-3)

@@ -14,9 +14,6 @@ abbrev μ-loop : tie.MeasureT-loop
 loop-holds : tie.Need-loop-holds Inv-loop μ-loop
 loop-holds c = passed-none _ _
 
-add-loop : tie.Need-add-loop Inv-loop μ-loop
-add-loop c = omega arith
-
 convex-at-requires : tie.Need-convex-at-requires Inv-loop μ-loop
 convex-at-requires c κs = omega arith
 
@@ -25,9 +22,6 @@ unfolding convex
 returns c =
     let test = c .before .before in
     passed-not (test .before .loop .inv) (omega (arith, test .loop-test .taken)) (search test-failed)
-
-add-k : tie.Need-add-k Inv-loop μ-loop
-add-k c = omega arith
 
 loop-less : tie.Need-loop-less Inv-loop μ-loop
 loop-less c = omega arith
@@ -43,15 +37,5 @@ returns-2 c = passed-all (c .before .loop .inv) (omega (arith, c .loop-test .lef
 
 pub is-convex-spec : {M : Type 1} → statement M
 is-convex-spec =
-    tie.close
-    (tie.spec
-    Inv-loop
-    μ-loop
-    loop-holds
-    add-loop
-    convex-at-requires
-    returns
-    add-k
-    loop-less
-    loop-again
+    tie.close (tie.spec Inv-loop μ-loop loop-holds (λ c. omega arith) convex-at-requires returns (λ c. omega arith) loop-less loop-again
     returns-2)

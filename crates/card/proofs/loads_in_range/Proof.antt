@@ -34,9 +34,6 @@ returns c =
     rw (← header .slots-is, ← header .modules-is, ← header .top-is)
     (passed-not (test .before .loop .inv) (test .loop-test .taken) (rw (← (c .before .load .ensures .is)) (lt-leb _ _ (c .if1 .taken))))
 
-add-t : tie.Need-add-t Inv-loop μ-loop
-add-t c = omega arith
-
 loop-less : tie.Need-loop-less Inv-loop μ-loop
 loop-less c = omega arith
 
@@ -53,15 +50,4 @@ returns-2 c =
 
 pub loads-in-range-spec : {M : Type 1} → statement M
 loads-in-range-spec =
-    tie.close
-    (tie.spec
-    Inv-loop
-    μ-loop
-    mul-most
-    loop-holds
-    load-requires
-    returns
-    add-t
-    loop-less
-    loop-again
-    returns-2)
+    tie.close (tie.spec Inv-loop μ-loop mul-most loop-holds load-requires returns (λ c. omega arith) loop-less loop-again returns-2)

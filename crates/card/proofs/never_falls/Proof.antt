@@ -16,9 +16,6 @@ abbrev μ-loop : tie.MeasureT-loop
 loop-holds : tie.Need-loop-holds Inv-loop μ-loop
 loop-holds c = passed-none _ _
 
-add-entry : tie.Need-add-entry Inv-loop μ-loop
-add-entry c = omega arith
-
 entry-requires : tie.Need-entry-requires Inv-loop μ-loop
 entry-requires c κs = omega arith
 
@@ -31,9 +28,6 @@ returns c =
     let test = c .before .before .before in
     passed-not (test .before .loop .inv) (test .loop-test .taken)
     (rw (← (c .before .before .entry .ensures .is), ← (c .before .entry2 .ensures .is)) (lt-leb _ _ (c .if1 .taken)))
-
-add-k : tie.Need-add-k Inv-loop μ-loop
-add-k c = omega arith
 
 loop-less : tie.Need-loop-less Inv-loop μ-loop
 loop-less c = omega arith
@@ -50,16 +44,5 @@ returns-2 c = search passed-all
 
 pub never-falls-spec : {M : Type 1} → statement M
 never-falls-spec =
-    tie.close
-    (tie.spec
-    Inv-loop
-    μ-loop
-    loop-holds
-    add-entry
-    entry-requires
-    entry-requires-2
-    returns
-    add-k
-    loop-less
-    loop-again
-    returns-2)
+    tie.close (tie.spec Inv-loop μ-loop loop-holds (λ c. omega arith) entry-requires entry-requires-2 returns (λ c. omega arith) loop-less
+    loop-again returns-2)

@@ -19,5 +19,4 @@ unfolding allOf
 returns-2 c = rw (test-passed (c .before .before .rack-number .ensures) (c .before .if1 .left), and-true) (c .rack-number2 .ensures)
 
 pub rack-in-range-spec : {M : Type 1} → statement M
-rack-in-range-spec =
-    tie.close (tie.spec rack-number-requires returns rack-number-requires-2 returns-2)
+rack-in-range-spec = tie.close (tie.spec rack-number-requires returns rack-number-requires-2 returns-2)

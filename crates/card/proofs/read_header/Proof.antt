@@ -41,6 +41,4 @@ returns c =
     }
 
 pub read-header-spec : {M : Type 1} → statement M
-read-header-spec =
-    tie.close
-    (tie.spec one-requires one-requires-2 two-requires four-requires four-requires-2 returns)
+read-header-spec = tie.close (tie.spec one-requires one-requires-2 two-requires four-requires four-requires-2 returns)

@@ -26,9 +26,6 @@ returns c =
     passed-not (test .before .loop .inv) (omega (arith, test .loop-test .taken))
     (rw (← (c .before .entry .ensures .is)) (lt-leb _ _ (c .if1 .taken)))
 
-add-k : tie.Need-add-k Inv-loop μ-loop
-add-k c = omega arith
-
 loop-less : tie.Need-loop-less Inv-loop μ-loop
 loop-less c = omega arith
 
@@ -44,14 +41,4 @@ returns-2 c = passed-all (c .before .loop .inv) (omega (arith, c .loop-test .lef
 
 pub table-in-range-spec : {M : Type 1} → statement M
 table-in-range-spec =
-    tie.close
-    (tie.spec
-    Inv-loop
-    μ-loop
-    loop-holds
-    entry-requires
-    returns
-    add-k
-    loop-less
-    loop-again
-    returns-2)
+    tie.close (tie.spec Inv-loop μ-loop loop-holds entry-requires returns (λ c. omega arith) loop-less loop-again returns-2)

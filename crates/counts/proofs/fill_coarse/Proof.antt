@@ -16,15 +16,6 @@ known s = coarse-known (s .args .m) (s .pre .some) (s .pre .most)
 sub-powers : tie.Need-sub-powers
 sub-powers c = leading-le 64 (c .before .args .m)
 
-cast-powers : tie.Need-cast-powers
-cast-powers c = search needs
-
-add-end : tie.Need-add-end
-add-end c = search needs
-
-slice-write-counts : tie.Need-slice-write-counts
-slice-write-counts c = search needs
-
 sub-fill-powers : tie.Need-sub-fill-powers
 sub-fill-powers c = omega (arith, known (c .before))
 
@@ -36,9 +27,6 @@ part-fill-powers-end c = let s = c .before in simp back (omega (arith, s .pre, k
 
 fill-powers-requires : tie.Need-fill-powers-requires
 fill-powers-requires c κs = simp length-take (omega (arith, known (c .before .before)))
-
-mul-if1 : tie.Need-mul-if1
-mul-if1 c = search needs
 
 slice-read-if1 : tie.Need-slice-read-if1
 slice-read-if1 c =
@@ -55,16 +43,10 @@ returns c =
     let p = c .before .before .before .before .before .before .before .pre in
     power-done _ _ p (c .before .before .before .before .fill-powers .ensures) (c .if1 .taken)
 
-mul-counts : tie.Need-mul-counts
-mul-counts c = search needs
-
 slice-write-counts-2 : tie.Need-slice-write-counts-2
 slice-write-counts-2 c =
     let s = c .before .before .before .before .before .before .before in
     simp (back, c .before .before .before .before .fill-powers .kept .0) (omega (arith, s .pre, known s))
-
-add-result : tie.Need-add-result
-add-result c = search needs
 
 same-length-2 : tie.Need-same-length-2
 same-length-2 c =
@@ -78,22 +60,6 @@ returns-2 c =
 
 pub fill-coarse-spec : {M : Type 1} → statement M
 fill-coarse-spec =
-    tie.close
-    (tie.spec
-    sub-powers
-    cast-powers
-    add-end
-    slice-write-counts
-    sub-fill-powers
-    part-fill-powers-start
-    part-fill-powers-end
-    fill-powers-requires
-    mul-if1
-    slice-read-if1
-    same-length
-    returns
-    mul-counts
-    slice-write-counts-2
-    add-result
-    same-length-2
-    returns-2)
+    tie.close (tie.spec sub-powers (λ c. search needs) (λ c. search needs) (λ c. search needs) sub-fill-powers part-fill-powers-start
+    part-fill-powers-end fill-powers-requires (λ c. search needs) slice-read-if1 same-length returns (λ c. search needs)
+    slice-write-counts-2 (λ c. search needs) same-length-2 returns-2)

@@ -9,21 +9,12 @@ enum-told c = search needs
 fill-all-requires : tie.Need-fill-all-requires
 fill-all-requires c κs = search needs
 
-enum-told-2 : tie.Need-enum-told-2
-enum-told-2 c = search needs
-
 fill-coarse-requires : tie.Need-fill-coarse-requires
 fill-coarse-requires c κs = search needs
-
-same-length : tie.Need-same-length
-same-length c = search needs
 
 returns : tie.Need-returns
 unfolding allowedCounts
 returns c = rw (c .before .before .before .before .enum-told .given .1) (c .before .before .fill-all .ensures)
-
-same-length-2 : tie.Need-same-length-2
-same-length-2 c = search needs
 
 returns-2 : tie.Need-returns-2
 unfolding allowedCounts
@@ -31,13 +22,5 @@ returns-2 c = rw (c .before .before .before .before .enum-told2 .given .1) (c .b
 
 pub fill-counts-spec : {M : Type 1} → statement M
 fill-counts-spec =
-    tie.close
-    (tie.spec
-    enum-told
-    fill-all-requires
-    enum-told-2
-    fill-coarse-requires
-    same-length
-    returns
-    same-length-2
+    tie.close (tie.spec enum-told fill-all-requires (λ c. search needs) fill-coarse-requires (λ c. search needs) returns (λ c. search needs)
     returns-2)

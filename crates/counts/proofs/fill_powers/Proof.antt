@@ -18,15 +18,6 @@ loop-holds c = upto-none _ _
 power-requires : tie.Need-power-requires Inv-loop μ-loop
 power-requires c κs = omega arith
 
-mul-part : tie.Need-mul-part Inv-loop μ-loop
-mul-part c = omega arith
-
-slice-write-part : tie.Need-slice-write-part Inv-loop μ-loop
-slice-write-part c = omega arith
-
-add-k : tie.Need-add-k Inv-loop μ-loop
-add-k c = omega arith
-
 loop-less : tie.Need-loop-less Inv-loop μ-loop
 loop-less c = omega arith
 
@@ -42,16 +33,5 @@ returns c = upto-all (c .before .loop .inv) (omega arith)
 
 pub fill-powers-spec : {M : Type 1} → statement M
 fill-powers-spec =
-    tie.close
-    (tie.spec
-    Inv-loop
-    μ-loop
-    loop-holds
-    power-requires
-    mul-part
-    slice-write-part
-    add-k
-    loop-less
-    loop-again
-    same-length
-    returns)
+    tie.close (tie.spec Inv-loop μ-loop loop-holds power-requires (λ c. omega arith) (λ c. omega arith) (λ c. omega arith) loop-less
+    loop-again same-length returns)

@@ -17,12 +17,6 @@ abbrev μ-loop : tie.MeasureT-loop
 loop-holds : tie.Need-loop-holds Inv-loop μ-loop
 loop-holds c = skipped-none
 
-mul-allowed : tie.Need-mul-allowed Inv-loop μ-loop
-mul-allowed c = omega arith
-
-shared-slice-read-allowed : tie.Need-shared-slice-read-allowed Inv-loop μ-loop
-shared-slice-read-allowed c = omega arith
-
 returns : tie.Need-returns Inv-loop μ-loop
 unfolding firstNotBelow
 returns c =
@@ -30,9 +24,6 @@ returns c =
     let a = getD (s .counts .now) (c .before .before .before .loop .k) 0 in
     skipped-found (c .before .before .before .loop .inv) (omega (arith, c .before .before .loop-test .taken))
     (le-leb (s .count) a (omega (arith, c .if1 .taken)))
-
-add-k : tie.Need-add-k Inv-loop μ-loop
-add-k c = omega arith
 
 loop-less : tie.Need-loop-less Inv-loop μ-loop
 loop-less c = omega arith
@@ -50,15 +41,5 @@ returns-2 c = skipped-all (c .before .loop .inv) (omega (arith, c .loop-test .le
 
 pub first-not-below-spec : {M : Type 1} → statement M
 first-not-below-spec =
-    tie.close
-    (tie.spec
-    Inv-loop
-    μ-loop
-    loop-holds
-    mul-allowed
-    shared-slice-read-allowed
-    returns
-    add-k
-    loop-less
-    loop-again
+    tie.close (tie.spec Inv-loop μ-loop loop-holds (λ c. omega arith) (λ c. omega arith) returns (λ c. omega arith) loop-less loop-again
     returns-2)

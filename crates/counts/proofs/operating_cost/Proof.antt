@@ -11,12 +11,6 @@ use Rattle.counts.proofs.operating_cost.Tie as tie
 returns : tie.Need-returns
 returns c = cost-none _ _ _ (c .if1 .taken)
 
-div-step : tie.Need-div-step
-div-step c = search needs
-
-rem-rest : tie.Need-rem-rest
-rem-rest c = search needs
-
 entry-requires : tie.Need-entry-requires
 entry-requires c κs =
     let p = c .before .before .before .pre in
@@ -67,19 +61,5 @@ returns-3 c =
 
 pub operating-cost-spec : {M : Type 1} → statement M
 operating-cost-spec =
-    tie.close
-    (tie.spec
-    returns
-    div-step
-    rem-rest
-    entry-requires
-    mul-result
-    returns-2
-    sub-others
-    add-next
-    entry-requires-2
-    mul-low
-    entry-requires-3
-    mul-result-2
-    add-result
-    returns-3)
+    tie.close (tie.spec returns (λ c. search needs) (λ c. search needs) entry-requires mul-result returns-2 sub-others add-next
+    entry-requires-2 mul-low entry-requires-3 mul-result-2 add-result returns-3)

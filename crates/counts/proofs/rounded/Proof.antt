@@ -5,9 +5,6 @@ use borrow.Author.Needs.{needs}
 use Rattle.counts.proofs.rounded.Statement.{statement}
 use Rattle.counts.proofs.rounded.Tie as tie
 
-slice-aggregate-fill-coarse : tie.Need-slice-aggregate-fill-coarse
-slice-aggregate-fill-coarse c = search needs
-
 fill-coarse-requires : tie.Need-fill-coarse-requires
 fill-coarse-requires c κs = search needs
 
@@ -27,11 +24,5 @@ returns c =
 
 pub rounded-spec : {M : Type 1} → statement M
 rounded-spec =
-    tie.close
-    (tie.spec
-    slice-aggregate-fill-coarse
-    fill-coarse-requires
-    array-share-prefix-counts
-    slice-aggregate-first-not-below
-    first-not-below-requires
-    returns)
+    tie.close (tie.spec (λ c. search needs) fill-coarse-requires array-share-prefix-counts slice-aggregate-first-not-below
+    first-not-below-requires returns)

@@ -10,15 +10,8 @@ plan-show-requires c κs = search needs
 to-c-requires : tie.Need-to-c-requires
 to-c-requires c κs = search needs
 
-same-length : tie.Need-same-length
-same-length c = search needs
-
-same-length-2 : tie.Need-same-length-2
-same-length-2 c = search needs
-
 returns : tie.Need-returns
 returns c = plans coarse _ _ _ (c .before .before .before .before .before .plan-show .ensures) (c .to-c .ensures)
 
 pub lamp-plan-coarse-spec : {M : Type 1} → statement M
-lamp-plan-coarse-spec =
-    tie.close (tie.spec plan-show-requires to-c-requires same-length same-length-2 returns)
+lamp-plan-coarse-spec = tie.close (tie.spec plan-show-requires to-c-requires (λ c. search needs) (λ c. search needs) returns)

@@ -9,11 +9,8 @@ make-sheet-requires c κs = search needs
 to-c-requires : tie.Need-to-c-requires
 to-c-requires c κs = search needs
 
-same-length : tie.Need-same-length
-same-length c = search needs
-
 returns : tie.Need-returns
 returns c = makes _ _ _ (c .before .before .before .make-sheet .ensures) (c .to-c .ensures)
 
 pub lamp-sheet-spec : {M : Type 1} → statement M
-lamp-sheet-spec = tie.close (tie.spec make-sheet-requires to-c-requires same-length returns)
+lamp-sheet-spec = tie.close (tie.spec make-sheet-requires to-c-requires (λ c. search needs) returns)

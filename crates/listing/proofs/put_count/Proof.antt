@@ -9,11 +9,8 @@ put-requires c κs = search needs
 put-number-requires : tie.Need-put-number-requires
 put-number-requires c κs = search needs
 
-same-length : tie.Need-same-length
-same-length c = search needs
-
 returns : tie.Need-returns
 returns c = search written-more
 
 pub put-count-spec : {M : Type 1} → statement M
-put-count-spec = tie.close (tie.spec put-requires put-number-requires same-length returns)
+put-count-spec = tie.close (tie.spec put-requires put-number-requires (λ c. search needs) returns)

@@ -15,16 +15,10 @@ abbrev μ-loop : tie.MeasureT-loop
 loop-holds : tie.Need-loop-holds Inv-loop μ-loop
 loop-holds c = search rows-none
 
-shared-slice-read-put-count : tie.Need-shared-slice-read-put-count Inv-loop μ-loop
-shared-slice-read-put-count c = omega arith
-
 put-count-requires : tie.Need-put-count-requires Inv-loop μ-loop
 put-count-requires c κs =
     let loop = c .before .before .before in
     rows-room (loop .before .before .before .pre) (loop .loop .inv) (c .before .before .loop-test .taken)
-
-add-t : tie.Need-add-t Inv-loop μ-loop
-add-t c = omega arith
 
 loop-less : tie.Need-loop-less Inv-loop μ-loop
 loop-less c = omega arith
@@ -40,15 +34,5 @@ returns c = search rows-all
 
 pub put-counts-spec : {M : Type 1} → statement M
 put-counts-spec =
-    tie.close
-    (tie.spec
-    Inv-loop
-    μ-loop
-    loop-holds
-    shared-slice-read-put-count
-    put-count-requires
-    add-t
-    loop-less
-    loop-again
-    same-length
+    tie.close (tie.spec Inv-loop μ-loop loop-holds (λ c. omega arith) put-count-requires (λ c. omega arith) loop-less loop-again same-length
     returns)

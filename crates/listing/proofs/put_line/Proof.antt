@@ -14,12 +14,8 @@ put-number-requires c κs =
 put-requires : tie.Need-put-requires
 put-requires c κs = search room-rest
 
-same-length : tie.Need-same-length
-same-length c = search needs
-
 returns : tie.Need-returns
 returns c = search written-more
 
 pub put-line-spec : {M : Type 1} → statement M
-put-line-spec =
-    tie.close (tie.spec put-word-requires put-number-requires put-requires same-length returns)
+put-line-spec = tie.close (tie.spec put-word-requires put-number-requires put-requires (λ c. search needs) returns)

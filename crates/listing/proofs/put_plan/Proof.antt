@@ -4,9 +4,6 @@ use borrow.Author.Needs.{needs}
 use Rattle.listing.proofs.put_plan.Statement.{statement}
 use Rattle.listing.proofs.put_plan.Tie as tie
 
-slice-aggregate-put-word : tie.Need-slice-aggregate-put-word
-slice-aggregate-put-word c = search needs
-
 put-word-requires : tie.Need-put-word-requires
 unfolding planLine
 put-word-requires c κs = search room-first
@@ -22,20 +19,9 @@ put-requires c κs =
     let word = middle .before .before .before .before in
     room-rest (room-rest (word .before .before .before .before .before .pre) (word .put-word .ensures)) (middle .put-counts .ensures)
 
-same-length : tie.Need-same-length
-same-length c = search needs
-
 returns : tie.Need-returns
 unfolding planLine
 returns c = search written-more
 
 pub put-plan-spec : {M : Type 1} → statement M
-put-plan-spec =
-    tie.close
-    (tie.spec
-    slice-aggregate-put-word
-    put-word-requires
-    put-counts-requires
-    put-requires
-    same-length
-    returns)
+put-plan-spec = tie.close (tie.spec (λ c. search needs) put-word-requires put-counts-requires put-requires (λ c. search needs) returns)

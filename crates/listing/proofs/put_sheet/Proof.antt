@@ -21,12 +21,6 @@ mul-start c = omega (arith, row-in-sheet (c .before .before .before .before .pre
 add-end : tie.Need-add-end Inv-loop μ-loop
 add-end c = omega (arith, row-in-sheet (c .before .before .before .before .pre .0) (c .loop-test .taken))
 
-sub-put-slot : tie.Need-sub-put-slot Inv-loop μ-loop
-sub-put-slot c = omega arith
-
-part-put-slot-start : tie.Need-part-put-slot-start Inv-loop μ-loop
-part-put-slot-start c = omega arith
-
 part-put-slot-end : tie.Need-part-put-slot-end Inv-loop μ-loop
 part-put-slot-end c = search row-in-sheet
 
@@ -36,9 +30,6 @@ put-slot-requires c κs =
     let start = loop .before .before .before in
     let below = c .before .before .loop-test .taken in
     (omega (arith, start .pre .0 .slots), rw row-line (rows-room (start .pre .1) (loop .loop .inv) below))
-
-add-t : tie.Need-add-t Inv-loop μ-loop
-add-t c = omega arith
 
 loop-less : tie.Need-loop-less Inv-loop μ-loop
 loop-less c = omega arith
@@ -56,19 +47,5 @@ returns c = search rows-all
 
 pub put-sheet-spec : {M : Type 1} → statement M
 put-sheet-spec =
-    tie.close
-    (tie.spec
-    Inv-loop
-    μ-loop
-    loop-holds
-    mul-start
-    add-end
-    sub-put-slot
-    part-put-slot-start
-    part-put-slot-end
-    put-slot-requires
-    add-t
-    loop-less
-    loop-again
-    same-length
-    returns)
+    tie.close (tie.spec Inv-loop μ-loop loop-holds mul-start add-end (λ c. omega arith) (λ c. omega arith) part-put-slot-end
+    put-slot-requires (λ c. omega arith) loop-less loop-again same-length returns)

@@ -33,9 +33,6 @@ put-requires-2 c κs =
     let rest = room-rest (number .before .before .before .before .pre .1) (number .put-slot-number .ensures) in
     room-less (omega arith) (room-rest {b = newline} (room-rest rest (colon .put .ensures)) (steps .put-steps .ensures))
 
-same-length : tie.Need-same-length
-same-length c = search needs
-
 returns : tie.Need-returns
 unfolding slotLine
 returns c =
@@ -47,12 +44,4 @@ returns c =
     (written-more (colon .put .ensures) (written-more (steps .put-steps .ensures) (end .put2 .ensures)))
 
 pub put-slot-spec : {M : Type 1} → statement M
-put-slot-spec =
-    tie.close
-    (tie.spec
-    put-slot-number-requires
-    put-requires
-    put-steps-requires
-    put-requires-2
-    same-length
-    returns)
+put-slot-spec = tie.close (tie.spec put-slot-number-requires put-requires put-steps-requires put-requires-2 (λ c. search needs) returns)

@@ -5,17 +5,11 @@ use borrow.Author.Needs.{needs}
 use Rattle.listing.proofs.put_step.Statement.{statement}
 use Rattle.listing.proofs.put_step.Tie as tie
 
-slice-aggregate-put-word : tie.Need-slice-aggregate-put-word
-slice-aggregate-put-word c = search needs
-
 -- Where there is room for a blank and any step, there is room for two bytes.
 put-word-requires : tie.Need-put-word-requires
 put-word-requires c κs =
     let step = c .before .before .before .before .args .step in
     room-less (omega (arith, step-some step)) (c .before .before .before .before .pre)
-
-same-length : tie.Need-same-length
-same-length c = search needs
 
 returns : tie.Need-returns
 returns c = rw (step-off (c .before .before .before .before .before .if1 .taken)) (c .before .before .put-word .ensures)
@@ -23,20 +17,9 @@ returns c = rw (step-off (c .before .before .before .before .before .if1 .taken)
 put-count-requires : tie.Need-put-count-requires
 put-count-requires c κs = rw (step-on (c .before .if1 .left)) at (c .before .before .before .pre)
 
-same-length-2 : tie.Need-same-length-2
-same-length-2 c = search needs
-
 returns-2 : tie.Need-returns-2
 returns-2 c = rw (step-on (c .before .before .before .before .if1 .left)) (c .before .before .put-count .ensures)
 
 pub put-step-spec : {M : Type 1} → statement M
 put-step-spec =
-    tie.close
-    (tie.spec
-    slice-aggregate-put-word
-    put-word-requires
-    same-length
-    returns
-    put-count-requires
-    same-length-2
-    returns-2)
+    tie.close (tie.spec (λ c. search needs) put-word-requires (λ c. search needs) returns put-count-requires (λ c. search needs) returns-2)

@@ -17,17 +17,11 @@ abbrev μ-loop : tie.MeasureT-loop
 loop-holds : tie.Need-loop-holds Inv-loop μ-loop
 loop-holds c = search rows-none
 
-shared-slice-read-put-step : tie.Need-shared-slice-read-put-step Inv-loop μ-loop
-shared-slice-read-put-step c = omega arith
-
 put-step-requires : tie.Need-put-step-requires Inv-loop μ-loop
 put-step-requires c κs =
     let loop = c .before .before .before in
     let below = c .before .before .loop-test .taken in
     rw (getD-within _ _ off 0 below) at (rows-room (loop .before .before .before .pre) (loop .loop .inv) below)
-
-add-k : tie.Need-add-k Inv-loop μ-loop
-add-k c = omega arith
 
 loop-less : tie.Need-loop-less Inv-loop μ-loop
 loop-less c = omega arith
@@ -46,15 +40,5 @@ returns c = search rows-all
 
 pub put-steps-spec : {M : Type 1} → statement M
 put-steps-spec =
-    tie.close
-    (tie.spec
-    Inv-loop
-    μ-loop
-    loop-holds
-    shared-slice-read-put-step
-    put-step-requires
-    add-k
-    loop-less
-    loop-again
-    same-length
+    tie.close (tie.spec Inv-loop μ-loop loop-holds (λ c. omega arith) put-step-requires (λ c. omega arith) loop-less loop-again same-length
     returns)

@@ -14,9 +14,6 @@ whole c =
     listing-room (start .pre) (start .fits .cost .fits) (λ k. c .before .shared-slice-known .given k .fits)
     (λ k. c .shared-slice-known2 .given k .fits)
 
-slice-aggregate-put-line : tie.Need-slice-aggregate-put-line
-slice-aggregate-put-line c = search needs
-
 put-line-requires : tie.Need-put-line-requires
 unfolding listing costLine
 put-line-requires c κs = room-first _ (whole (c .before .before))
@@ -35,9 +32,6 @@ put-sheet-requires c κs =
     let start = costs .before .before .before in
     (start .before .before .before .pre .rack, room-rest (room-rest (whole start) (costs .put-line .ensures)) (counts .put-plan .ensures))
 
-same-length : tie.Need-same-length
-same-length c = search needs
-
 returns : tie.Need-returns
 unfolding listing costLine
 returns c =
@@ -48,11 +42,4 @@ returns c =
 
 pub write-listing-spec : {M : Type 1} → statement M
 write-listing-spec =
-    tie.close
-    (tie.spec
-    slice-aggregate-put-line
-    put-line-requires
-    put-plan-requires
-    put-sheet-requires
-    same-length
-    returns)
+    tie.close (tie.spec (λ c. search needs) put-line-requires put-plan-requires put-sheet-requires (λ c. search needs) returns)

@@ -5,23 +5,11 @@ use borrow.Author.Needs.{needs}
 use Rattle.plan.proofs.main.Statement.{statement}
 use Rattle.plan.proofs.main.Tie as tie
 
-slice-aggregate-read-full : tie.Need-slice-aggregate-read-full
-slice-aggregate-read-full c = search needs
-
 read-full-requires : tie.Need-read-full-requires
 read-full-requires c κs = search needs
 
 text-area-requires : tie.Need-text-area-requires
 text-area-requires c κs = search needs
-
-array-share-prefix-card : tie.Need-array-share-prefix-card
-array-share-prefix-card c = search needs
-
-slice-aggregate-print-card : tie.Need-slice-aggregate-print-card
-slice-aggregate-print-card c = search needs
-
-slice-aggregate-print-card-2 : tie.Need-slice-aggregate-print-card-2
-slice-aggregate-print-card-2 c = search needs
 
 print-card-requires : tie.Need-print-card-requires
 print-card-requires c κs = search needs
@@ -40,16 +28,5 @@ returns c = search needs
 
 pub main-spec : {M : Type 1} → statement M
 main-spec =
-    tie.close
-    (tie.spec
-    slice-aggregate-read-full
-    read-full-requires
-    text-area-requires
-    array-share-prefix-card
-    slice-aggregate-print-card
-    slice-aggregate-print-card-2
-    print-card-requires
-    array-share-prefix-text
-    slice-aggregate-write-all
-    write-all-requires
-    returns)
+    tie.close (tie.spec (λ c. search needs) read-full-requires text-area-requires (λ c. search needs) (λ c. search needs)
+    (λ c. search needs) print-card-requires array-share-prefix-text slice-aggregate-write-all write-all-requires returns)

@@ -10,20 +10,8 @@ plan-area-requires c κs = search needs
 large-buffer-requires : tie.Need-large-buffer-requires
 large-buffer-requires c κs = search needs
 
-slice-aggregate-plan-show-on : tie.Need-slice-aggregate-plan-show-on
-slice-aggregate-plan-show-on c = search needs
-
-slice-aggregate-plan-show-on-2 : tie.Need-slice-aggregate-plan-show-on-2
-slice-aggregate-plan-show-on-2 c = search needs
-
 plan-show-on-requires : tie.Need-plan-show-on-requires
 plan-show-on-requires c κs = search needs
-
-enum-known-planned : tie.Need-enum-known-planned
-enum-known-planned c = search needs
-
-slice-aggregate-print-plan : tie.Need-slice-aggregate-print-plan
-slice-aggregate-print-plan c = search needs
 
 print-plan-requires : tie.Need-print-plan-requires
 print-plan-requires c κs =
@@ -34,17 +22,11 @@ print-plan-requires c κs =
     planned-text _ _ _ (areas .before .plan-area .ensures) (areas .large-buffer .ensures) (called .plan-show-on .ensures .0)
     (told .planned .given .1) (start .pre) (called .plan-show-on .ensures .1 .0)
 
-enum-known-planned-2 : tie.Need-enum-known-planned-2
-enum-known-planned-2 c = search needs
-
 refusal-number-requires : tie.Need-refusal-number-requires
 refusal-number-requires c κs = search needs
 
 write-refusal-requires : tie.Need-write-refusal-requires
 write-refusal-requires c κs = search needs
-
-same-length : tie.Need-same-length
-same-length c = search needs
 
 returns : tie.Need-returns
 returns c =
@@ -55,9 +37,6 @@ returns c =
     printed-listing _ _ _ (areas .before .plan-area .ensures) (areas .large-buffer .ensures) (called .plan-show-on .ensures .0)
     (told .planned .given .1) in
     start-same _ _ _ same (c .before .before .print-plan .ensures)
-
-same-length-2 : tie.Need-same-length-2
-same-length-2 c = search needs
 
 returns-2 : tie.Need-returns-2
 returns-2 c =
@@ -71,20 +50,6 @@ returns-2 c =
 
 pub print-accepted-spec : {M : Type 1} → statement M
 print-accepted-spec =
-    tie.close
-    (tie.spec
-    plan-area-requires
-    large-buffer-requires
-    slice-aggregate-plan-show-on
-    slice-aggregate-plan-show-on-2
-    plan-show-on-requires
-    enum-known-planned
-    slice-aggregate-print-plan
-    print-plan-requires
-    enum-known-planned-2
-    refusal-number-requires
-    write-refusal-requires
-    same-length
-    returns
-    same-length-2
-    returns-2)
+    tie.close (tie.spec plan-area-requires large-buffer-requires (λ c. search needs) (λ c. search needs) plan-show-on-requires
+    (λ c. search needs) (λ c. search needs) print-plan-requires (λ c. search needs) refusal-number-requires write-refusal-requires
+    (λ c. search needs) returns (λ c. search needs) returns-2)

@@ -15,9 +15,6 @@ large-buffer-requires c κs = search needs
 slice-aggregate-make-sheet-on : tie.Need-slice-aggregate-make-sheet-on
 slice-aggregate-make-sheet-on c = sym (length-take-le _ _ (search slots-within))
 
-slice-aggregate-make-sheet-on-2 : tie.Need-slice-aggregate-make-sheet-on-2
-slice-aggregate-make-sheet-on-2 c = search needs
-
 make-sheet-on-requires : tie.Need-make-sheet-on-requires
 make-sheet-on-requires c κs = search needs
 
@@ -33,9 +30,6 @@ slice-aggregate-write-listing-2 c = sym (length-take-le _ _ (search entries-with
 write-listing-requires : tie.Need-write-listing-requires
 write-listing-requires c κs = search print-ready
 
-same-length : tie.Need-same-length
-same-length c = search needs
-
 returns : tie.Need-returns
 returns c =
     let made = c .before .before .before .before .before .before .before in
@@ -46,16 +40,6 @@ returns c =
 
 pub print-plan-spec : {M : Type 1} → statement M
 print-plan-spec =
-    tie.close
-    (tie.spec
-    mul-entries
-    large-buffer-requires
-    slice-aggregate-make-sheet-on
-    slice-aggregate-make-sheet-on-2
-    make-sheet-on-requires
-    slice-aggregate-write-listing
-    array-share-prefix-sheet
-    slice-aggregate-write-listing-2
-    write-listing-requires
-    same-length
+    tie.close (tie.spec mul-entries large-buffer-requires slice-aggregate-make-sheet-on (λ c. search needs) make-sheet-on-requires
+    slice-aggregate-write-listing array-share-prefix-sheet slice-aggregate-write-listing-2 write-listing-requires (λ c. search needs)
     returns)

@@ -6,9 +6,6 @@ use borrow.Author.Needs.{needs}
 use Rattle.planners.proofs.least_with_column.Statement.{statement}
 use Rattle.planners.proofs.least_with_column.Tie as tie
 
-slice-relend-prefix-search : tie.Need-slice-relend-prefix-search
-slice-relend-prefix-search c = search needs
-
 slice-aggregate-search : tie.Need-slice-aggregate-search
 slice-aggregate-search c =
     let start = c .before .before .before .before .before .before in
@@ -19,15 +16,6 @@ search-requires c κs =
     let start = c .before .before .before .before .before .before .before .before in
     searchable (start .pre .0) (length-take-le _ _ (omega (arith, start .pre .0 .short, start .pre .1 .room)))
 
-same-length : tie.Need-same-length
-same-length c = search needs
-
-same-length-2 : tie.Need-same-length-2
-same-length-2 c = search needs
-
-same-length-3 : tie.Need-same-length-3
-same-length-3 c = search needs
-
 returns : tie.Need-returns
 returns c =
     let done = c .before .before .before .before .before .before in
@@ -37,12 +25,5 @@ returns c =
 
 pub least-with-column-spec : {M : Type 1} → statement M
 least-with-column-spec =
-    tie.close
-    (tie.spec
-    slice-relend-prefix-search
-    slice-aggregate-search
-    search-requires
-    same-length
-    same-length-2
-    same-length-3
-    returns)
+    tie.close (tie.spec (λ c. search needs) slice-aggregate-search search-requires (λ c. search needs) (λ c. search needs)
+    (λ c. search needs) returns)

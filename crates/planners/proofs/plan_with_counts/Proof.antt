@@ -21,15 +21,6 @@ least-over-requires c κs =
     let e = filled .fill-counts .ensures in
     over-front _ (start .pre .0) _ (e .0) (e .1)
 
-same-length : tie.Need-same-length
-same-length c = search needs
-
-same-length-2 : tie.Need-same-length-2
-same-length-2 c = search needs
-
-same-length-3 : tie.Need-same-length-3
-same-length-3 c = search needs
-
 returns : tie.Need-returns
 returns c =
     let done = c .before .before .before .before in
@@ -40,13 +31,5 @@ returns c =
 
 pub plan-with-counts-spec : {M : Type 1} → statement M
 plan-with-counts-spec =
-    tie.close
-    (tie.spec
-    fill-counts-requires
-    slice-reshare-prefix-least-over
-    slice-aggregate-least-over
-    least-over-requires
-    same-length
-    same-length-2
-    same-length-3
-    returns)
+    tie.close (tie.spec fill-counts-requires slice-reshare-prefix-least-over slice-aggregate-least-over least-over-requires
+    (λ c. search needs) (λ c. search needs) (λ c. search needs) returns)

@@ -43,12 +43,6 @@ mul-row c = let test = c .before in record { fits = omega (arith, row-small (sta
 add-end : tie.Need-add-end Inv-loop μ-loop
 add-end c = let test = c .before in record { fits = omega (arith, row-small (start (test .before) .pre) (test .loop-test .taken)) }
 
-sub-one-slot : tie.Need-sub-one-slot Inv-loop μ-loop
-sub-one-slot c = omega arith
-
-part-one-slot-start : tie.Need-part-one-slot-start Inv-loop μ-loop
-part-one-slot-start c = omega arith
-
 part-one-slot-end : tie.Need-part-one-slot-end Inv-loop μ-loop
 part-one-slot-end c =
     let test = c .before .before in
@@ -59,9 +53,6 @@ one-slot-requires c κs =
     let read = c .before .before in
     let test = read .before in
     slot-ready (start (test .before) .pre) (test .before .loop .inv) (test .loop-test .taken) (read .load .ensures .is) refl refl
-
-add-t : tie.Need-add-t Inv-loop μ-loop
-add-t c = omega arith
 
 loop-less : tie.Need-loop-less Inv-loop μ-loop
 loop-less c = omega arith
@@ -86,5 +77,5 @@ returns c = slots-end (c .before .loop .inv) (rw (start (c .before) .pre .ready 
 
 pub all-slots-spec : {M : Type 1} → statement M
 all-slots-spec =
-    tie.close (tie.spec Inv-loop μ-loop add-price start-column-requires loop-holds load-requires mul-row add-end sub-one-slot
-    part-one-slot-start part-one-slot-end one-slot-requires add-t loop-less loop-again same-length same-length-2 returns)
+    tie.close (tie.spec Inv-loop μ-loop add-price start-column-requires loop-holds load-requires mul-row add-end (λ c. omega arith)
+    (λ c. omega arith) part-one-slot-end one-slot-requires (λ c. omega arith) loop-less loop-again same-length same-length-2 returns)

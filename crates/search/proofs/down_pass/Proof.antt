@@ -19,24 +19,6 @@ abbrev μ-loop : tie.MeasureT-loop
 abbrev start : tie.At-loop Inv-loop μ-loop → tie.Start Inv-loop μ-loop
 start c = c .before .before .before .before .before .before .before .before
 
-sub-last : tie.Need-sub-last Inv-loop μ-loop
-sub-last c = omega arith
-
-mul-serve-here : tie.Need-mul-serve-here Inv-loop μ-loop
-mul-serve-here c = omega arith
-
-shared-slice-read-serve-here : tie.Need-shared-slice-read-serve-here Inv-loop μ-loop
-shared-slice-read-serve-here c = omega arith
-
-mul-serve-here-2 : tie.Need-mul-serve-here-2 Inv-loop μ-loop
-mul-serve-here-2 c = omega arith
-
-slice-read-serve-here : tie.Need-slice-read-serve-here Inv-loop μ-loop
-slice-read-serve-here c = omega arith
-
-cast-serve-here : tie.Need-cast-serve-here Inv-loop μ-loop
-cast-serve-here c = omega arith
-
 serve-here-requires : tie.Need-serve-here-requires Inv-loop μ-loop
 serve-here-requires c κs =
     let p = c .before .before .before .before .before .before .pre in
@@ -45,32 +27,8 @@ serve-here-requires c κs =
 loop-holds : tie.Need-loop-holds Inv-loop μ-loop
 loop-holds c = down-starts (c .before .before .before .before .before .before .before .pre) refl (c .serve-here .ensures)
 
-mul-column : tie.Need-mul-column Inv-loop μ-loop
-mul-column c = omega arith
-
-slice-write-column : tie.Need-slice-write-column Inv-loop μ-loop
-slice-write-column c = omega arith
-
-slice-write-places : tie.Need-slice-write-places Inv-loop μ-loop
-slice-write-places c = omega arith
-
-sub-j : tie.Need-sub-j Inv-loop μ-loop
-sub-j c = omega arith
-
-mul-serve-here-or-above : tie.Need-mul-serve-here-or-above Inv-loop μ-loop
-mul-serve-here-or-above c = omega arith
-
-shared-slice-read-serve-here-or-above : tie.Need-shared-slice-read-serve-here-or-above Inv-loop μ-loop
-shared-slice-read-serve-here-or-above c = omega arith
-
-mul-serve-here-or-above-2 : tie.Need-mul-serve-here-or-above-2 Inv-loop μ-loop
-mul-serve-here-or-above-2 c = omega arith
-
 slice-read-serve-here-or-above : tie.Need-slice-read-serve-here-or-above Inv-loop μ-loop
 slice-read-serve-here-or-above c = simp length-set (omega arith)
-
-cast-serve-here-or-above : tie.Need-cast-serve-here-or-above Inv-loop μ-loop
-cast-serve-here-or-above c = omega arith
 
 serve-here-or-above-requires : tie.Need-serve-here-or-above-requires Inv-loop μ-loop
 serve-here-or-above-requires c κs =
@@ -85,12 +43,6 @@ loop-again c =
     let test = c .before .before .before in
     down-turns (start (test .before) .pre) (test .before .loop .inv) (test .loop-test .taken) (c .serve-here-or-above .ensures)
 
-slice-write-column-2 : tie.Need-slice-write-column-2 Inv-loop μ-loop
-slice-write-column-2 c = omega arith
-
-slice-write-places-2 : tie.Need-slice-write-places-2 Inv-loop μ-loop
-slice-write-places-2 c = omega arith
-
 same-length : tie.Need-same-length Inv-loop μ-loop
 same-length c = simp length-set (c .before .loop .inv .costs .size)
 
@@ -102,7 +54,7 @@ returns c = down-ends (start (c .before) .pre) (c .before .loop .inv) (c .loop-t
 
 pub down-pass-spec : {M : Type 1} → statement M
 down-pass-spec =
-    tie.close (tie.spec Inv-loop μ-loop sub-last mul-serve-here shared-slice-read-serve-here mul-serve-here-2 slice-read-serve-here cast-serve-here serve-here-requires loop-holds
-    mul-column slice-write-column slice-write-places sub-j mul-serve-here-or-above shared-slice-read-serve-here-or-above mul-serve-here-or-above-2
-    slice-read-serve-here-or-above cast-serve-here-or-above serve-here-or-above-requires loop-less loop-again slice-write-column-2 slice-write-places-2
-    same-length same-length-2 returns)
+    tie.close (tie.spec Inv-loop μ-loop (λ c. omega arith) (λ c. omega arith) (λ c. omega arith) (λ c. omega arith) (λ c. omega arith)
+    (λ c. omega arith) serve-here-requires loop-holds (λ c. omega arith) (λ c. omega arith) (λ c. omega arith) (λ c. omega arith)
+    (λ c. omega arith) (λ c. omega arith) (λ c. omega arith) slice-read-serve-here-or-above (λ c. omega arith) serve-here-or-above-requires
+    loop-less loop-again (λ c. omega arith) (λ c. omega arith) same-length same-length-2 returns)

@@ -15,12 +15,6 @@ up-pass-requires c κs =
     let down = c .before .before .before .before .before .before in
     passes-meet (start down .pre) (down .down-pass .ensures)
 
-same-length : tie.Need-same-length
-same-length c = search needs
-
-same-length-2 : tie.Need-same-length-2
-same-length-2 c = search needs
-
 returns : tie.Need-returns
 returns c =
     let up = c .before .before .before .before in
@@ -28,4 +22,4 @@ returns c =
     slot-choices (start down .pre) (down .down-pass .ensures) (up .up-pass .ensures)
 
 pub one-slot-spec : {M : Type 1} → statement M
-one-slot-spec = tie.close (tie.spec down-pass-requires up-pass-requires same-length same-length-2 returns)
+one-slot-spec = tie.close (tie.spec down-pass-requires up-pass-requires (λ c. search needs) (λ c. search needs) returns)

@@ -22,15 +22,6 @@ way-back-requires c κs =
 fill-requires : tie.Need-fill-requires
 fill-requires c κs = search needs
 
-same-length : tie.Need-same-length
-same-length c = search needs
-
-same-length-2 : tie.Need-same-length-2
-same-length-2 c = search needs
-
-same-length-3 : tie.Need-same-length-3
-same-length-3 c = search needs
-
 returns : tie.Need-returns
 returns c =
     let back = c .before .before .before .before .before .before in
@@ -42,4 +33,5 @@ returns c =
 
 pub search-spec : {M : Type 1} → statement M
 search-spec =
-    tie.close (tie.spec all-slots-requires slice-read-cost way-back-requires fill-requires same-length same-length-2 same-length-3 returns)
+    tie.close (tie.spec all-slots-requires slice-read-cost way-back-requires fill-requires (λ c. search needs) (λ c. search needs)
+    (λ c. search needs) returns)

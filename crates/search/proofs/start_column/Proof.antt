@@ -18,26 +18,11 @@ abbrev μ-loop : tie.MeasureT-loop
 loop-holds : tie.Need-loop-holds Inv-loop μ-loop
 loop-holds c = upto-none _ _
 
-mul-column : tie.Need-mul-column Inv-loop μ-loop
-mul-column c = omega arith
-
-shared-slice-read-column : tie.Need-shared-slice-read-column Inv-loop μ-loop
-shared-slice-read-column c = omega arith
-
 mul-column-2 : tie.Need-mul-column-2 Inv-loop μ-loop
 mul-column-2 c =
     let loop = c .before .before in
     let p = loop .before .pre in
     record { fits = omega (arith, price-small p _ (p .counts-range .each (loop .loop .j))) }
-
-mul-column-3 : tie.Need-mul-column-3 Inv-loop μ-loop
-mul-column-3 c = omega arith
-
-slice-write-column : tie.Need-slice-write-column Inv-loop μ-loop
-slice-write-column c = omega arith
-
-add-j : tie.Need-add-j Inv-loop μ-loop
-add-j c = omega arith
 
 loop-less : tie.Need-loop-less Inv-loop μ-loop
 loop-less c = omega arith
@@ -54,5 +39,5 @@ returns c = rw (← (c .before .before .pre .column-size)) (upto-all (c .before 
 
 pub start-column-spec : {M : Type 1} → statement M
 start-column-spec =
-    tie.close (tie.spec Inv-loop μ-loop loop-holds mul-column shared-slice-read-column mul-column-2 mul-column-3 slice-write-column add-j
-    loop-less loop-again same-length returns)
+    tie.close (tie.spec Inv-loop μ-loop loop-holds (λ c. omega arith) (λ c. omega arith) mul-column-2 (λ c. omega arith) (λ c. omega arith)
+    (λ c. omega arith) loop-less loop-again same-length returns)

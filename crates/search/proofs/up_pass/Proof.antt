@@ -16,32 +16,8 @@ abbrev μ-loop : tie.MeasureT-loop
 abbrev start : tie.At-loop Inv-loop μ-loop → tie.Start Inv-loop μ-loop
 start c = c .before .before .before .before .before .before
 
-slice-read-t11 : tie.Need-slice-read-t11 Inv-loop μ-loop
-slice-read-t11 c = omega arith
-
-slice-read-t13 : tie.Need-slice-read-t13 Inv-loop μ-loop
-slice-read-t13 c = omega arith
-
 loop-holds : tie.Need-loop-holds Inv-loop μ-loop
 loop-holds c = up-starts (c .before .before .before .before .before .pre)
-
-add-loop : tie.Need-add-loop Inv-loop μ-loop
-add-loop c = omega arith
-
-add-next : tie.Need-add-next Inv-loop μ-loop
-add-next c = omega arith
-
-mul-t14 : tie.Need-mul-t14 Inv-loop μ-loop
-mul-t14 c = omega arith
-
-shared-slice-read-t18 : tie.Need-shared-slice-read-t18 Inv-loop μ-loop
-shared-slice-read-t18 c = omega arith
-
-mul-t15 : tie.Need-mul-t15 Inv-loop μ-loop
-mul-t15 c = omega arith
-
-shared-slice-read-t20 : tie.Need-shared-slice-read-t20 Inv-loop μ-loop
-shared-slice-read-t20 c = omega arith
 
 sub-t21 : tie.Need-sub-t21 Inv-loop μ-loop
 sub-t21 c = let test = c .before .before in start (test .before) .pre .rises _ (test .loop-test .taken)
@@ -57,26 +33,8 @@ add-t23 c =
     let p = start loop .pre in
     record { fits = omega (arith, rise-small p (loop .loop .inv), best-small p (loop .loop .inv)) }
 
-mul-t14-2 : tie.Need-mul-t14-2 Inv-loop μ-loop
-mul-t14-2 c = omega arith
-
-slice-read-t23 : tie.Need-slice-read-t23 Inv-loop μ-loop
-slice-read-t23 c = omega arith
-
-slice-read-t26 : tie.Need-slice-read-t26 Inv-loop μ-loop
-slice-read-t26 c = omega arith
-
 cheaper-of-requires : tie.Need-cheaper-of-requires Inv-loop μ-loop
 cheaper-of-requires c κs = tt
-
-mul-column : tie.Need-mul-column Inv-loop μ-loop
-mul-column c = omega arith
-
-slice-write-column : tie.Need-slice-write-column Inv-loop μ-loop
-slice-write-column c = omega arith
-
-slice-write-places : tie.Need-slice-write-places Inv-loop μ-loop
-slice-write-places c = omega arith
 
 loop-less : tie.Need-loop-less Inv-loop μ-loop
 loop-less c = omega arith
@@ -97,6 +55,7 @@ returns c = up-ends (start (c .before) .pre) (c .before .loop .inv) (c .loop-tes
 
 pub up-pass-spec : {M : Type 1} → statement M
 up-pass-spec =
-    tie.close (tie.spec Inv-loop μ-loop slice-read-t11 slice-read-t13 loop-holds add-loop add-next mul-t14 shared-slice-read-t18 mul-t15
-    shared-slice-read-t20 sub-t21 mul-t22 add-t23 mul-t14-2 slice-read-t23 slice-read-t26 cheaper-of-requires mul-column slice-write-column
-    slice-write-places loop-less loop-again same-length same-length-2 returns)
+    tie.close (tie.spec Inv-loop μ-loop (λ c. omega arith) (λ c. omega arith) loop-holds (λ c. omega arith) (λ c. omega arith)
+    (λ c. omega arith) (λ c. omega arith) (λ c. omega arith) (λ c. omega arith) sub-t21 mul-t22 add-t23 (λ c. omega arith)
+    (λ c. omega arith) (λ c. omega arith) cheaper-of-requires (λ c. omega arith) (λ c. omega arith) (λ c. omega arith) loop-less loop-again
+    same-length same-length-2 returns)

@@ -26,9 +26,6 @@ place-inside c =
 loop-holds : tie.Need-loop-holds Inv-loop μ-loop
 loop-holds c = back-starts (c .before .before .before .pre)
 
-sub-t : tie.Need-sub-t Inv-loop μ-loop
-sub-t c = omega arith
-
 mul-at : tie.Need-mul-at Inv-loop μ-loop
 mul-at c =
     let p = start (c .before) .pre in
@@ -59,9 +56,6 @@ cast-plan c =
     let loop = c .before .before .before .before in
     omega (arith, start loop .pre .counts-range .each (c .before .wide .result))
 
-slice-write-plan : tie.Need-slice-write-plan Inv-loop μ-loop
-slice-write-plan c = omega arith
-
 loop-less : tie.Need-loop-less Inv-loop μ-loop
 loop-less c = omega arith
 
@@ -78,5 +72,5 @@ returns c = back-ends (start (c .before) .pre) (c .before .loop .inv) (c .loop-t
 
 pub way-back-spec : {M : Type 1} → statement M
 way-back-spec =
-    tie.close (tie.spec Inv-loop μ-loop loop-holds sub-t mul-at add-at shared-slice-read-wide wide-requires mul-plan shared-slice-read-plan
-    cast-plan slice-write-plan loop-less loop-again same-length returns)
+    tie.close (tie.spec Inv-loop μ-loop loop-holds (λ c. omega arith) mul-at add-at shared-slice-read-wide wide-requires mul-plan
+    shared-slice-read-plan cast-plan (λ c. omega arith) loop-less loop-again same-length returns)

@@ -18,17 +18,8 @@ step c = let s = c .before .before in step-within (s .args .n) (s .args .l) (c .
 fill-requires : tie.Need-fill-requires
 fill-requires c κs = search needs
 
-same-length : tie.Need-same-length
-same-length c = search needs
-
 returns : tie.Need-returns
 returns c = search row-off
-
-rem-rest : tie.Need-rem-rest
-rem-rest c = search needs
-
-div-step : tie.Need-div-step
-div-step c = search needs
 
 cast-step : tie.Need-cast-step
 cast-step c = record { fits = omega (arith, step c) }
@@ -51,32 +42,17 @@ sub-fill c = omega (arith, rest (c .before .before .before .before))
 part-fill-start : tie.Need-part-fill-start
 part-fill-start c = omega (arith, rest (c .before .before .before .before))
 
-part-fill-end : tie.Need-part-fill-end
-part-fill-end c = search needs
-
 fill-requires-3 : tie.Need-fill-requires-3
 fill-requires-3 c κs = search needs
 
-sub-fill-2 : tie.Need-sub-fill-2
-sub-fill-2 c = search needs
-
-part-fill-start-2 : tie.Need-part-fill-start-2
-part-fill-start-2 c = search needs
-
-part-fill-end-2 : tie.Need-part-fill-end-2
-part-fill-end-2 c = search needs
-
 fill-requires-4 : tie.Need-fill-requires-4
 fill-requires-4 c κs = search needs
-
-same-length-2 : tie.Need-same-length-2
-same-length-2 c = search needs
 
 returns-2 : tie.Need-returns-2
 returns-2 c = search row-filled
 
 pub fill-slot-spec : {M : Type 1} → statement M
 fill-slot-spec =
-    tie.close (tie.spec fill-requires same-length returns rem-rest div-step cast-step add-next slice-relend-prefix-fill slice-aggregate-fill
-    fill-requires-2 sub-fill part-fill-start part-fill-end fill-requires-3 sub-fill-2 part-fill-start-2 part-fill-end-2 fill-requires-4
-    same-length-2 returns-2)
+    tie.close (tie.spec fill-requires (λ c. search needs) returns (λ c. search needs) (λ c. search needs) cast-step add-next
+    slice-relend-prefix-fill slice-aggregate-fill fill-requires-2 sub-fill part-fill-start (λ c. search needs) fill-requires-3
+    (λ c. search needs) (λ c. search needs) (λ c. search needs) fill-requires-4 (λ c. search needs) returns-2)

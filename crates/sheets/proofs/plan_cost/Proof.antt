@@ -22,9 +22,6 @@ loop-holds : tie.Need-loop-holds Inv-loop μ-loop
 unfolding countAt
 loop-holds c = (summed-none _ _, refl)
 
-shared-slice-read-wide : tie.Need-shared-slice-read-wide Inv-loop μ-loop
-shared-slice-read-wide c = omega arith
-
 wide-requires : tie.Need-wide-requires Inv-loop μ-loop
 wide-requires c κs = search needs
 
@@ -41,9 +38,6 @@ add-cost c =
     let room = summed-room {y = c .slot-cost .result} (loop .loop .inv .0) (search in-slots) (search slot-is) (slot-at-most given) in
     record { fits = omega (arith, room, slots-range _ (given .sized .ready .accepted)) }
 
-add-t : tie.Need-add-t Inv-loop μ-loop
-add-t c = omega arith
-
 loop-less : tie.Need-loop-less Inv-loop μ-loop
 loop-less c = omega arith
 
@@ -57,5 +51,5 @@ returns c = summed-all (c .before .loop .inv .0) (search no-more-slots)
 
 pub plan-cost-spec : {M : Type 1} → statement M
 plan-cost-spec =
-    tie.close (tie.spec Inv-loop μ-loop loop-holds shared-slice-read-wide wide-requires load-requires slot-cost-requires add-cost add-t
-    loop-less loop-again returns)
+    tie.close (tie.spec Inv-loop μ-loop loop-holds (λ c. omega arith) wide-requires load-requires slot-cost-requires add-cost
+    (λ c. omega arith) loop-less loop-again returns)

@@ -19,18 +19,12 @@ abbrev μ-loop : tie.MeasureT-loop
 loop-holds : tie.Need-loop-holds Inv-loop μ-loop
 loop-holds c = passed-none _ _
 
-shared-slice-read-wide : tie.Need-shared-slice-read-wide Inv-loop μ-loop
-shared-slice-read-wide c = omega arith
-
 wide-requires : tie.Need-wide-requires Inv-loop μ-loop
 wide-requires c κs = search needs
 
 returns : tie.Need-returns Inv-loop μ-loop
 unfolding entriesInRange
 returns c = passed-not (c .before .before .before .before .loop .inv) (search in-slots) (search rack-failed)
-
-add-t : tie.Need-add-t Inv-loop μ-loop
-add-t c = omega arith
 
 loop-less : tie.Need-loop-less Inv-loop μ-loop
 loop-less c = omega arith
@@ -44,4 +38,5 @@ returns-2 c = passed-all (c .before .loop .inv) (search no-more-slots)
 
 pub plan-in-rack-spec : {M : Type 1} → statement M
 plan-in-rack-spec =
-    tie.close (tie.spec Inv-loop μ-loop loop-holds shared-slice-read-wide wide-requires returns add-t loop-less loop-again returns-2)
+    tie.close (tie.spec Inv-loop μ-loop loop-holds (λ c. omega arith) wide-requires returns (λ c. omega arith) loop-less loop-again
+    returns-2)

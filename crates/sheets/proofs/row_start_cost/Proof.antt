@@ -17,9 +17,6 @@ abbrev μ-loop : tie.MeasureT-loop
 loop-holds : tie.Need-loop-holds Inv-loop μ-loop
 loop-holds c = summed-none _ _
 
-shared-slice-read-byte-cost : tie.Need-shared-slice-read-byte-cost Inv-loop μ-loop
-shared-slice-read-byte-cost c = omega arith
-
 byte-cost-requires : tie.Need-byte-cost-requires Inv-loop μ-loop
 byte-cost-requires c κs = search byte-ready
 
@@ -29,9 +26,6 @@ add-cost c =
     let each = bytes-each (test .before .before .before .before .pre) allOff in
     let room = summed-room (test .before .loop .inv) (test .loop-test .taken) (c .byte-cost .ensures) each in
     record { fits = omega (arith, room) }
-
-add-k : tie.Need-add-k Inv-loop μ-loop
-add-k c = omega arith
 
 loop-less : tie.Need-loop-less Inv-loop μ-loop
 loop-less c = omega arith
@@ -45,5 +39,5 @@ returns c = search summed-all
 
 pub row-start-cost-spec : {M : Type 1} → statement M
 row-start-cost-spec =
-    tie.close (tie.spec Inv-loop μ-loop loop-holds shared-slice-read-byte-cost byte-cost-requires add-cost add-k loop-less loop-again
+    tie.close (tie.spec Inv-loop μ-loop loop-holds (λ c. omega arith) byte-cost-requires add-cost (λ c. omega arith) loop-less loop-again
     returns)

@@ -17,9 +17,6 @@ abbrev μ-loop : tie.MeasureT-loop
 loop-holds : tie.Need-loop-holds Inv-loop μ-loop
 loop-holds c = summed-none _ _
 
-shared-slice-read-stop-cost : tie.Need-shared-slice-read-stop-cost Inv-loop μ-loop
-shared-slice-read-stop-cost c = omega arith
-
 stop-cost-requires : tie.Need-stop-cost-requires Inv-loop μ-loop
 stop-cost-requires c κs = search needs
 
@@ -30,9 +27,6 @@ add-cost c =
     let each = stop-each (start .args .row .now) (start .pre .priced) in
     let room = summed-room (test .before .loop .inv) (test .loop-test .taken) (c .stop-cost .ensures) each in
     record { fits = omega (arith, room) }
-
-add-k : tie.Need-add-k Inv-loop μ-loop
-add-k c = omega arith
 
 loop-less : tie.Need-loop-less Inv-loop μ-loop
 loop-less c = omega arith
@@ -46,5 +40,5 @@ returns c = search summed-all
 
 pub row-stop-cost-spec : {M : Type 1} → statement M
 row-stop-cost-spec =
-    tie.close (tie.spec Inv-loop μ-loop loop-holds shared-slice-read-stop-cost stop-cost-requires add-cost add-k loop-less loop-again
+    tie.close (tie.spec Inv-loop μ-loop loop-holds (λ c. omega arith) stop-cost-requires add-cost (λ c. omega arith) loop-less loop-again
     returns)

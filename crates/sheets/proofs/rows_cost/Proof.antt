@@ -18,12 +18,6 @@ abbrev μ-loop : tie.MeasureT-loop
 loop-holds : tie.Need-loop-holds Inv-loop μ-loop
 loop-holds c = summed-none _ _
 
-shared-slice-read-byte-cost : tie.Need-shared-slice-read-byte-cost Inv-loop μ-loop
-shared-slice-read-byte-cost c = omega arith
-
-shared-slice-read-byte-cost-2 : tie.Need-shared-slice-read-byte-cost-2 Inv-loop μ-loop
-shared-slice-read-byte-cost-2 c = omega arith
-
 byte-cost-requires : tie.Need-byte-cost-requires Inv-loop μ-loop
 byte-cost-requires c κs = search byte-ready
 
@@ -34,9 +28,6 @@ add-cost c =
     let each = bytes-each (start .pre .0) (byteAt (start .args .earlier .now)) in
     let room = summed-room (test .before .loop .inv) (test .loop-test .taken) (c .byte-cost .ensures) each in
     record { fits = omega (arith, room) }
-
-add-x : tie.Need-add-x Inv-loop μ-loop
-add-x c = omega arith
 
 loop-less : tie.Need-loop-less Inv-loop μ-loop
 loop-less c = omega arith
@@ -50,5 +41,5 @@ returns c = search summed-all
 
 pub rows-cost-spec : {M : Type 1} → statement M
 rows-cost-spec =
-    tie.close (tie.spec Inv-loop μ-loop loop-holds shared-slice-read-byte-cost shared-slice-read-byte-cost-2 byte-cost-requires add-cost
-    add-x loop-less loop-again returns)
+    tie.close (tie.spec Inv-loop μ-loop loop-holds (λ c. omega arith) (λ c. omega arith) byte-cost-requires add-cost (λ c. omega arith)
+    loop-less loop-again returns)

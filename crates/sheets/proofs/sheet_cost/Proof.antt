@@ -10,9 +10,6 @@ use Rattle.sheets.proofs.sheet_cost.Tie as tie
 returns : tie.Need-returns
 returns c = search sheet-empty
 
-sub-last : tie.Need-sub-last
-sub-last c = search needs
-
 mul-last : tie.Need-mul-last
 mul-last c = search earlier-fits
 
@@ -31,9 +28,6 @@ sub-rows-cost c = search first-inside
 part-rows-cost-start : tie.Need-part-rows-cost-start
 part-rows-cost-start c = search first-inside
 
-part-rows-cost-end : tie.Need-part-rows-cost-end
-part-rows-cost-end c = search needs
-
 rows-cost-requires : tie.Need-rows-cost-requires
 rows-cost-requires c κs = (search later-ready, search rows-paired)
 
@@ -42,9 +36,6 @@ sub-row-stop-cost c = search earlier-inside
 
 part-row-stop-cost-start : tie.Need-part-row-stop-cost-start
 part-row-stop-cost-start c = search earlier-inside
-
-part-row-stop-cost-end : tie.Need-part-row-stop-cost-end
-part-row-stop-cost-end c = search needs
 
 row-stop-cost-requires : tie.Need-row-stop-cost-requires
 row-stop-cost-requires c κs = search last-priced
@@ -64,6 +55,6 @@ returns-2 c = search sheet-whole
 
 pub sheet-cost-spec : {M : Type 1} → statement M
 sheet-cost-spec =
-    tie.close (tie.spec returns sub-last mul-last slice-aggregate-row-start-cost row-start-cost-requires slice-aggregate-rows-cost
-    sub-rows-cost part-rows-cost-start part-rows-cost-end rows-cost-requires sub-row-stop-cost part-row-stop-cost-start
-    part-row-stop-cost-end row-stop-cost-requires add-result add-result-2 returns-2)
+    tie.close (tie.spec returns (λ c. search needs) mul-last slice-aggregate-row-start-cost row-start-cost-requires
+    slice-aggregate-rows-cost sub-rows-cost part-rows-cost-start (λ c. search needs) rows-cost-requires sub-row-stop-cost
+    part-row-stop-cost-start (λ c. search needs) row-stop-cost-requires add-result add-result-2 returns-2)

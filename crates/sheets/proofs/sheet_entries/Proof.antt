@@ -19,9 +19,6 @@ abbrev μ-loop : tie.MeasureT-loop
 loop-holds : tie.Need-loop-holds Inv-loop μ-loop
 loop-holds c = passed-none _ _
 
-shared-slice-read-is-entry : tie.Need-shared-slice-read-is-entry Inv-loop μ-loop
-shared-slice-read-is-entry c = omega arith
-
 is-entry-requires : tie.Need-is-entry-requires Inv-loop μ-loop
 is-entry-requires c κs = search needs
 
@@ -29,9 +26,6 @@ returns : tie.Need-returns Inv-loop μ-loop
 unfolding sheetEntries
 returns c =
     passed-not (c .before .before .before .before .loop .inv) (c .before .before .before .loop-test .taken) (search entry-failed)
-
-add-x : tie.Need-add-x Inv-loop μ-loop
-add-x c = omega arith
 
 loop-less : tie.Need-loop-less Inv-loop μ-loop
 loop-less c = omega arith
@@ -46,5 +40,5 @@ returns-2 c = search passed-all
 
 pub sheet-entries-spec : {M : Type 1} → statement M
 sheet-entries-spec =
-    tie.close (tie.spec Inv-loop μ-loop loop-holds shared-slice-read-is-entry is-entry-requires returns add-x loop-less loop-again
+    tie.close (tie.spec Inv-loop μ-loop loop-holds (λ c. omega arith) is-entry-requires returns (λ c. omega arith) loop-less loop-again
     returns-2)

@@ -36,12 +36,6 @@ add-end c =
     let ready = start (c .before) .pre .ready in
     record { fits = omega (arith, row-small ready (in-header ready (c .loop-test .taken))) }
 
-sub-slot-light : tie.Need-sub-slot-light Inv-loop μ-loop
-sub-slot-light c = omega arith
-
-part-slot-light-start : tie.Need-part-slot-light-start Inv-loop μ-loop
-part-slot-light-start c = omega arith
-
 part-slot-light-end : tie.Need-part-slot-light-end Inv-loop μ-loop
 part-slot-light-end c = row-there (start (c .before) .pre .ready) (search in-header) (omega arith)
 
@@ -59,9 +53,6 @@ returns c =
     let differ : c .before .before .slot-light .result ≡ c .before .load .result → ⊥ = λ e. omega arith in
     passed-not (c .before .before .before .before .before .loop .inv) (search in-header) (search light-failed)
 
-add-t : tie.Need-add-t Inv-loop μ-loop
-add-t c = omega arith
-
 loop-less : tie.Need-loop-less Inv-loop μ-loop
 loop-less c = omega arith
 
@@ -74,5 +65,5 @@ returns-2 c = passed-all (c .before .loop .inv) (search past-header)
 
 pub sheet-light-spec : {M : Type 1} → statement M
 sheet-light-spec =
-    tie.close (tie.spec Inv-loop μ-loop loop-holds mul-start add-end sub-slot-light part-slot-light-start part-slot-light-end
-    slot-light-requires load-requires returns add-t loop-less loop-again returns-2)
+    tie.close (tie.spec Inv-loop μ-loop loop-holds mul-start add-end (λ c. omega arith) (λ c. omega arith) part-slot-light-end
+    slot-light-requires load-requires returns (λ c. omega arith) loop-less loop-again returns-2)

@@ -17,9 +17,6 @@ add-price c =
     let accepted = c .before .before .before .before .pre .ready .accepted in
     record { fits = omega (arith, up-range _ accepted, down-range _ accepted) }
 
-sub-result : tie.Need-sub-result
-sub-result c = search needs
-
 mul-result : tie.Need-mul-result
 mul-result c =
     let start = c .before .before .before .before in
@@ -34,4 +31,4 @@ returns-2 : tie.Need-returns-2
 returns-2 c = search slot-raised
 
 pub slot-cost-spec : {M : Type 1} → statement M
-slot-cost-spec = tie.close (tie.spec operating-cost-requires returns add-price sub-result mul-result add-result returns-2)
+slot-cost-spec = tie.close (tie.spec operating-cost-requires returns add-price (λ c. search needs) mul-result add-result returns-2)

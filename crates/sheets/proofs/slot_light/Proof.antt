@@ -18,9 +18,6 @@ abbrev μ-loop : tie.MeasureT-loop
 loop-holds : tie.Need-loop-holds Inv-loop μ-loop
 loop-holds c = summed-none _ _
 
-shared-slice-read-step-of : tie.Need-shared-slice-read-step-of Inv-loop μ-loop
-shared-slice-read-step-of c = omega arith
-
 step-of-requires : tie.Need-step-of-requires Inv-loop μ-loop
 step-of-requires c κs = search needs
 
@@ -31,9 +28,6 @@ add-light c =
     let each = step-each (start .args .row .now) (c .before .shared-slice-known2 .given) in
     let room = summed-room (test .before .loop .inv) (test .loop-test .taken) (c .step-of .ensures) each in
     record { fits = omega (arith, room) }
-
-add-k : tie.Need-add-k Inv-loop μ-loop
-add-k c = omega arith
 
 loop-less : tie.Need-loop-less Inv-loop μ-loop
 loop-less c = omega arith
@@ -53,5 +47,5 @@ returns c = search summed-all
 
 pub slot-light-spec : {M : Type 1} → statement M
 slot-light-spec =
-    tie.close (tie.spec Inv-loop μ-loop loop-holds shared-slice-read-step-of step-of-requires add-light add-k loop-less loop-again
+    tie.close (tie.spec Inv-loop μ-loop loop-holds (λ c. omega arith) step-of-requires add-light (λ c. omega arith) loop-less loop-again
     cast-result returns)

@@ -21,9 +21,6 @@ start c = c .before .before .before .before
 loop-holds : tie.Need-loop-holds Inv-loop μ-loop
 loop-holds c = filled-none _ _ _
 
-shared-slice-read-wide : tie.Need-shared-slice-read-wide Inv-loop μ-loop
-shared-slice-read-wide c = omega arith
-
 wide-requires : tie.Need-wide-requires Inv-loop μ-loop
 wide-requires c κs = search needs
 
@@ -42,12 +39,6 @@ add-end c =
     let sized = start (test .before) .pre .plan .sized in
     record { fits = omega (arith, row-small (sized .ready) (in-slots sized (test .loop-test .taken))) }
 
-sub-fill-slot : tie.Need-sub-fill-slot Inv-loop μ-loop
-sub-fill-slot c = omega arith
-
-part-fill-slot-start : tie.Need-part-fill-slot-start Inv-loop μ-loop
-part-fill-slot-start c = omega arith
-
 part-fill-slot-end : tie.Need-part-fill-slot-end Inv-loop μ-loop
 part-fill-slot-end c =
     let loop = c .before .before .before .before in
@@ -61,9 +52,6 @@ fill-slot-requires c κs =
     let below = in-slots (given .plan .sized) (test .loop-test .taken) in
     let inside = row-there (given .plan .sized .ready) below (filled-room (test .before .loop .inv) (given .room)) in
     search row-fits
-
-add-t : tie.Need-add-t Inv-loop μ-loop
-add-t c = omega arith
 
 loop-less : tie.Need-loop-less Inv-loop μ-loop
 loop-less c = omega arith
@@ -82,5 +70,5 @@ returns c = filled-all (c .before .loop .inv) (start (c .before) .pre .room) (se
 
 pub write-sheet-spec : {M : Type 1} → statement M
 write-sheet-spec =
-    tie.close (tie.spec Inv-loop μ-loop loop-holds shared-slice-read-wide wide-requires load-requires mul-start add-end sub-fill-slot
-    part-fill-slot-start part-fill-slot-end fill-slot-requires add-t loop-less loop-again same-length returns)
+    tie.close (tie.spec Inv-loop μ-loop loop-holds (λ c. omega arith) wide-requires load-requires mul-start add-end (λ c. omega arith)
+    (λ c. omega arith) part-fill-slot-end fill-slot-requires (λ c. omega arith) loop-less loop-again same-length returns)

@@ -9,14 +9,8 @@ two-requires c κs = search needs
 two-requires-2 : tie.Need-two-requires-2
 two-requires-2 c κs = search needs
 
-mul-t7 : tie.Need-mul-t7
-mul-t7 c = search needs
-
-add-t8 : tie.Need-add-t8
-add-t8 c = search needs
-
 returns : tie.Need-returns
 returns c = read-join 2 (c .before .before .before .before .before .two .ensures) (c .before .before .before .two2 .ensures)
 
 pub four-spec : {M : Type 1} → statement M
-four-spec = tie.close (tie.spec two-requires two-requires-2 mul-t7 add-t8 returns)
+four-spec = tie.close (tie.spec two-requires two-requires-2 (λ c. search needs) (λ c. search needs) returns)

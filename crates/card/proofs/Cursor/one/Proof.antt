@@ -4,14 +4,8 @@ use native.Mathlib.Omega.{arith}
 use Rattle.card.proofs.Cursor.one.Statement.{statement}
 use Rattle.card.proofs.Cursor.one.Tie as tie
 
-shared-slice-read-wide : tie.Need-shared-slice-read-wide
-shared-slice-read-wide c = search needs
-
 wide-requires : tie.Need-wide-requires
 wide-requires c κs = search needs
-
-add-t7 : tie.Need-add-t7
-add-t7 c = search needs
 
 returns : tie.Need-returns
 returns c =
@@ -19,4 +13,4 @@ returns c =
     read-one _ _ _ (c .wide .ensures) (omega (arith, c .before .before .shared-slice-known .given at))
 
 pub one-spec : {M : Type 1} → statement M
-one-spec = tie.close (tie.spec shared-slice-read-wide wide-requires add-t7 returns)
+one-spec = tie.close (tie.spec (λ c. search needs) wide-requires (λ c. search needs) returns)

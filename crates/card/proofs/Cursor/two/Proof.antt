@@ -9,14 +9,8 @@ one-requires c κs = search needs
 one-requires-2 : tie.Need-one-requires-2
 one-requires-2 c κs = search needs
 
-mul-t7 : tie.Need-mul-t7
-mul-t7 c = search needs
-
-add-t8 : tie.Need-add-t8
-add-t8 c = search needs
-
 returns : tie.Need-returns
 returns c = read-join 1 (c .before .before .before .before .before .one .ensures) (c .before .before .before .one2 .ensures)
 
 pub two-spec : {M : Type 1} → statement M
-two-spec = tie.close (tie.spec one-requires one-requires-2 mul-t7 add-t8 returns)
+two-spec = tie.close (tie.spec one-requires one-requires-2 (λ c. search needs) (λ c. search needs) returns)
