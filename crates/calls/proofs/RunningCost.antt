@@ -23,9 +23,9 @@ use Rattle.card.proofs.Groups.{refused-answer}
 use Rattle.counts.specs.Serving.{Served}
 
 module _ (s : List ℕ) (n l : ℕ) where
-  pub running-refused : {c : Checked} {x : Refusal} → c ≡ checkedOf s → c ≡ Invalid x → Refused x ≡ answer (runningCost s n l)
+  pub pair-refused : {c : Checked} {x : Refusal} → c ≡ checkedOf s → c ≡ Invalid x → Refused x ≡ answer (runningCost s n l)
   unfolding answer requestOf refusals
-  running-refused is e = sym (on-card-refused s _ _ _ _ (refused-answer s is e))
+  pair-refused is e = sym (on-card-refused s _ _ _ _ (refused-answer s is e))
 
   module _ {h : Header} (r : Ready s h) where
     tests :
@@ -34,9 +34,9 @@ module _ (s : List ℕ) (n l : ℕ) where
     unfolding answer requestOf refusals successCost
     tests = on-card-passed s _ _ _ _ (r .accepted)
 
-    pub running-entry : h .modules < n → Refused EntryRange ≡ answer (runningCost s n l)
+    pub pair-entry : h .modules < n → Refused EntryRange ≡ answer (runningCost s n l)
     unfolding lowest applies entriesInRange
-    running-entry many = sym (tests ∙ rw (lt-leb n (instanceOf s .modules) (omega (arith, r .header .modules-is))))
+    pair-entry many = sym (tests ∙ rw (lt-leb n (instanceOf s .modules) (omega (arith, r .header .modules-is))))
 
     module _ (few : n ≤ h .modules) where
       -- The most light of n modules is a small number.
@@ -58,12 +58,12 @@ module _ (s : List ℕ) (n l : ℕ) where
       in-rack : n ≤ instanceOf s .modules
       in-rack = omega (arith, r .header .modules-is)
 
-      pub running-load : n * h .topStep < l → Refused LoadNotServed ≡ answer (runningCost s n l)
+      pub pair-load : n * h .topStep < l → Refused LoadNotServed ≡ answer (runningCost s n l)
       unfolding lowest applies entriesInRange loadsServed canServe
-      running-load less =
+      pair-load less =
           sym (tests ∙ rw (le-leb _ _ in-rack, lt-leb l (n * instanceOf s .topStep) (rw (← r .header .top-is) less)))
 
-      pub running-cost : l ≤ n * h .topStep → {x : ℕ} → x ≡ operatingCost (instanceOf s) n l → Cost x ≡ answer (runningCost s n l)
+      pub pair-cost : l ≤ n * h .topStep → {x : ℕ} → x ≡ operatingCost (instanceOf s) n l → Cost x ≡ answer (runningCost s n l)
       unfolding lowest applies entriesInRange loadsServed canServe
-      running-cost enough e =
+      pair-cost enough e =
           ap Cost e ∙ sym (tests ∙ rw (le-leb _ _ in-rack, le-leb l (n * instanceOf s .topStep) (served enough .serves)))

@@ -110,11 +110,11 @@ pub fn make_sheet_on(card: &[u8], h: Header, plan: &[u8], sheet: &mut [u8]) -> A
     ensures { λ r. ⌜ r ≡ answer (makeSheet (now (card .entry)) (now (plan .entry)) (now (sheet .entry))) ⌝ }
     ensures { λ r. ⌜ now (sheet .exit) ≡ sheetAtExit (makeSheet (now (card .entry)) (now (plan .entry)) (now (sheet .entry))) ⌝ }
 {
-    let found = check_plan(card, h, plan, &sheet[..]);
-    if let Answer::Cost(_) = found {
+    let answer = check_plan(card, h, plan, &sheet[..]);
+    if let Answer::Cost(_) = answer {
         sheets::write_sheet(card, h, plan, sheet);
     }
-    found
+    answer
 }
 
 // The sheet of a handed-in plan: refusals 1 to 8, 10 to 13.

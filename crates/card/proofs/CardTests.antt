@@ -11,7 +11,8 @@ use Rattle.lists.specs.Tests.{allOf, or-left}
 use Rattle.model.specs.declared.Refusal.the-variants.{NotACard, Version, RackSize, SlotCount, CardLength, PriceRange, NotConvex, LoadRange}
 use Rattle.model.specs.declared.Answer.{Answer}
 use Rattle.model.specs.declared.Answer.the-variants.{Cost, Refused}
-use Rattle.model.specs.Instance.{instanceOf, headLength, loadPlace, markOf, cardMark, versionOf, cardLength, rackNumber, convex, tableInRange, pricesInRange, loadsInRange}
+use Rattle.model.specs.Instance.{instanceOf, headLength, loadPlace, markOf, cardMark, versionOf, cardLength, rackNumber}
+use Rattle.model.specs.Instance.{convex, tableInRange, pricesInRange, loadsInRange}
 use Rattle.model.specs.Calls.{Call, checkCard, applies, requestOf, lowest}
 use Rattle.laws.specs.Lowest.{lowest-passed}
 use Rattle.card.specs.declared.Header.{Header}
@@ -97,7 +98,8 @@ module _ (s : List ℕ) where
         record { header = given; size = eqb-true _ _ (not-false _ (sym (size-applies refl) ∙ size)) }
 
     price-applies :
-        {a b d : Bool} → leb (h .powerUp) 500000000 ≡ a → leb (h .powerDown) 500000000 ≡ b → tableInRange (h .topStep) (instanceOf s .table) ≡ d →
+        {a b d : Bool} → leb (h .powerUp) 500000000 ≡ a → leb (h .powerDown) 500000000 ≡ b →
+        tableInRange (h .topStep) (instanceOf s .table) ≡ d →
         applies (requestOf req) PriceRange ≡ not (a && (b && d))
     unfolding applies requestOf pricesInRange
     price-applies e f g = rw (← given .up-is, ← given .down-is, ← given .top-is, e, f, g)

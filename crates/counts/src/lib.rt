@@ -116,7 +116,8 @@ pub fn rounded(count: u64, modules: u64) -> u64
     first_not_below(&counts[..n], count)
 }
 
-// The operating cost of a count (01: 'running cost'): (n - r)F(q) + rF(q + 1) with q = l / n and r = l % n; F(q + 1) is read only if r is not 0.
+// The operating cost of a count (01: 'running cost'): (n - r)F(q) + rF(q + 1) with q = l / n and r = l % n; F(q + 1) is read only if r
+// is not 0.
 pub fn operating_cost(card: &[u8], h: Header, n: u64, l: u64) -> u64
     requires { ⌜ Served (now card) h n l ⌝ }
     ensures { λ r. ⌜ r ≡ operatingCost (instanceOf (now (card .entry))) n l ⌝ }

@@ -47,7 +47,8 @@ module _ (s : List ℕ) (given : Accepted s) where
   modules-range = in-range _ (and-left (rackNumber (instanceOf s .modules)) _ rack-numbers)
 
   pub top-range : (1 ≤ instanceOf s .topStep) × (instanceOf s .topStep ≤ 200)
-  top-range = in-range _ (and-left (rackNumber (instanceOf s .topStep)) true (and-right (rackNumber (instanceOf s .modules)) _ rack-numbers))
+  top-range =
+      in-range _ (and-left (rackNumber (instanceOf s .topStep)) true (and-right (rackNumber (instanceOf s .modules)) _ rack-numbers))
 
   pub slots-range : instanceOf s .slots ≤ 1024
   unfolding applies requestOf

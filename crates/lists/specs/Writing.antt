@@ -74,7 +74,8 @@ start-within text old e d = omega (arith, ap length d, length-append text (drop 
 
 -- What was written over the front of a list may be given by an equal text.
 pub start-same :
-    (a b old : List ℕ) {r : ℕ} {new : List ℕ} → a ≡ b → (r ≡ length a) × (new ≡ writtenOver a old) → (r ≡ length b) × (new ≡ writtenOver b old)
+    (a b old : List ℕ) {r : ℕ} {new : List ℕ} → a ≡ b → (r ≡ length a) × (new ≡ writtenOver a old) →
+    (r ≡ length b) × (new ≡ writtenOver b old)
 start-same a b old e w = rw e at w
 
 -- Room for a text is room for one that is no longer.

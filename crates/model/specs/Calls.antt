@@ -148,7 +148,8 @@ applies r LoadNotServed = not (loadsServed (shown r) (r .handed))
 abbrev pub cardRefusals : List Refusal
 cardRefusals = NotACard ∷ Version ∷ RackSize ∷ SlotCount ∷ CardLength ∷ PriceRange ∷ NotConvex ∷ LoadRange ∷ []
 
--- The refusals of each call, ascending: 'Running cost adds 12 and 13; the sheet adds 10 to 13; marking adds 11 to 13; the two planners add 10, the coarse one also 9.'
+-- The refusals of each call, ascending: 'Running cost adds 12 and 13; the sheet adds 10 to 13; marking adds 11 to 13; the two planners
+-- add 10, the coarse one also 9.'
 unfoldable pub refusals : Call → List Refusal
 refusals (checkCard c) = cardRefusals
 refusals (runningCost c n l) = cardRefusals ++ (EntryRange ∷ LoadNotServed ∷ [])
@@ -162,8 +163,8 @@ unfoldable pub lowest : (Refusal → Bool) → List Refusal → Answer → Answe
 lowest test [] success = success
 lowest test (x ∷ xs) success = cond (test x) (Refused x) (lowest test xs success)
 
--- The cost that a success gives: 'the plan's from a planner or the sheet call, the sheet's from marking, the pair's from running cost. The rounded count gives
--- its count in that place; a call without a cost gives 0.'
+-- The cost that a success gives: 'the plan's from a planner or the sheet call, the sheet's from marking, the pair's from running cost.
+-- The rounded count gives its count in that place; a call without a cost gives 0.'
 unfoldable pub successCost : Call → ℕ
 successCost (checkCard c) = 0
 successCost (runningCost c n l) = operatingCost (instanceOf c) n l

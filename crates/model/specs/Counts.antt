@@ -11,8 +11,8 @@ use Rattle.model.specs.Instance.{Instance}
 unfoldable pub canServe : Instance → ℕ → ℕ → Bool
 canServe i n l = leb l (n * i .topStep)
 
--- The operating cost (01: 'Running cost of a count'): (n − r)F(q) + rF(q+1) with q = L div n and r = L mod n; with r = 0 the second term is 0; count 0
--- costs 0. Of a count that cannot serve the load the result means nothing.
+-- The operating cost of a count (01: 'Running cost of a count'): (n − r)F(q) + rF(q+1) with q = L div n and r = L mod n; with r = 0 the
+-- second term is 0; count 0 costs 0. Of a count that cannot serve the load the result means nothing.
 unfoldable pub operatingCost : Instance → ℕ → ℕ → ℕ
 operatingCost i n l =
     cond (eqb n 0) 0

@@ -33,7 +33,8 @@ pub printed-invalid :
 unfolding printed printedFor
 printed-invalid s is e n-is = rw (planner-refused exact s _ _ (refused-answer s is e), n-is)
 
-pub accepted-text : (s : List ℕ) {c : Checked} {h : Header} {out : List ℕ} → c ≡ checkedOf s → c ≡ Valid h → TextArea out → AcceptedText s h out
+pub accepted-text :
+    (s : List ℕ) {c : Checked} {h : Header} {out : List ℕ} → c ≡ checkedOf s → c ≡ Valid h → TextArea out → AcceptedText s h out
 accepted-text s is e room = record { ready = ready s is e; text = room }
 
 -- The planner's answer depends on the lengths of its buffers alone.
@@ -44,7 +45,8 @@ same-lengths s p w q v e d = rw (e, d)
 
 -- The program's areas, and the planner's answer.
 module _
-    (s p w : List ℕ) (plan-size : 1024 ≡ length p) (work-size : 65536 ≡ length w) {a : Answer} (is : a ≡ answer (planShow exact s p w)) where
+    (s p w : List ℕ) (plan-size : 1024 ≡ length p) (work-size : 65536 ≡ length w) {a : Answer}
+    (is : a ≡ answer (planShow exact s p w)) where
   as-printed : printedFor s a ≡ printed s
   unfolding printed
   as-printed =
@@ -61,7 +63,8 @@ module _
     unfolding printedFor
     printed-listing = rw success at as-printed
 
-    pub planned-text : {h : Header} {new out : List ℕ} → AcceptedText s h out → new ≡ planAtExit (planShow exact s p w) → PlannedText s h new out
+    pub planned-text :
+        {h : Header} {new out : List ℕ} → AcceptedText s h out → new ≡ planAtExit (planShow exact s p w) → PlannedText s h new out
     planned-text {h} {new} {out} accepted e =
         let i = instanceOf s in
         let answered = sym is ∙ success in

@@ -9,7 +9,8 @@ ghost use Rattle.counts.specs.Serving.{Served};
 ghost use Rattle.columns.specs.Column.{cheaper, servedAt, servedOrAbove, rising, downward, upward, searchedPlan, searchedCost};
 ghost use Rattle.search.specs.Written.{choiceOf, costIn, choiceIn, Holds};
 ghost use Rattle.search.specs.Written.{priceList, lastColumn, selectionsIn, wayThrough};
-ghost use Rattle.search.specs.SearchRequires.{mostCost, InRack, SlotAfter, Priced, Choices, PricedSlot, SlotsAhead, Leading, Searchable};
+ghost use Rattle.search.specs.SearchRequires.{mostCost, InRack, SlotAfter, Priced, Choices, PricedSlot};
+ghost use Rattle.search.specs.SearchRequires.{SlotsAhead, Leading, Searchable};
 
 // A cost, and the place that it comes from.
 struct Candidate {

@@ -1,5 +1,5 @@
 use Rattle.card.proofs.Groups.{ready}
-use Rattle.calls.proofs.RunningCost.{running-refused}
+use Rattle.calls.proofs.RunningCost.{pair-refused}
 use borrow.Author.Needs.{needs}
 use Rattle.calls.proofs.running_cost.Statement.{statement}
 use Rattle.calls.proofs.running_cost.Tie as tie
@@ -14,7 +14,7 @@ returns : tie.Need-returns
 returns c = search needs
 
 returns-2 : tie.Need-returns-2
-returns-2 c = search running-refused
+returns-2 c = search pair-refused
 
 pub running-cost-spec : {M : Type 1} → statement M
 running-cost-spec = tie.close (tie.spec check-requires (λ c. search needs) running-cost-on-requires (λ c. search needs) returns returns-2)
