@@ -1,4 +1,4 @@
-mod Sizes
+pub mod Sizes
 mod RunningCost
 mod RoundedCount
 mod Marking

@@ -51,12 +51,11 @@ module _ (s : List ℕ) (n l : ℕ) where
                 );
           }
 
-      pub served : l ≤ n * h .topStep → Served s h n l
-      served enough =
-          record { ready = r; in-rack = omega (arith, r .header .modules-is); serves = rw (← r .header .top-is) enough }
-
       in-rack : n ≤ instanceOf s .modules
       in-rack = omega (arith, r .header .modules-is)
+
+      pub served : l ≤ n * h .topStep → Served s h n l
+      served enough = record { ready = r; in-rack = in-rack; serves = rw (← r .header .top-is) enough }
 
       pub pair-load : n * h .topStep < l → Refused LoadNotServed ≡ answer (runningCost s n l)
       unfolding lowest applies entriesInRange loadsServed canServe

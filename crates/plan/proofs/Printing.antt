@@ -4,8 +4,6 @@ use mathlib.Core.Path.{_≡_, sym, _∙_, ap}
 use mathlib.Core.List.{List}
 use native.Mathlib.Omega.{arith}
 use lib.ListN.{length, take, length-take, length-replicate}
-use mir.Syntax.{w64}
-use mir.Val.{Fits}
 use Rattle.model.specs.declared.Refusal.{Refusal}
 use Rattle.model.specs.declared.Answer.{Answer}
 use Rattle.model.specs.declared.Answer.the-variants.{Cost, Refused}
@@ -96,9 +94,6 @@ module _ {s : List ℕ} {h : Header} {plan out : List ℕ} (p : PlannedText s h 
   entries-few : h .modules * h .slots ≤ 65536
   unfolding workBytes
   entries-few = rw (m, t) (omega (arith, p .work))
-
-  pub entries-fit : Fits w64 (h .modules * h .slots)
-  entries-fit = record { fits = omega (arith, entries-few) }
 
   pub entries-within : (x made : List ℕ) → 65536 ≡ length x → length made ≡ length x → h .modules * h .slots ≤ length made
   entries-within x made size same = omega (arith, entries-few)

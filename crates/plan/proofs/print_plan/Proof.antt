@@ -1,13 +1,14 @@
 use Rattle.lists.specs.Writing.{start-same}
 use mathlib.Core.Path.{sym}
 use lib.Seq.{length-take-le}
-use Rattle.plan.proofs.Printing.{slots-within, entries-fit, entries-within, print-ready, print-done}
+use Rattle.calls.proofs.Sizes.{sheet-size-fits}
+use Rattle.plan.proofs.Printing.{slots-within, entries-within, print-ready, print-done}
 use borrow.Author.Needs.{needs}
 use Rattle.plan.proofs.print_plan.Statement.{statement}
 use Rattle.plan.proofs.print_plan.Tie as tie
 
 mul-entries : tie.Need-mul-entries
-mul-entries c = search entries-fit
+mul-entries c = search sheet-size-fits
 
 large-buffer-requires : tie.Need-large-buffer-requires
 large-buffer-requires c κs = search needs
