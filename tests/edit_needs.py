@@ -21,9 +21,10 @@ function or the module with the first fact that the check refused.
 |---|---|---|
 """
 
-# What the check says of a name that does not exist, and the needs by which code is safe.
+# What the check says of a name that does not exist, and the needs by which code is safe. Such a need that a tactic closes has no name of
+# its own: it stands in the list at the end of a proof file, NAME-spec.
 UNKNOWN = ("can be named from here", "is not in scope", "has no field")
-SAFETY = re.compile(r"(add|sub|mul|div|rem|cast|slice|shared-slice|array|part|enum-known)-")
+SAFETY = re.compile(r"(add|sub|mul|div|rem|cast|slice|shared-slice|array|part|enum-known)-|.*-spec$")
 
 
 def first_fact(crate, text):

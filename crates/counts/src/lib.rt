@@ -11,7 +11,7 @@ ghost use Rattle.model.specs.Planners.{allowedCounts};
 ghost use Rattle.counts.specs.AllowedCounts.{AllRoom, CoarseRoom, CountsRoom, RackCount, plannerOf};
 ghost use Rattle.counts.specs.AllowedCounts.{numbersBelow, firstPowers, firstNotBelow};
 
-// The planners that differ in their counts alone.
+// The two planners of document 01.
 pub enum PlannerKind {
     Exact,
     Coarse,

@@ -220,7 +220,7 @@ module _ (k : Planner) (c p w : List ℕ) where
   planner-refused = on-card-refused c _ _ _ _
 
   -- On an accepted card the refusals that a planner adds decide.
-  pub planner-tests :
+  planner-tests :
       Accepted c →
       answer (planShow k c p w) ≡
       lowest (applies (onCard c (buffersOf (planShow k c p w)) nothing)) (plannerRefusals k)
