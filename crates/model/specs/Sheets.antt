@@ -27,9 +27,13 @@ stateAt i s (suc t) k = cond (ltb t (i .slots)) (getD s (t * i .modules + k) off
 unfoldable pub sheetLength : Instance → List ℕ → Bool
 sheetLength i s = eqb (length s) (i .modules * i .slots)
 
--- The bytes of a sheet are entries: 'each 0 to Q or 255'.
+-- A byte may stand in a sheet, where the top step is q: '0 to Q or 255'.
+abbrev pub isEntry : (q b : ℕ) → Bool
+isEntry q b = leb b q || isOff b
+
+-- The bytes of a sheet may stand there: 'each 0 to Q or 255'.
 unfoldable pub sheetEntries : Instance → List ℕ → Bool
-sheetEntries i s = every (length s) (λ k. leb (getD s k off) (i .topStep) || isOff (getD s k off))
+sheetEntries i s = every (length s) (λ k. isEntry (i .topStep) (getD s k off))
 
 -- The step of a byte, 0 for off.
 abbrev pub stepOf : ℕ → ℕ
@@ -68,9 +72,13 @@ sheetSwitchingCost i s =
 unfoldable pub sheetCost : Instance → List ℕ → ℕ
 sheetCost i s = sheetOperatingCost i s + sheetSwitchingCost i s
 
+-- A byte counts 1 if its module is active, 0 if it is off.
+abbrev pub activeOf : ℕ → ℕ
+activeOf b = cond (isOff b) 0 1
+
 -- 'A count is how many modules burn': that of a sheet at a time.
 unfoldable pub activeAt : Instance → List ℕ → (time : ℕ) → ℕ
-activeAt i s time = sum (i .modules) (λ k. cond (isOff (stateAt i s time k)) 0 1)
+activeAt i s time = sum (i .modules) (λ k. activeOf (stateAt i s time k))
 
 -- The counts of a sheet, slot by slot.
 unfoldable pub countsOf : Instance → List ℕ → List ℕ

@@ -1,13 +1,12 @@
 -- The thesis's formulas (document 000) in whole points: 2.2 and 2.3 for schedules, 3.9 to 3.13 for counts.
 use Prim.Native.Nat.{ℕ, zero, suc, _+_, _-_, _*_, _<_}
 use mathlib.Core.Path.{_≡_}
-use mathlib.Core.Bool.{cond}
 use mathlib.Core.List.{List}
 use lib.ListN.{getD}
 use Rattle.lists.specs.Sums.{sum}
 use Rattle.model.specs.Instance.{Instance}
 use Rattle.model.specs.Counts.{operatingCost}
-use Rattle.model.specs.Sheets.{stateAt, isOff, stepOf}
+use Rattle.model.specs.Sheets.{stateAt, stepOf, activeOf}
 
 -- A schedule: the state s of server k at time t (0 or 1), and its assigned load λ there. Times are 1 to T; servers count from 0.
 pub record Schedule : Type 0 where
@@ -31,7 +30,7 @@ Feasible i σ = (t : ℕ) → t < i .slots → sum (i .modules) (λ k. σ .assig
 -- The states and steps of a sheet as a schedule.
 unfoldable pub scheduleOf : Instance → List ℕ → Schedule
 scheduleOf i s =
-    record { active = λ t k. cond (isOff (stateAt i s t k)) 0 1; assigned = λ t k. stepOf (stateAt i s t k) }
+    record { active = λ t k. activeOf (stateAt i s t k); assigned = λ t k. stepOf (stateAt i s t k) }
 
 -- The count x of a plan at time t, with x = prev at time 0.
 unfoldable pub countAt : ℕ → List ℕ → ℕ → ℕ

@@ -16,14 +16,14 @@ use Rattle.lists.specs.Tests.{every-at, test-failed, test-passed}
 use Rattle.lists.specs.Sums.{sum-at-most}
 use Rattle.lists.specs.Parts.{getD-within}
 use Rattle.model.specs.Instance.{Instance, instanceOf}
-use Rattle.model.specs.Sheets.{off, isOff, stepOf, sheetEntries, stepCost, changeCost}
+use Rattle.model.specs.Sheets.{isEntry, off, isOff, stepOf, sheetEntries, stepCost, changeCost}
 use Rattle.model.specs.Calls.{sheetBytes, Accepted}
 use Rattle.card.specs.declared.Header.{Header}
 use Rattle.card.specs.Fields.{EntryThere}
 use Rattle.card.specs.Checking.{Ready}
 use Rattle.card.proofs.FieldsThere.{entry-there}
 use Rattle.laws.specs.Acceptance.{modules-range, slots-range, table-range, up-range, down-range}
-use Rattle.sheets.specs.Marks.{isEntry, byteCost, bytesCost, stopCost}
+use Rattle.sheets.specs.Marks.{byteCost, bytesCost, stopCost}
 use Rattle.sheets.specs.SheetRequires.{ByteReady, BytesReady, SheetReady}
 
 module _ {b : ℕ} (is-off : b ≡ off) where

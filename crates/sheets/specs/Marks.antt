@@ -1,16 +1,11 @@
 -- What the functions of this crate give where the model's definitions take a whole card or sheet.
 use Prim.Native.Nat.{ℕ, _+_}
-use mathlib.Core.Bool.{Bool, cond, _||_}
+use mathlib.Core.Bool.{cond}
 use mathlib.Core.List.{List}
 use lib.ListN.{length, getD}
-use lib.Dec.{leb}
 use Rattle.lists.specs.Sums.{sum}
 use Rattle.model.specs.Instance.{Instance}
 use Rattle.model.specs.Sheets.{off, isOff, stepOf, stepCost, changeCost}
-
--- The byte is a step up to top, or off: sheetEntries asks this of each byte.
-abbrev pub isEntry : ℕ → ℕ → Bool
-isEntry top b = leb b top || isOff b
 
 -- The steps of a row's active modules, summed: lightAt of one slot.
 unfoldable pub rowLight : List ℕ → ℕ

@@ -5,12 +5,11 @@ use mathlib.Core.Bool.{true}
 use mathlib.Core.List.{List}
 use lib.ListN.{length, getD}
 use Rattle.model.specs.Instance.{instanceOf}
-use Rattle.model.specs.Sheets.{sheetEntries}
+use Rattle.model.specs.Sheets.{isEntry, sheetEntries}
 use Rattle.model.specs.Plans.{planServes}
 use Rattle.model.specs.Calls.{sheetBytes}
 use Rattle.card.specs.declared.Header.{Header}
 use Rattle.card.specs.Checking.{Ready}
-use Rattle.sheets.specs.Marks.{isEntry}
 
 -- The row has room for n active modules, which serve the load l at steps up to 200.
 pub record RowFits (row : List ℕ) (n l : ℕ) : Type 0 where

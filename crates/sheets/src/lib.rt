@@ -4,13 +4,13 @@ ghost use mathlib.Core.Path.{_≡_};
 ghost use lib.ListN.{length};
 ghost use Rattle.lists.specs.Lists.{tabulate, writtenOver};
 ghost use Rattle.model.specs.Instance.{instanceOf};
-ghost use Rattle.model.specs.Sheets.{stepOf, sheetEntries, sheetLight, sheetCost};
+ghost use Rattle.model.specs.Sheets.{isEntry, stepOf, sheetEntries, sheetLight, sheetCost};
 ghost use Rattle.model.specs.Plans.{moduleByte, sheetOf, planServes};
 ghost use Rattle.model.specs.Thesis.{slotCost, countsCost};
 ghost use Rattle.model.specs.Calls.{entriesInRange, plan as handedPlan};
 ghost use Rattle.card.specs.Checking.{Ready};
 ghost use Rattle.counts.specs.Serving.{Served};
-ghost use Rattle.sheets.specs.Marks.{isEntry, rowLight, byteCost, bytesCost, allOff, byteAt, stopCost, rowStopCost};
+ghost use Rattle.sheets.specs.Marks.{rowLight, byteCost, bytesCost, allOff, byteAt, stopCost, rowStopCost};
 ghost use Rattle.sheets.specs.SheetRequires.{RowFits, PlanSized, PlanReady, SheetRoom};
 ghost use Rattle.sheets.specs.SheetRequires.{ByteReady, BytesReady, RowShort, RowPriced, SheetSized, SheetReady};
 

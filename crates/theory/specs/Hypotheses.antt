@@ -1,14 +1,13 @@
 -- The hypotheses that the theorems share, as propositions.
 use Prim.Native.Nat.{ℕ, suc, _+_, _-_, _*_, _≤_, _<_}
 use mathlib.Core.Path.{_≡_}
-use mathlib.Core.Bool.{true, cond, _||_}
+use mathlib.Core.Bool.{true}
 use mathlib.Core.List.{List}
 use lib.ListN.{length, getD}
-use lib.Dec.{leb}
 use Rattle.lists.specs.Sums.{sum}
 use Rattle.model.specs.Instance.{Instance}
 use Rattle.model.specs.Counts.{canServe, operatingCost}
-use Rattle.model.specs.Sheets.{isOff, stepOf, stepCost, off}
+use Rattle.model.specs.Sheets.{off, isEntry, stepOf, stepCost, activeOf}
 use Rattle.model.specs.Thesis.{switchingPrice, countAt, slotCost, countsCost}
 use Rattle.model.specs.Plans.{Allowed, NotAfter, planServes}
 use Rattle.columns.specs.Column.{countAtPlace}
@@ -34,11 +33,11 @@ pub record Plannable (i : Instance) : Type 0 where
 
 -- An entry of a row is a step of the table or off.
 abbrev pub Entry : Instance → ℕ → Type 0
-Entry i b = (leb b (i .topStep) || isOff b) ≡ true
+Entry i b = isEntry (i .topStep) b ≡ true
 
 -- The active modules of a row of bytes, one byte for each of m modules.
 unfoldable pub activeIn : ℕ → (ℕ → ℕ) → ℕ
-activeIn m b = sum m (λ k. cond (isOff (b k)) 0 1)
+activeIn m b = sum m (λ k. activeOf (b k))
 
 -- The light of a row.
 unfoldable pub lightIn : ℕ → (ℕ → ℕ) → ℕ

@@ -13,7 +13,7 @@ use Rattle.lists.specs.Division.{remainder-le, quotient-lt, part-and-rest}
 use Rattle.lists.specs.Sums.{sum, sum-const, sum-from, sum-at-most}
 use Rattle.model.specs.Instance.{Instance}
 use Rattle.model.specs.Counts.{operatingCost}
-use Rattle.model.specs.Sheets.{off, isOff, stepOf, stepCost}
+use Rattle.model.specs.Sheets.{off, isOff, stepOf, stepCost, activeOf}
 use Rattle.model.specs.Plans.{moduleByte}
 use Rattle.laws.specs.Operating.{operating-formula, byte-above, byte-at, byte-off}
 use Rattle.theory.specs.Hypotheses.{Convex, Entry, activeIn, lightIn, rowCost}
@@ -84,7 +84,7 @@ active-le m b = omega (arith, sum-at-most m (λ k h. at-most-one (isOff (b k))))
 -- Rows of entries.
 module _ (i : Instance) where
   byte-above-line : (u x y z : ℕ) → AboveLine i u x y z → (b : ℕ) → Entry i b →
-      cond (isOff b) 0 1 * u + stepOf b * x ≤ stepCost i b + stepOf b * y + cond (isOff b) 0 1 * z
+      activeOf b * u + stepOf b * x ≤ stepCost i b + stepOf b * y + activeOf b * z
   unfolding stepCost
   byte-above-line u x y z h b e =
       ⊎-elim
@@ -100,7 +100,7 @@ module _ (i : Instance) where
   row-above-line (suc m) b e u x y z h =
       omega (arith, row-above-line m b (λ k l. e k (omega arith)) u x y z h, byte-above-line u x y z h (b m) (e m (omega arith)))
 
-  byte-fits : (b : ℕ) → Entry i b → stepOf b ≤ cond (isOff b) 0 1 * i .topStep
+  byte-fits : (b : ℕ) → Entry i b → stepOf b ≤ activeOf b * i .topStep
   byte-fits b e =
       ⊎-elim
       (λ (g : isOff b ≡ true). rw g (omega arith))
@@ -166,7 +166,7 @@ module _ (i : Instance) (m n l : ℕ) (steps : i .topStep < off) (rack : n ≤ m
   pub plan-row-active : activeIn m (moduleByte n l) ≡ n
   unfolding activeIn
   plan-row-active =
-      let counted = plan-row-sum i n l fits (λ b. cond (isOff b) 0 1) (λ b. 1) refl (λ b h. rw (step-active b (omega arith))) m rack in
+      let counted = plan-row-sum i n l fits activeOf (λ b. 1) refl (λ b h. rw (step-active b (omega arith))) m rack in
       omega (arith, remainder-le n l (i .topStep) fits)
 
   pub plan-row-light : lightIn m (moduleByte n l) ≡ l

@@ -17,7 +17,7 @@ use Rattle.lists.specs.Lists.{length-tabulate, getD-tabulate, length-rows, getD
 use Rattle.model.specs.Instance.{Instance}
 use Rattle.model.specs.Counts.{canServe, operatingCost}
 use Rattle.model.specs.Sheets.{off, isOff, stepOf, stateAt, sheetLength, sheetEntries, lightAt, sheetLight, serves}
-use Rattle.model.specs.Sheets.{stepCost, sheetOperatingCost, sheetSwitchingCost, sheetCost, activeAt, countsOf}
+use Rattle.model.specs.Sheets.{stepCost, sheetOperatingCost, sheetSwitchingCost, sheetCost, activeOf, activeAt, countsOf}
 use Rattle.model.specs.Thesis.{switchingPrice, scheduleCost, scheduleOf, Feasible, countAt, slotCost, countsCost}
 use Rattle.model.specs.Plans.{moduleByte, slotRow, sheetOf, planCost, planServes}
 use Rattle.laws.specs.Operating.{byte-off, slot-row-length}
@@ -86,7 +86,7 @@ module _ (i : Instance) (s : List ℕ) where
       omega (arith, sheet-cost-starts, sum-scale (i .slots) (switchingPrice i) startedAt)
 
 -- In a schedule a byte's step times its state is its step.
-assigned-active : (b : ℕ) → stepOf b * cond (isOff b) 0 1 ≡ stepOf b
+assigned-active : (b : ℕ) → stepOf b * activeOf b ≡ stepOf b
 assigned-active b = go (isOff b)
   where
     go : (x : Bool) → cond x 0 b * cond x 0 1 ≡ cond x 0 b
@@ -94,7 +94,7 @@ assigned-active b = go (isOff b)
     go false = omega arith
 
 -- In a schedule F of a byte's step times its state is its cost.
-cost-active : (i : Instance) (b : ℕ) → i .table (stepOf b) * cond (isOff b) 0 1 ≡ stepCost i b
+cost-active : (i : Instance) (b : ℕ) → i .table (stepOf b) * activeOf b ≡ stepCost i b
 unfolding stepCost
 cost-active i b = go (isOff b)
   where

@@ -4,8 +4,7 @@ use lib.ListN.{length, getD}
 use borrow.Author.Needs.{needs}
 use Rattle.lists.specs.Tests.{Passed, passed-none, passed-more, passed-all, passed-not}
 use Rattle.model.specs.Instance.{instanceOf}
-use Rattle.model.specs.Sheets.{off, sheetEntries}
-use Rattle.sheets.specs.Marks.{isEntry}
+use Rattle.model.specs.Sheets.{isEntry, off, sheetEntries}
 use Rattle.sheets.proofs.SheetBytes.{entry-failed, entry-passed}
 use Rattle.sheets.proofs.sheet_entries.Statement.{statement}
 use Rattle.sheets.proofs.sheet_entries.Tie as tie
