@@ -19,14 +19,14 @@ const MODULES_PLACE: usize = 5;
 const HEAD_LENGTH: u64 = 17;
 
 // A place in a card.
-pub struct Cursor {
-    pub at: usize,
+struct Cursor {
+    at: usize,
 }
 
 // A number taken from a card, and the place after it.
-pub struct Number {
-    pub value: u64,
-    pub next: Cursor,
+struct Number {
+    value: u64,
+    next: Cursor,
 }
 
 // A byte as a number.
@@ -38,7 +38,7 @@ pub fn wide(x: u8) -> u64
 
 impl Cursor {
     // The number in the next byte.
-    pub fn one(self, s: &[u8]) -> Number
+    fn one(self, s: &[u8]) -> Number
         requires { ⌜ Within (now s) (self .at) 1 ⌝ }
         ensures { λ r. ⌜ ReadAt (now (s .entry)) (self .at) 1 (r .value) (r .next .at) ⌝ }
     {
@@ -50,7 +50,7 @@ impl Cursor {
     }
 
     // The number in the next two bytes.
-    pub fn two(self, s: &[u8]) -> Number
+    fn two(self, s: &[u8]) -> Number
         requires { ⌜ Within (now s) (self .at) 2 ⌝ }
         ensures { λ r. ⌜ ReadAt (now (s .entry)) (self .at) 2 (r .value) (r .next .at) ⌝ }
     {
