@@ -11,7 +11,7 @@ use Rattle.model.specs.Instance.{instanceOf}
 use Rattle.model.specs.Sheets.{serves, sheetCost}
 use Rattle.model.specs.Plans.{sheetOf}
 use Rattle.model.specs.Planners.{Planner, ratioOf, plannedBy, plannedCost}
-use Rattle.model.specs.Calls.{Gives, Accepted, planShow, makeSheet, markSheet, answer, successCost, planBuffer}
+use Rattle.model.specs.Calls.{NumbersOf, Gives, Accepted, planShow, makeSheet, markSheet, answer, successCost, planBuffer}
 use Rattle.model.specs.Calls.{planAtExit, workAtExit, sheetAtExit}
 use Rattle.model.specs.Promises.{OwnSheet, AtMostTimes, MarkedAlike, AcceptsExactly}
 use Rattle.laws.specs.Acceptance.{modules-range}
@@ -22,13 +22,13 @@ use Rattle.theory.specs.Refusals.{succeeded}
 use Rattle.theory.specs.Outcomes.{written-taken, mark-number, made-marked, best-fits, plan-at-exit, planner-on, planner-table}
 
 -- What is given of an answer is given of an equal one.
-pub gives-as : {a b : Answer} {number cost : ℕ} → a ≡ b → Gives a number cost → Gives b number cost
+pub gives-as : {a b : Answer} {number cost : ℕ} → a ≡ b → NumbersOf a number cost → NumbersOf b number cost
 gives-as e g = rw e at g
 
 -- Marking.
-module _ (s x : List ℕ) {a : Answer} (is : a ≡ answer (markSheet s x)) {number cost : ℕ} (given : Gives a number cost) where
+module _ (s x : List ℕ) {a : Answer} (is : a ≡ answer (markSheet s x)) {number cost : ℕ} (given : NumbersOf a number cost) where
   pub marks :
-      Gives (answer (markSheet s x)) number cost × AcceptsExactly s x number
+      Gives (markSheet s x) number cost × AcceptsExactly s x number
   marks =
       let g = gives-as is given in (
         g,
@@ -41,9 +41,9 @@ module _ (s x : List ℕ) {a : Answer} (is : a ≡ answer (markSheet s x)) {numb
 -- The sheet call.
 module _
     (s p x : List ℕ) {a : Answer} {y : List ℕ} (exit : (a ≡ answer (makeSheet s p x)) × (y ≡ sheetAtExit (makeSheet s p x)))
-    {number cost : ℕ} (given : Gives a number cost) where
+    {number cost : ℕ} (given : NumbersOf a number cost) where
   pub makes :
-      Gives (answer (makeSheet s p x)) number cost × ((y ≡ sheetAtExit (makeSheet s p x)) × MarkedAlike s y number cost)
+      Gives (makeSheet s p x) number cost × ((y ≡ sheetAtExit (makeSheet s p x)) × MarkedAlike s y number cost)
   makes =
       let g = gives-as (exit .0) given in (
         g,
@@ -56,7 +56,7 @@ module _
       )
 
 -- A planner.
-module _ (k : Planner) (c p w : List ℕ) {number cost : ℕ} (given : Gives (answer (planShow k c p w)) number cost) where
+module _ (k : Planner) (c p w : List ℕ) {number cost : ℕ} (given : Gives (planShow k c p w) number cost) where
   success : number ≡ 0 → answer (planShow k c p w) ≡ Cost (plannedCost k (instanceOf c))
   unfolding successCost
   success e = succeeded (planShow k c p w) (sym (given .number-is) ∙ e)
@@ -95,8 +95,8 @@ module _ (k : Planner) (c p w : List ℕ) {number cost : ℕ} (given : Gives (an
 pub plans :
     (k : Planner) (c p w : List ℕ) {a : Answer} {plan work : List ℕ} {number cost : ℕ} →
     (a ≡ answer (planShow k c p w)) × ((plan ≡ planAtExit (planShow k c p w)) × (work ≡ workAtExit (planShow k c p w))) →
-    Gives a number cost →
-    Gives (answer (planShow k c p w)) number cost ×
+    NumbersOf a number cost →
+    Gives (planShow k c p w) number cost ×
     ((plan ≡ planAtExit (planShow k c p w)) ×
     ((work ≡ workAtExit (planShow k c p w)) × (OwnSheet c plan number cost × AtMostTimes (ratioOf k) c number cost)))
 plans k c p w (is, (plan-is, work-is)) given =

@@ -3,7 +3,7 @@ use counts::PlannerKind;
 use model::Answer;
 ghost use mathlib.Core.Path.{_≡_};
 ghost use Rattle.model.specs.Planners.{exact, coarse};
-ghost use Rattle.model.specs.Calls.{Gives, answer, checkCard, runningCost, planShow, makeSheet, markSheet, roundCount};
+ghost use Rattle.model.specs.Calls.{NumbersOf, Gives, checkCard, runningCost, planShow, makeSheet, markSheet, roundCount};
 ghost use Rattle.model.specs.Calls.{planAtExit, workAtExit, sheetAtExit};
 ghost use Rattle.model.specs.Promises.{OwnSheet, AtMostTimes, MarkedAlike, AcceptsExactly};
 
@@ -16,7 +16,7 @@ pub struct LampAnswer {
 
 // The two numbers of an answer.
 fn to_c(a: Answer) -> LampAnswer
-    ensures { λ r. ⌜ Gives a (r .number) (r .cost) ⌝ }
+    ensures { λ r. ⌜ NumbersOf a (r .number) (r .cost) ⌝ }
 {
     match a {
         Answer::Cost(cost) => LampAnswer { number: 0, cost },
@@ -30,7 +30,7 @@ fn to_c(a: Answer) -> LampAnswer
 // Checks a card: refusals 1 to 8, else number 0 and cost 0.
 #[no_mangle]
 pub extern "C" fn lamp_check_card(card: &[u8]) -> LampAnswer
-    ensures outcome { λ r. ⌜ Gives (answer (checkCard (now (card .entry)))) (r .number) (r .cost) ⌝ }
+    ensures outcome { λ r. ⌜ Gives (checkCard (now (card .entry))) (r .number) (r .cost) ⌝ }
 {
     to_c(calls::check_card(card))
 }
@@ -38,7 +38,7 @@ pub extern "C" fn lamp_check_card(card: &[u8]) -> LampAnswer
 // The running cost of a count and a load: refusals 1 to 8, 12, 13.
 #[no_mangle]
 pub extern "C" fn lamp_running_cost(card: &[u8], count: u64, load: u64) -> LampAnswer
-    ensures outcome { λ r. ⌜ Gives (answer (runningCost (now (card .entry)) count load)) (r .number) (r .cost) ⌝ }
+    ensures outcome { λ r. ⌜ Gives (runningCost (now (card .entry)) count load) (r .number) (r .cost) ⌝ }
 {
     to_c(calls::running_cost(card, count, load))
 }
@@ -46,7 +46,7 @@ pub extern "C" fn lamp_running_cost(card: &[u8], count: u64, load: u64) -> LampA
 // The smallest allowed count not below the count, in the cost's place: refusals 3 and 12.
 #[no_mangle]
 pub extern "C" fn lamp_rounded_count(count: u64, modules: u64) -> LampAnswer
-    ensures outcome { λ r. ⌜ Gives (answer (roundCount count modules)) (r .number) (r .cost) ⌝ }
+    ensures outcome { λ r. ⌜ Gives (roundCount count modules) (r .number) (r .cost) ⌝ }
 {
     to_c(calls::rounded_count(count, modules))
 }
@@ -54,7 +54,7 @@ pub extern "C" fn lamp_rounded_count(count: u64, modules: u64) -> LampAnswer
 // The sheet of a handed-in plan: refusals 1 to 8, 10 to 13.
 #[no_mangle]
 pub extern "C" fn lamp_sheet(card: &[u8], plan: &[u8], sheet: &mut [u8]) -> LampAnswer
-    ensures outcome { λ r. ⌜ Gives (answer (makeSheet (now (card .entry)) (now (plan .entry)) (now (sheet .entry)))) (r .number) (r .cost) ⌝ }
+    ensures outcome { λ r. ⌜ Gives (makeSheet (now (card .entry)) (now (plan .entry)) (now (sheet .entry))) (r .number) (r .cost) ⌝ }
     ensures sheet_bytes { λ r. ⌜ now (sheet .exit) ≡ sheetAtExit (makeSheet (now (card .entry)) (now (plan .entry)) (now (sheet .entry))) ⌝ }
     ensures marked_alike { λ r. ⌜ MarkedAlike (now (card .entry)) (now (sheet .exit)) (r .number) (r .cost) ⌝ }
 {
@@ -64,7 +64,7 @@ pub extern "C" fn lamp_sheet(card: &[u8], plan: &[u8], sheet: &mut [u8]) -> Lamp
 // The cost of a handed-in sheet, module by module: refusals 1 to 8, 11 to 13.
 #[no_mangle]
 pub extern "C" fn lamp_mark(card: &[u8], sheet: &[u8]) -> LampAnswer
-    ensures outcome { λ r. ⌜ Gives (answer (markSheet (now (card .entry)) (now (sheet .entry)))) (r .number) (r .cost) ⌝ }
+    ensures outcome { λ r. ⌜ Gives (markSheet (now (card .entry)) (now (sheet .entry))) (r .number) (r .cost) ⌝ }
     ensures accepts { λ r. ⌜ AcceptsExactly (now (card .entry)) (now (sheet .entry)) (r .number) ⌝ }
 {
     to_c(calls::mark_sheet(card, sheet))
@@ -73,7 +73,7 @@ pub extern "C" fn lamp_mark(card: &[u8], sheet: &[u8]) -> LampAnswer
 // The plan of least cost over all sheets: refusals 1 to 8, 10.
 #[no_mangle]
 pub extern "C" fn lamp_plan_exact(card: &[u8], plan: &mut [u8], work: &mut [u8]) -> LampAnswer
-    ensures outcome { λ r. ⌜ Gives (answer (planShow exact (now (card .entry)) (now (plan .entry)) (now (work .entry)))) (r .number) (r .cost) ⌝ }
+    ensures outcome { λ r. ⌜ Gives (planShow exact (now (card .entry)) (now (plan .entry)) (now (work .entry))) (r .number) (r .cost) ⌝ }
     ensures plan_bytes { λ r. ⌜ now (plan .exit) ≡ planAtExit (planShow exact (now (card .entry)) (now (plan .entry)) (now (work .entry))) ⌝ }
     ensures work_bytes { λ r. ⌜ now (work .exit) ≡ workAtExit (planShow exact (now (card .entry)) (now (plan .entry)) (now (work .entry))) ⌝ }
     ensures own_sheet { λ r. ⌜ OwnSheet (now (card .entry)) (now (plan .exit)) (r .number) (r .cost) ⌝ }
@@ -85,7 +85,7 @@ pub extern "C" fn lamp_plan_exact(card: &[u8], plan: &mut [u8], work: &mut [u8])
 // The least plan with counts 0, the powers of two up to m, and m: refusals 1 to 10.
 #[no_mangle]
 pub extern "C" fn lamp_plan_coarse(card: &[u8], plan: &mut [u8], work: &mut [u8]) -> LampAnswer
-    ensures outcome { λ r. ⌜ Gives (answer (planShow coarse (now (card .entry)) (now (plan .entry)) (now (work .entry)))) (r .number) (r .cost) ⌝ }
+    ensures outcome { λ r. ⌜ Gives (planShow coarse (now (card .entry)) (now (plan .entry)) (now (work .entry))) (r .number) (r .cost) ⌝ }
     ensures plan_bytes { λ r. ⌜ now (plan .exit) ≡ planAtExit (planShow coarse (now (card .entry)) (now (plan .entry)) (now (work .entry))) ⌝ }
     ensures work_bytes { λ r. ⌜ now (work .exit) ≡ workAtExit (planShow coarse (now (card .entry)) (now (plan .entry)) (now (work .entry))) ⌝ }
     ensures own_sheet { λ r. ⌜ OwnSheet (now (card .entry)) (now (plan .exit)) (r .number) (r .cost) ⌝ }

@@ -211,7 +211,11 @@ sheetAtExit c = getD (buffersAtExit c) 0 []
 unfoldable pub outcome : Call → List (List ℕ)
 outcome c = (numberOf (answer c) ∷ costOf (answer c) ∷ []) ∷ buffersAtExit c
 
--- What a contract says of a result's two numbers: they are those of the answer.
-pub record Gives (a : Answer) (number cost : ℕ) : Type 0 where
+-- Two numbers are those of an answer.
+pub record NumbersOf (a : Answer) (number cost : ℕ) : Type 0 where
   pub number-is : number ≡ numberOf a
   pub cost-is : cost ≡ costOf a
+
+-- What a contract says of a result's two numbers: they are those of the call's answer.
+abbrev pub Gives : Call → (number cost : ℕ) → Type 0
+Gives c = NumbersOf (answer c)
