@@ -28,7 +28,7 @@ use Rattle.card.specs.declared.Checked.the-variants.{Invalid}
 use Rattle.card.specs.Checking.{Ready, checkedOf}
 use Rattle.card.proofs.Groups.{refused-answer}
 use Rattle.sheets.specs.SheetRequires.{PlanSized, PlanReady, SheetRoom}
-use Rattle.calls.proofs.Sizes.{sheet-size}
+use Rattle.card.proofs.Sizes.{sheet-size}
 
 -- An answer and a buffer are those of the sheet call at exit.
 abbrev pub Made : (s p x : List ℕ) → Answer → List ℕ → Type 0

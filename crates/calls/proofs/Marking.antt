@@ -19,7 +19,7 @@ use Rattle.card.specs.declared.Checked.the-variants.{Invalid}
 use Rattle.card.specs.Checking.{Ready, checkedOf}
 use Rattle.card.proofs.Groups.{refused-answer}
 use Rattle.sheets.specs.SheetRequires.{SheetSized, SheetReady}
-use Rattle.calls.proofs.Sizes.{sheet-size}
+use Rattle.card.proofs.Sizes.{sheet-size}
 
 module _ (s x : List ℕ) where
   pub mark-refused : {c : Checked} {y : Refusal} → c ≡ checkedOf s → c ≡ Invalid y → Refused y ≡ answer (markSheet s x)

@@ -1,18 +1,13 @@
-// The calls of document 01, each answering every input: the refusals in their order, then what the crates below work out. On an
-// accepted card the work is done by a function that takes the card's header.
+// The calls of document 01 but the planners', each answering every input: the refusals in their order, then what the crates below work
+// out. On an accepted card the work is done by a function that takes the card's header.
 use card::Checked;
 use card::Header;
-use counts::PlannerKind;
 use model::Answer;
 use model::Refusal;
 ghost use mathlib.Core.Path.{_≡_};
 ghost use Rattle.model.specs.Answers.{refusalNumber};
-ghost use Rattle.model.specs.Instance.{instanceOf};
-ghost use Rattle.model.specs.Planners.{workBytes, tableAllowed};
-ghost use Rattle.model.specs.Calls.{answer, checkCard, runningCost, planShow, makeSheet, markSheet, roundCount};
-ghost use Rattle.model.specs.Calls.{planAtExit, workAtExit, sheetAtExit};
+ghost use Rattle.model.specs.Calls.{answer, checkCard, runningCost, makeSheet, markSheet, roundCount, sheetAtExit};
 ghost use Rattle.card.specs.Checking.{Ready};
-ghost use Rattle.counts.specs.AllowedCounts.{plannerOf};
 
 // The number of a refusal.
 pub fn refusal_number(x: Refusal) -> u64
@@ -152,67 +147,6 @@ pub fn mark_sheet(card: &[u8], sheet: &[u8]) -> Answer
 {
     match card::check(card) {
         Checked::Valid(h) => mark_sheet_on(card, h, sheet),
-        Checked::Invalid(x) => Answer::Refused(x),
-    }
-}
-
-// The work bytes that a planner asks for.
-fn work_bytes(kind: PlannerKind, card: &[u8], h: Header) -> usize
-    requires { ⌜ Ready (now card) h ⌝ }
-    ensures { λ r. ⌜ r ≡ workBytes (plannerOf kind) (instanceOf (now (card .entry))) ⌝ }
-{
-    match kind {
-        PlannerKind::Exact => ((h.modules + 1) * h.slots) as usize,
-        PlannerKind::Coarse => (10 * h.slots) as usize,
-    }
-}
-
-// The planner takes the card's table.
-fn table_allowed(kind: PlannerKind, card: &[u8], h: Header) -> bool
-    requires { ⌜ Ready (now card) h ⌝ }
-    ensures { λ r. ⌜ r ≡ tableAllowed (plannerOf kind) (instanceOf (now (card .entry))) ⌝ }
-{
-    match kind {
-        PlannerKind::Exact => true,
-        PlannerKind::Coarse => card::never_falls(card, h),
-    }
-}
-
-// A planner on an accepted card.
-pub fn plan_show_on(
-    kind: PlannerKind,
-    card: &[u8],
-    h: Header,
-    plan: &mut [u8],
-    work: &mut [u8],
-) -> Answer
-    requires { ⌜ Ready (now card) h ⌝ }
-    ensures { λ r. ⌜ r ≡ answer (planShow (plannerOf kind) (now (card .entry)) (now (plan .entry)) (now (work .entry))) ⌝ }
-    ensures { λ r. ⌜ now (plan .exit) ≡ planAtExit (planShow (plannerOf kind) (now (card .entry)) (now (plan .entry)) (now (work .entry))) ⌝ }
-    ensures { λ r. ⌜ now (work .exit) ≡ workAtExit (planShow (plannerOf kind) (now (card .entry)) (now (plan .entry)) (now (work .entry))) ⌝ }
-{
-    let slots = h.slots as usize;
-    let asked = work_bytes(kind, card, h);
-    if !table_allowed(kind, card, h) {
-        return Answer::Refused(Refusal::NotMonotone);
-    }
-    if plan.len() < slots {
-        return Answer::Refused(Refusal::BufferTooShort);
-    }
-    if work.len() < asked {
-        return Answer::Refused(Refusal::BufferTooShort);
-    }
-    Answer::Cost(planners::plan_by(kind, card, h, &mut plan[..slots], &mut work[..asked]))
-}
-
-// A planner: refusals 1 to 8, 10, for the coarse planner also 9.
-pub fn plan_show(kind: PlannerKind, card: &[u8], plan: &mut [u8], work: &mut [u8]) -> Answer
-    ensures { λ r. ⌜ r ≡ answer (planShow (plannerOf kind) (now (card .entry)) (now (plan .entry)) (now (work .entry))) ⌝ }
-    ensures { λ r. ⌜ now (plan .exit) ≡ planAtExit (planShow (plannerOf kind) (now (card .entry)) (now (plan .entry)) (now (work .entry))) ⌝ }
-    ensures { λ r. ⌜ now (work .exit) ≡ workAtExit (planShow (plannerOf kind) (now (card .entry)) (now (plan .entry)) (now (work .entry))) ⌝ }
-{
-    match card::check(card) {
-        Checked::Valid(h) => plan_show_on(kind, card, h, plan, work),
         Checked::Invalid(x) => Answer::Refused(x),
     }
 }

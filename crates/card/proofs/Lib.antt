@@ -3,3 +3,4 @@ pub mod Mark
 pub mod CardTests
 pub mod Groups
 pub mod FieldsThere
+pub mod Sizes

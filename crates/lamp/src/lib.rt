@@ -79,7 +79,7 @@ pub extern "C" fn lamp_plan_exact(card: &[u8], plan: &mut [u8], work: &mut [u8])
     ensures own_sheet { λ r. ⌜ OwnSheet (now (card .entry)) (now (plan .exit)) (r .number) (r .cost) ⌝ }
     ensures least { λ r. ⌜ AtMostTimes 1 (now (card .entry)) (r .number) (r .cost) ⌝ }
 {
-    to_c(calls::plan_show(PlannerKind::Exact, card, plan, work))
+    to_c(planners::plan_show(PlannerKind::Exact, card, plan, work))
 }
 
 // The least plan with counts 0, the powers of two up to m, and m: refusals 1 to 10.
@@ -91,5 +91,5 @@ pub extern "C" fn lamp_plan_coarse(card: &[u8], plan: &mut [u8], work: &mut [u8]
     ensures own_sheet { λ r. ⌜ OwnSheet (now (card .entry)) (now (plan .exit)) (r .number) (r .cost) ⌝ }
     ensures twice { λ r. ⌜ AtMostTimes 2 (now (card .entry)) (r .number) (r .cost) ⌝ }
 {
-    to_c(calls::plan_show(PlannerKind::Coarse, card, plan, work))
+    to_c(planners::plan_show(PlannerKind::Coarse, card, plan, work))
 }

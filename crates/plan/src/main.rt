@@ -47,7 +47,7 @@ fn print_accepted(card: &[u8], h: Header, out: &mut [u8]) -> usize
 {
     let mut plan = plan_area();
     let mut work = io::large_buffer();
-    let planned = calls::plan_show_on(PlannerKind::Exact, card, h, &mut plan, &mut work);
+    let planned = planners::plan_show_on(PlannerKind::Exact, card, h, &mut plan, &mut work);
     match planned {
         Answer::Cost(cost) => print_plan(card, h, &plan, cost, out),
         Answer::Refused(x) => listing::write_refusal(out, calls::refusal_number(x)),

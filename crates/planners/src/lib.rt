@@ -1,11 +1,16 @@
-// The planners on an accepted card: one search, over the counts that are allowed the planner.
+// The planners: one search, over the counts that are allowed the planner, and the call of a planner, which answers every input.
+use card::Checked;
 use card::Header;
 use counts::PlannerKind;
+use model::Answer;
+use model::Refusal;
 ghost use mathlib.Core.Path.{_≡_};
 ghost use lib.ListN.{length, replicate};
 ghost use Rattle.model.specs.Instance.{instanceOf};
 ghost use Rattle.model.specs.Plans.{leastPlan, leastCost};
-ghost use Rattle.model.specs.Planners.{plannedBy, plannedCost};
+ghost use Rattle.model.specs.Planners.{workBytes, tableAllowed, plannedBy, plannedCost};
+ghost use Rattle.model.specs.Calls.{planShow, answer, planAtExit, workAtExit};
+ghost use Rattle.card.specs.Checking.{Ready};
 ghost use Rattle.counts.specs.AllowedCounts.{plannerOf};
 ghost use Rattle.planners.specs.PlannerRequires.{PlanOver, NumberRoom, Buffers};
 
@@ -59,7 +64,7 @@ fn plan_with_counts(
 }
 
 // A planner's plan, of least cost over the counts that are allowed it, and its cost.
-pub fn plan_by(kind: PlannerKind, card: &[u8], h: Header, plan: &mut [u8], work: &mut [u8]) -> u64
+fn plan_by(kind: PlannerKind, card: &[u8], h: Header, plan: &mut [u8], work: &mut [u8]) -> u64
     requires { ⌜ Buffers (plannerOf kind) (now card) h (now plan) (now work) ⌝ }
     ensures { λ r. ⌜ r ≡ plannedCost (plannerOf kind) (instanceOf (now (card .entry))) ⌝ }
     ensures { λ _. ⌜ now (plan .exit) ≡ plannedBy (plannerOf kind) (instanceOf (now (card .entry))) ⌝ }
@@ -67,4 +72,65 @@ pub fn plan_by(kind: PlannerKind, card: &[u8], h: Header, plan: &mut [u8], work:
 {
     let mut counts = [0u64; 201];
     plan_with_counts(kind, card, h, &mut counts, plan, work)
+}
+
+// The work bytes that a planner asks for.
+fn work_bytes(kind: PlannerKind, card: &[u8], h: Header) -> usize
+    requires { ⌜ Ready (now card) h ⌝ }
+    ensures { λ r. ⌜ r ≡ workBytes (plannerOf kind) (instanceOf (now (card .entry))) ⌝ }
+{
+    match kind {
+        PlannerKind::Exact => ((h.modules + 1) * h.slots) as usize,
+        PlannerKind::Coarse => (10 * h.slots) as usize,
+    }
+}
+
+// The planner takes the card's table.
+fn table_allowed(kind: PlannerKind, card: &[u8], h: Header) -> bool
+    requires { ⌜ Ready (now card) h ⌝ }
+    ensures { λ r. ⌜ r ≡ tableAllowed (plannerOf kind) (instanceOf (now (card .entry))) ⌝ }
+{
+    match kind {
+        PlannerKind::Exact => true,
+        PlannerKind::Coarse => card::never_falls(card, h),
+    }
+}
+
+// A planner on an accepted card.
+pub fn plan_show_on(
+    kind: PlannerKind,
+    card: &[u8],
+    h: Header,
+    plan: &mut [u8],
+    work: &mut [u8],
+) -> Answer
+    requires { ⌜ Ready (now card) h ⌝ }
+    ensures { λ r. ⌜ r ≡ answer (planShow (plannerOf kind) (now (card .entry)) (now (plan .entry)) (now (work .entry))) ⌝ }
+    ensures { λ r. ⌜ now (plan .exit) ≡ planAtExit (planShow (plannerOf kind) (now (card .entry)) (now (plan .entry)) (now (work .entry))) ⌝ }
+    ensures { λ r. ⌜ now (work .exit) ≡ workAtExit (planShow (plannerOf kind) (now (card .entry)) (now (plan .entry)) (now (work .entry))) ⌝ }
+{
+    let slots = h.slots as usize;
+    let asked = work_bytes(kind, card, h);
+    if !table_allowed(kind, card, h) {
+        return Answer::Refused(Refusal::NotMonotone);
+    }
+    if plan.len() < slots {
+        return Answer::Refused(Refusal::BufferTooShort);
+    }
+    if work.len() < asked {
+        return Answer::Refused(Refusal::BufferTooShort);
+    }
+    Answer::Cost(plan_by(kind, card, h, &mut plan[..slots], &mut work[..asked]))
+}
+
+// A planner: refusals 1 to 8, 10, for the coarse planner also 9.
+pub fn plan_show(kind: PlannerKind, card: &[u8], plan: &mut [u8], work: &mut [u8]) -> Answer
+    ensures { λ r. ⌜ r ≡ answer (planShow (plannerOf kind) (now (card .entry)) (now (plan .entry)) (now (work .entry))) ⌝ }
+    ensures { λ r. ⌜ now (plan .exit) ≡ planAtExit (planShow (plannerOf kind) (now (card .entry)) (now (plan .entry)) (now (work .entry))) ⌝ }
+    ensures { λ r. ⌜ now (work .exit) ≡ workAtExit (planShow (plannerOf kind) (now (card .entry)) (now (plan .entry)) (now (work .entry))) ⌝ }
+{
+    match card::check(card) {
+        Checked::Valid(h) => plan_show_on(kind, card, h, plan, work),
+        Checked::Invalid(x) => Answer::Refused(x),
+    }
 }

@@ -1,10 +1,10 @@
 use mathlib.Core.Path.{sym}
 use lib.Seq.{length-take-le}
 use Rattle.lists.specs.Tests.{test-failed, test-passed}
-use Rattle.calls.proofs.Planning.{plan-falls, plan-short, work-short, parts-lent, plan-done}
+use Rattle.planners.proofs.Planning.{plan-falls, plan-short, work-short, parts-lent, plan-done}
 use borrow.Author.Needs.{needs}
-use Rattle.calls.proofs.plan_show_on.Statement.{statement}
-use Rattle.calls.proofs.plan_show_on.Tie as tie
+use Rattle.planners.proofs.plan_show_on.Statement.{statement}
+use Rattle.planners.proofs.plan_show_on.Tie as tie
 
 work-bytes-requires : tie.Need-work-bytes-requires
 work-bytes-requires c κs = search needs

@@ -1,8 +1,8 @@
 use Rattle.model.specs.Planners.{tableAllowed}
 use Rattle.card.proofs.FieldsThere.{sized}
 use borrow.Author.Needs.{needs}
-use Rattle.calls.proofs.table_allowed.Statement.{statement}
-use Rattle.calls.proofs.table_allowed.Tie as tie
+use Rattle.planners.proofs.table_allowed.Statement.{statement}
+use Rattle.planners.proofs.table_allowed.Tie as tie
 
 enum-told : tie.Need-enum-told
 enum-told c = search needs

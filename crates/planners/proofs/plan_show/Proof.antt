@@ -1,8 +1,8 @@
 use Rattle.card.proofs.Groups.{ready}
-use Rattle.calls.proofs.Planning.{plan-refused}
+use Rattle.planners.proofs.Planning.{plan-refused}
 use borrow.Author.Needs.{needs}
-use Rattle.calls.proofs.plan_show.Statement.{statement}
-use Rattle.calls.proofs.plan_show.Tie as tie
+use Rattle.planners.proofs.plan_show.Statement.{statement}
+use Rattle.planners.proofs.plan_show.Tie as tie
 
 check-requires : tie.Need-check-requires
 check-requires c κs = search needs

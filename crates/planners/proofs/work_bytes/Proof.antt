@@ -1,8 +1,8 @@
 use Rattle.model.specs.Planners.{workBytes}
-use Rattle.calls.proofs.Sizes.{work-size-fits, exact-size, coarse-size}
+use Rattle.card.proofs.Sizes.{work-size-fits, exact-size, coarse-size}
 use borrow.Author.Needs.{needs}
-use Rattle.calls.proofs.work_bytes.Statement.{statement}
-use Rattle.calls.proofs.work_bytes.Tie as tie
+use Rattle.planners.proofs.work_bytes.Statement.{statement}
+use Rattle.planners.proofs.work_bytes.Tie as tie
 
 enum-told : tie.Need-enum-told
 enum-told c = search needs
