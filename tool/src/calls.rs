@@ -1,0 +1,67 @@
+//! The safe binding: every call of include/lamp.h over slices. A call answers its cost or its refusal; after a refusal every lent
+//! byte is as it was. Slices of Rust that are written never overlap another slice, which is all that a call asks of its host.
+use crate::refusal::Refusal;
+
+/// A cost in points, or the refusal. The rounded count gives its count in the cost's place.
+pub type Answer = Result<u64, Refusal>;
+
+/// The answer as C has it.
+#[repr(C)]
+struct LampAnswer {
+    number: u64,
+    cost: u64,
+}
+
+extern "C" {
+    fn lamp_check_card(card: *const u8, card_len: usize) -> LampAnswer;
+    fn lamp_running_cost(card: *const u8, card_len: usize, count: u64, load: u64) -> LampAnswer;
+    fn lamp_plan_exact(card: *const u8, card_len: usize, plan: *mut u8, plan_len: usize, work: *mut u8, work_len: usize) -> LampAnswer;
+    fn lamp_plan_coarse(card: *const u8, card_len: usize, plan: *mut u8, plan_len: usize, work: *mut u8, work_len: usize) -> LampAnswer;
+    fn lamp_sheet(card: *const u8, card_len: usize, plan: *const u8, plan_len: usize, sheet: *mut u8, sheet_len: usize) -> LampAnswer;
+    fn lamp_mark(card: *const u8, card_len: usize, sheet: *const u8, sheet_len: usize) -> LampAnswer;
+    fn lamp_rounded_count(count: u64, modules: u64) -> LampAnswer;
+}
+
+/// The library's contract says that a number is 0 or one of the refusals, and that a refusal has cost 0.
+fn answer(given: LampAnswer) -> Answer {
+    if given.number == 0 {
+        return Ok(given.cost);
+    }
+    assert_eq!(given.cost, 0, "refusal {} came with a cost", given.number);
+    Err(Refusal::of_number(given.number).unwrap_or_else(|| panic!("the library gave the unknown number {}", given.number)))
+}
+
+/// Accepts a card at cost 0, or refuses it by 1 to 8.
+pub fn check_card(card: &[u8]) -> Answer {
+    answer(unsafe { lamp_check_card(card.as_ptr(), card.len()) })
+}
+
+/// The running cost of a count and a load.
+pub fn running_cost(card: &[u8], count: u64, load: u64) -> Answer {
+    answer(unsafe { lamp_running_cost(card.as_ptr(), card.len(), count, load) })
+}
+
+/// The plan of least cost: one count a slot in the first bytes of `plan`; `work` is asked for (modules + 1) times slots bytes.
+pub fn plan_exact(card: &[u8], plan: &mut [u8], work: &mut [u8]) -> Answer {
+    answer(unsafe { lamp_plan_exact(card.as_ptr(), card.len(), plan.as_mut_ptr(), plan.len(), work.as_mut_ptr(), work.len()) })
+}
+
+/// The least plan with counts 0, the powers of two and the full rack; `work` is asked for 10 times slots bytes.
+pub fn plan_coarse(card: &[u8], plan: &mut [u8], work: &mut [u8]) -> Answer {
+    answer(unsafe { lamp_plan_coarse(card.as_ptr(), card.len(), plan.as_mut_ptr(), plan.len(), work.as_mut_ptr(), work.len()) })
+}
+
+/// The sheet of a handed-in plan: modules times slots bytes at the front of `sheet`.
+pub fn sheet(card: &[u8], plan: &[u8], sheet: &mut [u8]) -> Answer {
+    answer(unsafe { lamp_sheet(card.as_ptr(), card.len(), plan.as_ptr(), plan.len(), sheet.as_mut_ptr(), sheet.len()) })
+}
+
+/// The cost of a handed-in sheet.
+pub fn mark(card: &[u8], sheet: &[u8]) -> Answer {
+    answer(unsafe { lamp_mark(card.as_ptr(), card.len(), sheet.as_ptr(), sheet.len()) })
+}
+
+/// The smallest allowed count not below `count` in a rack of `modules`.
+pub fn rounded_count(count: u64, modules: u64) -> Answer {
+    answer(unsafe { lamp_rounded_count(count, modules) })
+}

@@ -1,0 +1,268 @@
+//! The commands. Each answers what goes to standard output, what to standard error, and the exit status: 0 done, 1 refused by a
+//! number, 2 wrong use or a file that cannot be read or written whole.
+use crate::calls;
+use crate::faults::{self, SheetFault};
+use crate::input::{self, Card};
+use crate::planning::{self, Planned, Planner};
+use crate::refusal::Refusal;
+use crate::sheet_text::{self, SheetText};
+use crate::show::Show;
+use crate::words::{grouped, several};
+use crate::{help, listing, page, picture, show_text};
+use std::ffi::{OsStr, OsString};
+
+/// What a command ends with.
+#[derive(Clone, Debug, PartialEq, Eq)]
+pub struct Outcome {
+    pub output: Vec<u8>,
+    pub complaint: String,
+    pub status: i32,
+}
+
+impl Outcome {
+    fn done(output: impl Into<Vec<u8>>) -> Self {
+        Outcome { output: output.into(), complaint: String::new(), status: 0 }
+    }
+
+    /// The command has nothing to give, and says why.
+    fn refused(message: &str) -> Self {
+        Outcome { output: Vec::new(), complaint: format!("lamp: {message}"), status: 1 }
+    }
+
+    /// The refusal is what the command was asked for.
+    fn verdict(message: String) -> Self {
+        Outcome { output: message.into(), complaint: String::new(), status: 1 }
+    }
+
+    pub fn error(message: &str) -> Self {
+        Outcome { output: Vec::new(), complaint: format!("lamp: {message}\n"), status: 2 }
+    }
+}
+
+/// A command's outcome, or the sentence of an error.
+pub type Ended = Result<Outcome, String>;
+
+/// The words of a command line after the command: its options and what is left.
+pub struct Words<'a> {
+    plain: Vec<&'a OsStr>,
+    options: Vec<&'a str>,
+}
+
+impl Words<'_> {
+    fn planner(&self) -> Planner {
+        if self.options.contains(&"--coarse") { Planner::Coarse } else { Planner::Exact }
+    }
+}
+
+/// Runs a command line without its first word, the program's name.
+pub fn run(words: &[OsString]) -> Outcome {
+    let Some(first) = words.first() else { return Outcome::error(&format!("no command\n{}", help::USAGE)) };
+    match first.to_str() {
+        Some("--help" | "-h" | "help") => return Outcome::done(help::whole()),
+        Some("--version") => return Outcome::done(format!("lamp {}\n", env!("CARGO_PKG_VERSION"))),
+        _ => {}
+    }
+    let Some(command) = help::COMMANDS.iter().find(|command| first == command.name) else {
+        return Outcome::error(&format!("'{}' is no command\n{}", input::name(first), help::USAGE));
+    };
+    if words[1..].iter().any(|word| word == "--help" || word == "-h") {
+        return Outcome::done(command.help());
+    }
+    let ended = split(command, &words[1..]).and_then(|words| (command.run)(&words));
+    ended.unwrap_or_else(|message| Outcome::error(&message))
+}
+
+/// Tells options from other words. `-` is standard input, and after `--` no word is an option.
+fn split<'a>(command: &help::Command, words: &'a [OsString]) -> Result<Words<'a>, String> {
+    let end = words.iter().position(|word| word == "--").unwrap_or(words.len());
+    let mut out = Words { plain: Vec::new(), options: Vec::new() };
+    for (at, word) in words.iter().enumerate().filter(|(at, _)| *at != end) {
+        if at > end || word == "-" || !word.to_string_lossy().starts_with('-') {
+            out.plain.push(word);
+            continue;
+        }
+        match word.to_str().filter(|word| command.options.contains(word)) {
+            Some(option) => out.options.push(option),
+            None => return Err(format!("{}: no option {}\n{}", command.name, input::name(word), command.usage())),
+        }
+    }
+    if out.plain.len() != command.takes.len() {
+        let asked = command.takes.join(" and ");
+        let found = several(out.plain.len() as u64, "word");
+        return Err(format!("{}: {found} where it takes {asked}\n{}", command.name, command.usage()));
+    }
+    if out.plain.iter().filter(|word| **word == "-").count() > 1 {
+        return Err(format!("{}: standard input can be read once only", command.name));
+    }
+    Ok(out)
+}
+
+/// How many places of a refusal are listed.
+const MOST_PLACES: usize = 10;
+
+/// A refusal's first line and the places that it comes from.
+fn lines(refusal: Refusal, places: &[String]) -> String {
+    let mut out = format!("{refusal}\n");
+    places.iter().take(MOST_PLACES).for_each(|place| out += &format!("  {place}\n"));
+    if places.len() > MOST_PLACES {
+        out += &format!("  and {} more\n", grouped((places.len() - MOST_PLACES) as u64));
+    }
+    out
+}
+
+/// A refusal of a card, with the places in the card and in the text that it was read from.
+fn card_refusal(card: &Card, refusal: Refusal) -> String {
+    let faults = faults::of_card(refusal, &card.bytes);
+    let place = |fault: &faults::CardFault| match (&card.text, fault.field) {
+        (Some(text), Some((field, index))) => format!("{} ({})", fault.text, text.place(field, index)),
+        _ => fault.text.clone(),
+    };
+    lines(refusal, &faults.iter().map(place).collect::<Vec<_>>())
+}
+
+pub fn card(words: &Words) -> Ended {
+    let card = input::card(words.plain[0])?;
+    Ok(match calls::check_card(&card.bytes) {
+        Ok(_) => Outcome::done(card.bytes),
+        Err(refusal) => Outcome::refused(&format!("{}: {}", card.name, card_refusal(&card, refusal))),
+    })
+}
+
+/// A refused card is read back too, as far as its fields can be told apart, so that the fault can be looked at.
+pub fn show(words: &Words) -> Ended {
+    let card = input::card(words.plain[0])?;
+    let text = Show::read(&card.bytes).map_or(String::new(), |show| show_text::write(&show));
+    Ok(match calls::check_card(&card.bytes) {
+        Ok(_) => Outcome::done(text),
+        Err(refusal) => {
+            let complaint = Outcome::refused(&format!("{}: {}", card.name, card_refusal(&card, refusal)));
+            Outcome { output: text.into(), ..complaint }
+        }
+    })
+}
+
+pub fn check(words: &Words) -> Ended {
+    let card = input::card(words.plain[0])?;
+    Ok(match calls::check_card(&card.bytes) {
+        Ok(_) => {
+            let summary = Show::read(&card.bytes).map_or(String::new(), |show| show.summary());
+            Outcome::done(format!("accepted: {summary}\n"))
+        }
+        Err(refusal) => Outcome::verdict(card_refusal(&card, refusal)),
+    })
+}
+
+/// Plans the card, and gives what `write` makes of the plan and of the card's name.
+fn with_plan(words: &Words, write: fn(&Planned, &str) -> String) -> Ended {
+    let card = input::card(words.plain[0])?;
+    Ok(match planning::plan(words.planner(), &card.bytes) {
+        Ok(planned) => Outcome::done(write(&planned, &card.name)),
+        Err(refusal) => Outcome::refused(&format!("{}: {}", card.name, card_refusal(&card, refusal))),
+    })
+}
+
+pub fn key(words: &Words) -> Ended {
+    with_plan(words, |planned, _| {
+        format!("{}\n# {}\n{}", show_text::write(&planned.show), planned.planner.promise(), listing::write(planned))
+    })
+}
+
+pub fn page(words: &Words) -> Ended {
+    with_plan(words, page::write)
+}
+
+pub fn picture(words: &Words) -> Ended {
+    with_plan(words, picture::file)
+}
+
+
+/// A handed-in sheet: its bytes, and the text where it was typed.
+struct HandedIn {
+    bytes: Vec<u8>,
+    text: Option<SheetText>,
+}
+
+fn handed_in(words: &Words, show: &Show) -> Result<HandedIn, String> {
+    let path = words.plain[1];
+    if words.options.contains(&"--bytes") {
+        return Ok(HandedIn { bytes: input::read(path, input::MOST_SHEET)?, text: None });
+    }
+    let text = sheet_text::read(&input::sheet_text(path)?).map_err(|error| format!("{}: {error}", input::name(path)))?;
+    Ok(HandedIn { bytes: text.bytes(show.modules.into(), show.slots()), text: Some(text) })
+}
+
+pub fn mark(words: &Words) -> Ended {
+    let card = input::card(words.plain[0])?;
+    let planned = match planning::plan(Planner::Exact, &card.bytes) {
+        Ok(planned) => planned,
+        Err(refusal) => return Ok(Outcome::verdict(card_refusal(&card, refusal))),
+    };
+    let sheet = handed_in(words, &planned.show)?;
+    Ok(match calls::mark(&card.bytes, &sheet.bytes) {
+        Ok(cost) => Outcome::done(format!("cost {cost}\nleast {}\nabove {}\n", planned.cost, cost - planned.cost)),
+        Err(refusal) => Outcome::verdict(lines(refusal, &sheet_places(refusal, &planned.show, &sheet))),
+    })
+}
+
+/// The places of a sheet for which it gets 11 to 13.
+fn sheet_places(refusal: Refusal, show: &Show, sheet: &HandedIn) -> Vec<String> {
+    let faults = match refusal {
+        Refusal::EntryRange => faults::entries(show, &sheet.bytes),
+        Refusal::LoadNotServed => faults::lights(show, &sheet.bytes),
+        _ => return vec![length_fault(show, sheet)],
+    };
+    let place = |fault: &SheetFault| {
+        let typed = sheet.text.as_ref().and_then(|text| text.place(fault.slot, fault.module.unwrap_or(0)));
+        match (typed, fault.module) {
+            (Some(place), Some(_)) => format!("{} ({place})", fault.text),
+            (Some(place), None) => format!("{} (line {})", fault.text, place.line),
+            (None, _) => fault.text.clone(),
+        }
+    };
+    faults.iter().map(place).collect()
+}
+
+fn length_fault(show: &Show, sheet: &HandedIn) -> String {
+    let (modules, slots) = (usize::from(show.modules), show.slots());
+    let typed = sheet.text.as_ref().and_then(|text| text.length_fault(modules, slots));
+    typed.unwrap_or_else(|| {
+        let asked = grouped((modules * slots) as u64);
+        let (found, slots) = (several(sheet.bytes.len() as u64, "byte"), several(slots as u64, "slot"));
+        format!("{found} where {slots} and {} make {asked}", several(modules as u64, "module"))
+    })
+}
+
+/// A number of the command line.
+fn number(words: &Words, at: usize, name: &str) -> Result<u64, String> {
+    let word = words.plain[at].to_str().filter(|word| !word.is_empty() && word.bytes().all(|byte| byte.is_ascii_digit()));
+    word.and_then(|word| word.parse().ok()).ok_or_else(|| format!("{name} {} is not a number", input::name(words.plain[at])))
+}
+
+pub fn cost(words: &Words) -> Ended {
+    let (count, load) = (number(words, 1, "COUNT")?, number(words, 2, "LOAD")?);
+    let card = input::card(words.plain[0])?;
+    let refusal = match calls::running_cost(&card.bytes, count, load) {
+        Ok(cost) => return Ok(Outcome::done(format!("{cost}\n"))),
+        Err(refusal) => refusal,
+    };
+    Ok(Outcome::refused(&match (refusal, Show::read(&card.bytes)) {
+        (Refusal::EntryRange, Some(show)) => lines(refusal, &[above_rack(count, show.modules.into())]),
+        (Refusal::LoadNotServed, Some(show)) => {
+            let most = several(u64::from(show.top) * count, "step");
+            lines(refusal, &[format!("{} can give {most}, not {}", several(count, "module"), grouped(load))])
+        }
+        _ => format!("{}: {}", card.name, card_refusal(&card, refusal)),
+    }))
+}
+
+fn above_rack(count: u64, modules: u64) -> String {
+    format!("count {} in a rack of {}", grouped(count), several(modules, "module"))
+}
+
+pub fn round(words: &Words) -> Ended {
+    let (count, modules) = (number(words, 0, "COUNT")?, number(words, 1, "MODULES")?);
+    Ok(match calls::rounded_count(count, modules) {
+        Ok(rounded) => Outcome::done(format!("{rounded}\n")),
+        Err(refusal) => Outcome::refused(&lines(refusal, &[above_rack(count, modules)])),
+    })
+}

@@ -1,0 +1,89 @@
+//! What the commands are called, what they take and what their `--help` says.
+use crate::commands::{self, Ended, Words};
+
+/// A command with the words that it takes and its options.
+pub struct Command {
+    pub name: &'static str,
+    pub takes: &'static [&'static str],
+    pub options: &'static [&'static str],
+    pub run: fn(&Words) -> Ended,
+    does: &'static str,
+    more: &'static str,
+}
+
+pub const USAGE: &str = "usage: lamp COMMAND ..; lamp --help lists the commands";
+
+const PLANNER: &[&str] = &["--coarse"];
+
+const A_CARD: &str = "\
+CARD is a card's bytes or a show's text, as 'lamp show' writes it; - is standard input.";
+
+const ALLOWED: &str = "The allowed counts are 0, the powers of two up to MODULES, and MODULES.";
+
+const SHOW_TEXT: &str = "\
+SHOW is a text with one field a line, in any order; - is standard input:
+    modules 3       # 1 to 200
+    top 2           # the top step, 1 to 200
+    warm-up 3       # prices, at most 500,000,000
+    cool-down 2
+    table 1 2 4     # F(0) to F(top), each at most 1,000,000; may go on over several lines
+    loads 6 0 2     # one a slot, at most 1,024; may go on over several lines
+A show that the library refuses is refused in words, with the place, and no card is written.";
+
+const SHEET_TEXT: &str = "\
+SHEET has a line a slot, with a step or - (off) for each module, as '2 2 -'. A line may begin with
+'slot 3:', and the cost and plan of a listing may stand before the first slot.
+--bytes  SHEET is a byte for each slot and module, 255 for off.
+Prints the sheet's cost, the least cost and the points above it, or why the sheet is refused.";
+
+/// A command of the table below.
+const fn command(
+    name: &'static str,
+    takes: &'static [&'static str],
+    options: &'static [&'static str],
+    run: fn(&Words) -> Ended,
+    does: &'static str,
+    more: &'static str,
+) -> Command {
+    Command { name, takes, options, run, does, more }
+}
+
+/// All commands, in the order of an examiner's day.
+pub const COMMANDS: [Command; 9] = [
+    command("card", &["SHOW"], &[], commands::card, "makes a card of a show typed as text", SHOW_TEXT),
+    command("show", &["CARD"], &[], commands::show, "reads a card back as text", A_CARD),
+    command("check", &["CARD"], &[], commands::check, "says whether the card is accepted, or where it is at fault", A_CARD),
+    command("key", &["CARD"], PLANNER, commands::key, "prints the show, the least cost, the plan and the sheet", A_CARD),
+    command("page", &["CARD"], PLANNER, commands::page, "prints the key as a page of HTML, with the picture", A_CARD),
+    command("picture", &["CARD"], PLANNER, commands::picture, "draws the plan as SVG", A_CARD),
+    command("mark", &["CARD", "SHEET"], &["--bytes"], commands::mark, "marks a sheet", SHEET_TEXT),
+    command("cost", &["CARD", "COUNT", "LOAD"], &[], commands::cost, "gives the running cost of a count and a load", A_CARD),
+    command("round", &["COUNT", "MODULES"], &[], commands::round, "gives the smallest allowed count not below COUNT", ALLOWED),
+];
+
+const STATUS: &str = "Exit status: 0 done, 1 refused by a number, 2 wrong use or a file that cannot be read or written whole.";
+
+impl Command {
+    fn form(&self) -> String {
+        let options: String = self.options.iter().map(|option| format!(" [{option}]")).collect();
+        format!("lamp {} {}{options}", self.name, self.takes.join(" "))
+    }
+
+    pub fn usage(&self) -> String {
+        format!("usage: {}", self.form())
+    }
+
+    pub fn help(&self) -> String {
+        let coarse = if self.options == PLANNER { "\n--coarse  the coarse planner's plan in place of the exact one." } else { "" };
+        format!("{}\n{}: {}.\n{}{coarse}\n{STATUS}\n", self.usage(), self.name, self.does, self.more)
+    }
+}
+
+/// What `lamp --help` prints.
+pub fn whole() -> String {
+    let width = COMMANDS.iter().map(|command| command.form().len()).max().unwrap_or(0);
+    let mut out = String::from("lamp: the examiner's tool over the proved planner\n\n");
+    COMMANDS.iter().for_each(|command| out += &format!("  {:<width$}  {}\n", command.form(), command.does));
+    out += &format!("\nlamp COMMAND --help says more; lamp --version prints the release.\n{A_CARD}\n{STATUS}\n");
+    out
+}

@@ -1,0 +1,54 @@
+//! Output that is written whole or not taken for written.
+//!
+//! The standard library takes a closed standard output for one that swallows all, and the usual start of a Rust program opens the null
+//! device in its place. A key would then be lost and the status 0. So the program starts without it, and writes to the file
+//! descriptor itself.
+use std::fs::File;
+use std::io::{self, Read, Write};
+use std::mem::ManuallyDrop;
+use std::os::fd::FromRawFd;
+
+extern "C" {
+    fn signal(number: i32, handler: usize) -> usize;
+}
+
+/// A write to a pipe that nobody reads is then an error, and does not end the process.
+pub fn keep_on_broken_pipe() {
+    const SIGPIPE: i32 = 13;
+    const SIG_IGN: usize = 1;
+    unsafe { signal(SIGPIPE, SIG_IGN) };
+}
+
+/// A standard stream by its number, which is not closed afterwards.
+fn stream(number: i32) -> ManuallyDrop<File> {
+    ManuallyDrop::new(unsafe { File::from_raw_fd(number) })
+}
+
+/// Standard input.
+pub fn standard_input() -> impl Read {
+    struct Input(ManuallyDrop<File>);
+    impl Read for Input {
+        fn read(&mut self, buffer: &mut [u8]) -> io::Result<usize> {
+            self.0.read(buffer)
+        }
+    }
+    Input(stream(0))
+}
+
+/// Writes all bytes to standard output. A file is also brought to its disk, since some file systems tell only then that they are full.
+pub fn write_whole(bytes: &[u8]) -> io::Result<()> {
+    if bytes.is_empty() {
+        return Ok(());
+    }
+    let mut out = stream(1);
+    out.write_all(bytes)?;
+    if out.metadata()?.is_file() {
+        out.sync_all()?;
+    }
+    Ok(())
+}
+
+/// Writes a message to standard error, as far as that is possible.
+pub fn complain(message: &str) {
+    let _ = stream(2).write_all(message.as_bytes());
+}

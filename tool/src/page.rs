@@ -1,0 +1,113 @@
+//! The key as it is printed before the sitting: one file of HTML that is well-formed XML too, without script or outside reference.
+use crate::listing;
+use crate::markup::escaped;
+use crate::picture;
+use crate::planning::Planned;
+use crate::show_text;
+use crate::words::grouped;
+
+/// How many modules stand on a line of the sheet.
+const MODULES_ON_A_LINE: usize = 25;
+/// How many counts stand on a line of the plan.
+const COUNTS_ON_A_LINE: usize = 20;
+
+const NO_SLOT: &str = "<p>The show has no slot.</p>\n";
+
+const STYLE: &str = "\
+@page { size: A4; margin: 14mm; @bottom-right { content: counter(page) \" of \" counter(pages); font: 9pt sans-serif; } }
+body { font: 10pt sans-serif; color: #000; background: #fff; margin: 1em; }
+h1 { font-size: 18pt; margin: 0 0 2mm 0; }
+h2 { font-size: 12pt; margin: 5mm 0 2mm 0; break-after: avoid; }
+p { margin: 2mm 0; }
+pre { font: 9pt monospace; margin: 0; white-space: pre-wrap; }
+svg { max-width: 100%; height: auto; }
+figure { margin: 0; break-inside: avoid; }
+table { border-collapse: collapse; font-size: 7.5pt; }
+th, td { border: 0.2mm solid #999; padding: 0.4mm 0.8mm; text-align: right; min-width: 3.6mm; }
+thead { display: table-header-group; }
+tr, .sheet tbody { break-inside: avoid; }
+.sheet tbody { border-top: 0.6mm solid #000; }
+th { font-weight: normal; background: #eee; white-space: nowrap; }
+@media print { body { margin: 0; } }
+";
+
+/// The page of a plan on a card of this name.
+pub fn write(planned: &Planned, name: &str) -> String {
+    let (heading, name_text) = (escaped(&picture::heading(planned)), escaped(name));
+    let mut out = format!(
+        "<!DOCTYPE html>\n<html xmlns=\"http://www.w3.org/1999/xhtml\" lang=\"en\">\n<head>\n<meta charset=\"utf-8\"/>\n\
+         <title>{heading}: {name_text}</title>\n<style>\n{STYLE}</style>\n</head>\n<body>\n"
+    );
+    out += &format!("<h1>{heading}</h1>\n<p>{name_text}: {}.</p>\n", escaped(&planned.show.summary()));
+    out += &format!("<p>{}.</p>\n", escaped(planned.planner.promise()));
+    out += &format!("<h2>Show</h2>\n<pre>{}</pre>\n", escaped(&show_text::write(&planned.show)));
+    out += &format!("<h2>Plan</h2>\n{}", plan(planned));
+    out += &format!("<h2>Picture</h2>\n<figure>\n{}</figure>\n", picture::draw(planned, name));
+    out += &format!("<h2>Sheet</h2>\n{}", sheet(planned));
+    out + &format!("<p>lamp {}</p>\n</body>\n</html>\n", env!("CARGO_PKG_VERSION"))
+}
+
+/// A cell of a heading.
+fn th(text: &str) -> String {
+    format!("<th>{text}</th>")
+}
+
+fn td(text: &str) -> String {
+    format!("<td>{text}</td>")
+}
+
+/// The counts, so many a line, each line with the slots that it is about.
+fn plan(planned: &Planned) -> String {
+    if planned.plan.is_empty() {
+        return NO_SLOT.to_string();
+    }
+    let mut out = String::from("<table>\n");
+    for (at, line) in planned.plan.chunks(COUNTS_ON_A_LINE).enumerate() {
+        let first = at * COUNTS_ON_A_LINE + 1;
+        let counts: String = line.iter().map(|count| td(&count.to_string())).collect();
+        out += &format!("<tr>{}{counts}</tr>\n", th(&range("slot", first, first + line.len() - 1)));
+    }
+    out + "</table>\n"
+}
+
+/// A range of numbers from 1 on, such as `slots 21 to 40`.
+fn range(name: &str, first: usize, last: usize) -> String {
+    let (from, to) = (grouped(first as u64), grouped(last as u64));
+    if first == last { format!("{name} {from}") } else { format!("{name}s {from} to {to}") }
+}
+
+/// The sheet: a group of lines for each slot, which no page break divides.
+fn sheet(planned: &Planned) -> String {
+    if planned.plan.is_empty() {
+        return NO_SLOT.to_string();
+    }
+    let modules = usize::from(planned.show.modules);
+    let mut out = format!("<table class=\"sheet\">\n<thead>{}</thead>\n", sheet_heading(modules));
+    let slots = planned.show.rows(&planned.sheet).zip(planned.show.loads.iter().zip(&planned.plan));
+    for (slot, (row, (load, count))) in slots.enumerate() {
+        out += "<tbody>";
+        for (at, line) in row.chunks(MODULES_ON_A_LINE).enumerate() {
+            let facts = [grouped(slot as u64 + 1), grouped(u64::from(*load)), count.to_string()];
+            let facts = if at == 0 { facts } else { Default::default() };
+            out += &sheet_line(facts, modules, at * MODULES_ON_A_LINE, line);
+        }
+        out += "</tbody>\n";
+    }
+    out + "</table>\n"
+}
+
+/// The heading of the sheet, which stands on every page. Where the modules of a slot take more than one line, a column says which they are.
+fn sheet_heading(modules: usize) -> String {
+    let lines = if modules > MODULES_ON_A_LINE { th("modules") } else { String::new() };
+    let numbers: String = (1..=modules.min(MODULES_ON_A_LINE)).map(|module| th(&module.to_string())).collect();
+    format!("<tr>{}{}{}{lines}{numbers}</tr>", th("slot"), th("load"), th("count"))
+}
+
+/// Some modules of a slot, after the slot's number, load and count.
+fn sheet_line(facts: [String; 3], modules: usize, before: usize, line: &[u8]) -> String {
+    let facts: String = facts.iter().map(|fact| th(fact)).collect();
+    let label = format!("{} to {}", before + 1, before + line.len());
+    let label = if modules > MODULES_ON_A_LINE { th(&label) } else { String::new() };
+    let steps: String = line.iter().map(|byte| td(&listing::step(*byte))).collect();
+    format!("<tr>{facts}{label}{steps}</tr>\n")
+}

@@ -1,0 +1,280 @@
+//! The plan as a picture (SVG): slots across, modules down, a cell shaded by its step; above it the loads and the counts as lines.
+use crate::listing;
+use crate::markup::escaped;
+use crate::planning::{Planned, Planner};
+use crate::show::OFF;
+use crate::words::{grouped, several};
+
+/// Sizes in the picture's units, which are pixels at its own size.
+struct Layout {
+    slots: usize,
+    modules: usize,
+    top: usize,
+    cell_width: usize,
+    cell_height: usize,
+}
+
+const LEFT: usize = 64;
+const RIGHT: usize = 64;
+const TITLE: usize = 66;
+const CHART: usize = 110;
+const NUMBERS: usize = 40;
+const LEGEND: usize = 74;
+/// The narrowest picture, so that its title has room.
+const NARROWEST: usize = 720;
+
+impl Layout {
+    fn of(planned: &Planned) -> Self {
+        let (slots, modules) = (planned.show.slots(), usize::from(planned.show.modules));
+        Layout {
+            slots,
+            modules,
+            top: planned.show.top.into(),
+            cell_width: (960 / slots.max(1)).clamp(2, 48),
+            cell_height: (600 / modules.max(1)).clamp(3, 32),
+        }
+    }
+
+    fn grid_width(&self) -> usize {
+        self.slots * self.cell_width
+    }
+
+    fn width(&self) -> usize {
+        (LEFT + self.grid_width() + RIGHT).max(NARROWEST)
+    }
+
+    fn chart_top(&self) -> usize {
+        TITLE
+    }
+
+    fn grid_top(&self) -> usize {
+        TITLE + CHART + NUMBERS
+    }
+
+    fn grid_height(&self) -> usize {
+        self.modules * self.cell_height
+    }
+
+    fn grid_bottom(&self) -> usize {
+        self.grid_top() + self.grid_height()
+    }
+
+    fn height(&self) -> usize {
+        self.grid_bottom() + LEGEND
+    }
+
+    /// The left edge of a slot, counted from 0.
+    fn x(&self, slot: usize) -> usize {
+        LEFT + slot * self.cell_width
+    }
+
+    /// The upper edge of a module, counted from 0.
+    fn y(&self, module: usize) -> usize {
+        self.grid_top() + module * self.cell_height
+    }
+
+    /// The middle of a slot.
+    fn middle(&self, slot: usize) -> usize {
+        self.x(slot) + self.cell_width / 2
+    }
+
+    /// Whether a number fits into a cell.
+    fn has_numbers(&self) -> bool {
+        self.cell_width >= 24 && self.cell_height >= 14
+    }
+}
+
+/// A picture as a file of its own.
+pub fn file(planned: &Planned, name: &str) -> String {
+    format!("<?xml version=\"1.0\" encoding=\"UTF-8\"?>\n{}", draw(planned, name))
+}
+
+/// The picture as an element.
+pub fn draw(planned: &Planned, name: &str) -> String {
+    let layout = Layout::of(planned);
+    let (width, height) = (layout.width(), layout.height());
+    let mut out = format!(
+        "<svg xmlns=\"http://www.w3.org/2000/svg\" width=\"{width}\" height=\"{height}\" viewBox=\"0 0 {width} {height}\" \
+         font-family=\"sans-serif\" font-size=\"11\" fill=\"#000\">\n"
+    );
+    out += &format!("<title>{}</title>\n", escaped(&format!("{}. {name}: {}", heading(planned), planned.show.summary())));
+    out += &format!("<rect width=\"{width}\" height=\"{height}\" fill=\"#fff\"/>\n");
+    out += &titles(planned, name);
+    out += &chart(planned, &layout);
+    out += &cells(planned, &layout);
+    out += &frame(&layout);
+    if layout.has_numbers() {
+        out += &numbers(planned, &layout);
+    }
+    out += &legend(&layout);
+    out + "</svg>\n"
+}
+
+/// The cost, and whose it is.
+pub fn heading(planned: &Planned) -> String {
+    match planned.planner {
+        Planner::Exact => format!("Least cost {}", grouped(planned.cost)),
+        Planner::Coarse => format!("Coarse plan, cost {}", grouped(planned.cost)),
+    }
+}
+
+fn titles(planned: &Planned, name: &str) -> String {
+    let shown: String = name.chars().take(60).collect();
+    let (heading, summary) = (escaped(&heading(planned)), escaped(&planned.show.summary()));
+    format!(
+        "<text x=\"{LEFT}\" y=\"24\" font-size=\"17\" font-weight=\"bold\">{heading}</text>\n\
+         <text x=\"{LEFT}\" y=\"42\" font-size=\"12\">{}</text>\n<text x=\"{LEFT}\" y=\"57\" font-size=\"12\">{summary}</text>\n",
+        escaped(&shown)
+    )
+}
+
+/// A text with its anchor: start, middle or end.
+fn label(x: usize, y: usize, anchor: &str, colour: &str, text: &str) -> String {
+    format!("<text x=\"{x}\" y=\"{y}\" text-anchor=\"{anchor}\" fill=\"{colour}\">{text}</text>\n")
+}
+
+const LOAD_COLOUR: &str = "#b35900";
+const COUNT_COLOUR: &str = "#08306b";
+
+/// Loads and counts over the slots, each from 0 to what the full rack has. A load of all modules at the top step and a count of all
+/// modules are at the same height.
+fn chart(planned: &Planned, layout: &Layout) -> String {
+    let (show, upper) = (&planned.show, layout.chart_top() + 14);
+    let lower = layout.chart_top() + CHART;
+    let (most_load, most_count) = (layout.modules * layout.top, layout.modules);
+    let loads: Vec<usize> = show.loads.iter().map(|load| usize::from(*load)).collect();
+    let counts: Vec<usize> = planned.plan.iter().map(|count| usize::from(*count)).collect();
+    let right = layout.x(layout.slots);
+    let mut out = format!(
+        "<rect x=\"{LEFT}\" y=\"{upper}\" width=\"{}\" height=\"{}\" fill=\"none\" stroke=\"#999\"/>\n",
+        layout.grid_width(),
+        lower - upper
+    );
+    out += &stairs(&loads, most_load, layout, upper, lower, LOAD_COLOUR, "");
+    out += &stairs(&counts, most_count, layout, upper, lower, COUNT_COLOUR, " stroke-dasharray=\"5 3\"");
+    out += &label(LEFT - 6, upper + 9, "end", LOAD_COLOUR, &grouped(most_load as u64));
+    out += &label(LEFT - 6, lower, "end", LOAD_COLOUR, "load 0");
+    out += &label(right + 6, upper + 9, "start", COUNT_COLOUR, &grouped(most_count as u64));
+    out += &label(right + 6, lower, "start", COUNT_COLOUR, "count 0");
+    out
+}
+
+/// A line with a level piece for each slot.
+fn stairs(values: &[usize], most: usize, layout: &Layout, upper: usize, lower: usize, colour: &str, dash: &str) -> String {
+    if values.is_empty() {
+        return String::new();
+    }
+    let height = |value: usize| lower as f64 - (lower - upper) as f64 * value as f64 / most.max(1) as f64;
+    let mut points = String::new();
+    for (slot, value) in values.iter().enumerate() {
+        let y = height(*value);
+        points += &format!("{},{y:.1} {},{y:.1} ", layout.x(slot), layout.x(slot + 1));
+    }
+    format!("<polyline points=\"{}\" fill=\"none\" stroke=\"{colour}\" stroke-width=\"1.5\"{dash}/>\n", points.trim_end())
+}
+
+/// The colour of a step, from light at step 0 to dark at the top step. A module that is off is white.
+fn shade(step: usize, top: usize) -> String {
+    const LIGHT: [usize; 3] = [214, 230, 244];
+    const DARK: [usize; 3] = [8, 48, 107];
+    let part = |at: usize| (LIGHT[at] * (top - step.min(top)) + DARK[at] * step.min(top)) / top.max(1);
+    format!("#{:02x}{:02x}{:02x}", part(0), part(1), part(2))
+}
+
+/// The active modules of each slot, with one rectangle for neighbours at the same step.
+fn cells(planned: &Planned, layout: &Layout) -> String {
+    let mut out = String::from("<g shape-rendering=\"crispEdges\">\n");
+    for (slot, row) in planned.show.rows(&planned.sheet).enumerate() {
+        let mut module = 0;
+        for run in row.chunk_by(|a, b| a == b) {
+            if run[0] != OFF {
+                out += &format!(
+                    "<rect x=\"{}\" y=\"{}\" width=\"{}\" height=\"{}\" fill=\"{}\"/>\n",
+                    layout.x(slot),
+                    layout.y(module),
+                    layout.cell_width,
+                    run.len() * layout.cell_height,
+                    shade(run[0].into(), layout.top)
+                );
+            }
+            module += run.len();
+        }
+    }
+    out + "</g>\n"
+}
+
+/// The smallest of 1, 2, 5, 10, 20, 50, .. by which numbers stand at least so many units apart.
+fn spacing(unit: usize, apart: usize) -> usize {
+    let mut sizes = (0..).flat_map(|power| [1, 2, 5].map(|digit| digit * 10usize.pow(power)));
+    sizes.find(|size| size * unit >= apart).unwrap_or(1)
+}
+
+/// The numbers at an axis, from 1 up to the last.
+fn ticks(most: usize, spacing: usize) -> impl Iterator<Item = usize> {
+    (1..=most).filter(move |number| spacing == 1 || *number == 1 || number % spacing == 0)
+}
+
+/// The grid's frame, its lines where cells are large enough, and the numbers of slots and modules.
+fn frame(layout: &Layout) -> String {
+    let (left, right, upper, lower) = (LEFT, layout.x(layout.slots), layout.grid_top(), layout.grid_bottom());
+    let mut out = String::from("<g shape-rendering=\"crispEdges\" stroke=\"#999\" stroke-width=\"1\">\n");
+    let line = |x1: usize, y1: usize, x2: usize, y2: usize| format!("<line x1=\"{x1}\" y1=\"{y1}\" x2=\"{x2}\" y2=\"{y2}\"/>\n");
+    for slot in (0..=layout.slots).filter(|slot| layout.cell_width >= 6 || *slot == 0 || *slot == layout.slots) {
+        out += &line(layout.x(slot), upper, layout.x(slot), lower);
+    }
+    for module in (0..=layout.modules).filter(|module| layout.cell_height >= 6 || *module == 0 || *module == layout.modules) {
+        out += &line(left, layout.y(module), right, layout.y(module));
+    }
+    out += "</g>\n";
+    for slot in ticks(layout.slots, spacing(layout.cell_width, 44)) {
+        out += &label(layout.middle(slot - 1), lower + 14, "middle", "#000", &grouped(slot as u64));
+    }
+    for module in ticks(layout.modules, spacing(layout.cell_height, 13)) {
+        let y = layout.y(module - 1) + layout.cell_height / 2 + 4;
+        let name = if module == 1 { "module " } else { "" };
+        out += &label(left - 6, y, "end", "#000", &format!("{name}{module}"));
+    }
+    out + &label(left - 6, lower + 14, "end", "#000", "slot")
+}
+
+/// Each cell's step, and each slot's load and count above it.
+fn numbers(planned: &Planned, layout: &Layout) -> String {
+    let lower = layout.grid_top();
+    let mut out = label(LEFT - 6, lower - 22, "end", LOAD_COLOUR, "load");
+    out += &label(LEFT - 6, lower - 8, "end", COUNT_COLOUR, "count");
+    for (slot, (load, count)) in planned.show.loads.iter().zip(&planned.plan).enumerate() {
+        out += &label(layout.middle(slot), lower - 22, "middle", LOAD_COLOUR, &load.to_string());
+        out += &label(layout.middle(slot), lower - 8, "middle", COUNT_COLOUR, &count.to_string());
+    }
+    for (slot, row) in planned.show.rows(&planned.sheet).enumerate() {
+        for (module, byte) in row.iter().enumerate() {
+            let colour = if *byte != OFF && 2 * usize::from(*byte) > layout.top { "#fff" } else { "#000" };
+            let y = layout.y(module) + layout.cell_height / 2 + 4;
+            out += &label(layout.middle(slot), y, "middle", colour, &listing::step(*byte));
+        }
+    }
+    out
+}
+
+/// What the shades and the lines mean.
+fn legend(layout: &Layout) -> String {
+    let y = layout.grid_bottom() + 30;
+    let shown = (layout.top + 1).min(11);
+    let mut out = swatch(LEFT, y, "#fff", "off");
+    for at in 0..shown {
+        let step = at * layout.top / (shown - 1).max(1);
+        out += &swatch(LEFT + 48 * (at + 1), y, &shade(step, layout.top), &step.to_string());
+    }
+    let text = format!(
+        "Shade: step, 0 to {}. Line: load. Broken line: count. {} down, {} across.",
+        layout.top,
+        several(layout.modules as u64, "module"),
+        several(layout.slots as u64, "slot")
+    );
+    out + &label(LEFT, y + 34, "start", "#000", &text)
+}
+
+fn swatch(x: usize, y: usize, colour: &str, text: &str) -> String {
+    let rect = format!("<rect x=\"{x}\" y=\"{y}\" width=\"14\" height=\"14\" fill=\"{colour}\" stroke=\"#999\"/>\n");
+    rect + &label(x + 17, y + 11, "start", "#000", text)
+}

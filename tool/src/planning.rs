@@ -1,0 +1,60 @@
+//! Plans with areas as large as asked for.
+use crate::calls::{self, Answer};
+use crate::refusal::Refusal;
+use crate::show::Show;
+
+#[derive(Clone, Copy, Debug, PartialEq, Eq)]
+pub enum Planner {
+    Exact,
+    Coarse,
+}
+
+impl Planner {
+    /// The work bytes that the planner asks for.
+    pub fn work_bytes(self, modules: usize, slots: usize) -> usize {
+        match self {
+            Planner::Exact => (modules + 1) * slots,
+            Planner::Coarse => 10 * slots,
+        }
+    }
+
+    /// The planner's call.
+    pub fn plan(self, card: &[u8], plan: &mut [u8], work: &mut [u8]) -> Answer {
+        match self {
+            Planner::Exact => calls::plan_exact(card, plan, work),
+            Planner::Coarse => calls::plan_coarse(card, plan, work),
+        }
+    }
+
+    /// What the planner's cost is.
+    pub fn promise(self) -> &'static str {
+        match self {
+            Planner::Exact => "exact plan: no sheet that serves the show costs less",
+            Planner::Coarse => "coarse plan: at most twice the least cost, NOT the key of the exact plan",
+        }
+    }
+}
+
+/// An accepted show with a planner's cost, plan and sheet.
+#[derive(Clone, Debug)]
+pub struct Planned {
+    pub planner: Planner,
+    pub show: Show,
+    pub cost: u64,
+    pub plan: Vec<u8>,
+    pub sheet: Vec<u8>,
+}
+
+/// Plans a card. The sheet is made from the plan and marked, and both have to cost what the planner named: the library's contract
+/// says so, and a machine on which it does not hold must not print a key.
+pub fn plan(planner: Planner, card: &[u8]) -> Result<Planned, Refusal> {
+    calls::check_card(card)?;
+    let show = Show::read(card).expect("an accepted card has a readable length");
+    let (modules, slots) = (usize::from(show.modules), show.slots());
+    let (mut plan, mut work) = (vec![0; slots], vec![0; planner.work_bytes(modules, slots)]);
+    let mut sheet = vec![0; modules * slots];
+    let cost = planner.plan(card, &mut plan, &mut work)?;
+    let (made, marked) = (calls::sheet(card, &plan, &mut sheet), calls::mark(card, &sheet));
+    assert_eq!((made, marked), (Ok(cost), Ok(cost)), "the sheet does not cost what the planner named");
+    Ok(Planned { planner, show, cost, plan, sheet })
+}

@@ -1,0 +1,240 @@
+//! A show as text: fields by name, each at the start of a line, in any order, with decimal numbers. A list goes on over the lines of
+//! numbers that follow it. `#` begins a comment.
+use crate::show::{Show, VERSION};
+use crate::typed::{self, NoNumber, Place, TextError, Word};
+use crate::words::{grouped, listed, several};
+
+/// The fields of a show's text.
+#[derive(Clone, Copy, Debug, PartialEq, Eq)]
+pub enum Field {
+    Modules,
+    Top,
+    WarmUp,
+    CoolDown,
+    Table,
+    Loads,
+}
+
+impl Field {
+    /// In the order in which they are written.
+    pub const ALL: [Field; 6] = [Field::Modules, Field::Top, Field::WarmUp, Field::CoolDown, Field::Table, Field::Loads];
+
+    pub fn name(self) -> &'static str {
+        match self {
+            Field::Modules => "modules",
+            Field::Top => "top",
+            Field::WarmUp => "warm-up",
+            Field::CoolDown => "cool-down",
+            Field::Table => "table",
+            Field::Loads => "loads",
+        }
+    }
+
+    pub fn named(name: &str) -> Option<Field> {
+        Field::ALL.into_iter().find(|field| field.name() == name)
+    }
+
+    fn is_list(self) -> bool {
+        matches!(self, Field::Table | Field::Loads)
+    }
+
+    /// The bytes of each of its numbers in a card.
+    fn bytes(self) -> u32 {
+        match self {
+            Field::Modules | Field::Top => 1,
+            Field::WarmUp | Field::CoolDown | Field::Table => 4,
+            Field::Loads => 2,
+        }
+    }
+}
+
+/// A field as it was typed: where its name stands, and its numbers with their places.
+#[derive(Clone, Debug)]
+struct Typed {
+    name: Place,
+    numbers: Vec<(u64, Place)>,
+}
+
+/// The fields typed so far.
+type Fields = [Option<Typed>; 6];
+
+/// A show with the places of its fields in the text.
+#[derive(Clone, Debug)]
+pub struct ShowText {
+    pub show: Show,
+    fields: [Typed; 6],
+}
+
+impl ShowText {
+    /// Where a field's number stands, or its name where it has no such number.
+    pub fn place(&self, field: Field, index: usize) -> Place {
+        let typed = &self.fields[field as usize];
+        typed.numbers.get(index).map_or(typed.name, |(_, place)| *place)
+    }
+}
+
+/// Reads a show from its text.
+pub fn read(text: &str) -> Result<ShowText, TextError> {
+    let mut fields: Fields = Default::default();
+    let mut last = None;
+    for words in typed::lines(text) {
+        let numbers = match Field::named(words[0].text) {
+            Some(field) => {
+                begin(&mut fields, field, &words[0])?;
+                last = Some(field);
+                &words[1..]
+            }
+            None => &words[..],
+        };
+        match last {
+            Some(field) if words.len() > numbers.len() || field.is_list() => add(&mut fields, field, numbers)?,
+            _ => return stray(&words[0], last),
+        }
+        one_number(&fields, last, &words[0])?;
+    }
+    whole(fields, typed::end(text))
+}
+
+/// Notes that a field begins here.
+fn begin(fields: &mut Fields, field: Field, word: &Word) -> Result<(), TextError> {
+    if let Some(first) = &fields[field as usize] {
+        return word.error(format!("a second {}; the first is in line {}", field.name(), first.name.line));
+    }
+    fields[field as usize] = Some(Typed { name: word.place, numbers: Vec::new() });
+    Ok(())
+}
+
+/// A line that begins neither with a field's name nor goes on with a list.
+fn stray<T>(word: &Word, last: Option<Field>) -> Result<T, TextError> {
+    if !word.is_number() {
+        return word.error(no_field(word));
+    }
+    match last {
+        Some(field) => word.error(format!("a second number for {}, which has one", field.name())),
+        None => word.error("a number before the first field's name"),
+    }
+}
+
+fn no_field(word: &Word) -> String {
+    format!("{} is no field; the fields are modules, top, warm-up, cool-down, table and loads", word.quoted())
+}
+
+/// Adds numbers to a field.
+fn add(fields: &mut Fields, field: Field, words: &[Word]) -> Result<(), TextError> {
+    let most = (1u64 << (8 * field.bytes())) - 1;
+    for word in words {
+        let number = match word.number(most) {
+            Ok(number) => number,
+            Err(NoNumber::TooLarge) => return too_large(word, field, most),
+            Err(NoNumber::NotDigits) => return not_digits(word),
+        };
+        if let Some(typed) = &mut fields[field as usize] {
+            typed.numbers.push((number, word.place));
+        }
+    }
+    Ok(())
+}
+
+fn too_large<T>(word: &Word, field: Field, most: u64) -> Result<T, TextError> {
+    let bytes = several(field.bytes().into(), "byte");
+    word.error(format!("{} is too large: a number of {} has {bytes}, at most {}", word.quoted(), field.name(), grouped(most)))
+}
+
+fn not_digits<T>(word: &Word) -> Result<T, TextError> {
+    if Field::named(word.text).is_some() {
+        return word.error(format!("{} stands inside a line; each field begins a line of its own", word.quoted()));
+    }
+    if word.text.starts_with(|letter: char| letter.is_alphabetic()) {
+        return word.error(no_field(word));
+    }
+    word.error(format!("{} is not a number: digits alone, with blanks between numbers", word.quoted()))
+}
+
+/// A field that is no list has just one number.
+fn one_number(fields: &Fields, field: Option<Field>, name: &Word) -> Result<(), TextError> {
+    let Some(field) = field.filter(|field| !field.is_list()) else { return Ok(()) };
+    let Some(typed) = &fields[field as usize] else { return Ok(()) };
+    match typed.numbers.len() {
+        0 => name.error(format!("{} has no number", field.name())),
+        1 => Ok(()),
+        _ => Err(TextError { place: typed.numbers[1].1, message: format!("a second number for {}, which has one", field.name()) }),
+    }
+}
+
+/// The show, if every field is there and the table has an entry for each step.
+fn whole(fields: Fields, end: Place) -> Result<ShowText, TextError> {
+    let missing: Vec<&str> = Field::ALL.into_iter().filter(|f| fields[*f as usize].is_none()).map(Field::name).collect();
+    if !missing.is_empty() {
+        return Err(TextError { place: end, message: format!("the text ends without {}", missing.join(", ")) });
+    }
+    let fields = fields.map(|field| field.expect("no field is missing"));
+    let [modules, top, warm_up, cool_down, table, loads] = &fields;
+    table_size(table, top.numbers[0].0)?;
+    if let Some((_, place)) = loads.numbers.get(usize::from(u16::MAX)) {
+        return Err(TextError { place: *place, message: "too many loads: the slots have 2 bytes".to_string() });
+    }
+    let show = Show {
+        modules: modules.numbers[0].0 as u8,
+        top: top.numbers[0].0 as u8,
+        warm_up: warm_up.numbers[0].0 as u32,
+        cool_down: cool_down.numbers[0].0 as u32,
+        table: table.numbers.iter().map(|(entry, _)| *entry as u32).collect(),
+        loads: loads.numbers.iter().map(|(load, _)| *load as u16).collect(),
+    };
+    Ok(ShowText { show, fields })
+}
+
+fn table_size(table: &Typed, top: u64) -> Result<(), TextError> {
+    let (found, asked) = (table.numbers.len() as u64, top + 1);
+    if found == asked {
+        return Ok(());
+    }
+    let at = if found > asked { table.numbers.get(asked as usize) } else { table.numbers.last() };
+    let place = at.map_or(table.name, |(_, place)| *place);
+    let message = format!("the table has {}, and top {top} asks for {}, F(0) to F({top})", entries(found), grouped(asked));
+    Err(TextError { place, message })
+}
+
+fn entries(number: u64) -> String {
+    if number == 1 { "1 entry".to_string() } else { format!("{} entries", grouped(number)) }
+}
+
+/// The text of a show. Reading it gives the same show.
+pub fn write(show: &Show) -> String {
+    let mut out = format!("# show card, version {VERSION}, {}\n", several(show.slots() as u64, "slot"));
+    out += &format!("modules {}\n", show.modules);
+    out += &format!("top {}\n", show.top);
+    out += &format!("warm-up {}\n", show.warm_up);
+    out += &format!("cool-down {}\n", show.cool_down);
+    out += &list("table", &show.table, entry_range);
+    out += &list("loads", &show.loads, slot_range);
+    out
+}
+
+fn entry_range(first: usize, last: usize) -> String {
+    if first == last { format!("F({first})") } else { format!("F({first}) to F({last})") }
+}
+
+fn slot_range(first: usize, last: usize) -> String {
+    if first == last { format!("slot {}", first + 1) } else { format!("slots {} to {}", first + 1, last + 1) }
+}
+
+/// How many numbers of a list stand on a line.
+const ON_A_LINE: usize = 10;
+
+/// A list on one line, or ten numbers a line with a comment that says which they are.
+fn list<T: ToString>(name: &str, numbers: &[T], range: fn(usize, usize) -> String) -> String {
+    if numbers.len() <= ON_A_LINE {
+        return format!("{name} {}", listed(numbers.iter().map(T::to_string))).trim_end().to_string() + "\n";
+    }
+    let width = numbers.iter().map(|number| number.to_string().len()).max().unwrap_or(0);
+    let mut out = String::new();
+    for (at, line) in numbers.chunks(ON_A_LINE).enumerate() {
+        let first = at * ON_A_LINE;
+        let padded = line.iter().map(|number| format!("{:>width$}", number.to_string()));
+        let shown = format!("{} {}", if at == 0 { name } else { "     " }, listed(padded));
+        let full = name.len() + ON_A_LINE * (width + 1);
+        out += &format!("{shown:<full$}  # {}\n", range(first, first + line.len() - 1));
+    }
+    out
+}
