@@ -1,7 +1,8 @@
-//! The calls as include/lamp.h declares them, behind safe functions. A call that is lent buffers returns them with its answer.
+//! The calls of the safe binding with their whole outcome: a call that is lent buffers returns them with its answer.
+use lamp::calls;
+pub use lamp::planning::Planner;
 
-/// What every call returns.
-#[repr(C)]
+/// A number and a cost, as C has them.
 #[derive(Clone, Copy, Debug, PartialEq, Eq)]
 pub struct Answer {
     pub number: u64,
@@ -15,6 +16,15 @@ impl Answer {
 
     pub fn refused(number: u64) -> Self {
         Answer { number, cost: 0 }
+    }
+}
+
+impl From<calls::Answer> for Answer {
+    fn from(given: calls::Answer) -> Self {
+        match given {
+            Ok(cost) => Answer::cost(cost),
+            Err(refusal) => Answer::refused(refusal.number()),
+        }
     }
 }
 
@@ -41,79 +51,30 @@ pub fn difference(found: &Outcome, expected: &Outcome) -> Result<(), String> {
     Ok(())
 }
 
-mod raw {
-    use super::Answer;
-
-    extern "C" {
-        pub fn lamp_check_card(card: *const u8, card_len: usize) -> Answer;
-        pub fn lamp_running_cost(card: *const u8, card_len: usize, count: u64, load: u64) -> Answer;
-        pub fn lamp_rounded_count(count: u64, modules: u64) -> Answer;
-        pub fn lamp_sheet(
-            card: *const u8,
-            card_len: usize,
-            plan: *const u8,
-            plan_len: usize,
-            sheet: *mut u8,
-            sheet_len: usize,
-        ) -> Answer;
-        pub fn lamp_mark(card: *const u8, card_len: usize, sheet: *const u8, sheet_len: usize) -> Answer;
-        pub fn lamp_plan_exact(
-            card: *const u8,
-            card_len: usize,
-            plan: *mut u8,
-            plan_len: usize,
-            work: *mut u8,
-            work_len: usize,
-        ) -> Answer;
-        pub fn lamp_plan_coarse(
-            card: *const u8,
-            card_len: usize,
-            plan: *mut u8,
-            plan_len: usize,
-            work: *mut u8,
-            work_len: usize,
-        ) -> Answer;
-    }
-}
-
 pub fn check_card(card: &[u8]) -> Answer {
-    unsafe { raw::lamp_check_card(card.as_ptr(), card.len()) }
+    calls::check_card(card).into()
 }
 
 pub fn running_cost(card: &[u8], count: u64, load: u64) -> Answer {
-    unsafe { raw::lamp_running_cost(card.as_ptr(), card.len(), count, load) }
+    calls::running_cost(card, count, load).into()
 }
 
 pub fn rounded_count(count: u64, modules: u64) -> Answer {
-    unsafe { raw::lamp_rounded_count(count, modules) }
+    calls::rounded_count(count, modules).into()
+}
+
+pub fn mark(card: &[u8], sheet: &[u8]) -> Answer {
+    calls::mark(card, sheet).into()
 }
 
 pub fn sheet(card: &[u8], plan: &[u8], sheet: &[u8]) -> Outcome {
     let mut lent = sheet.to_vec();
-    let answer =
-        unsafe { raw::lamp_sheet(card.as_ptr(), card.len(), plan.as_ptr(), plan.len(), lent.as_mut_ptr(), lent.len()) };
+    let answer = calls::sheet(card, plan, &mut lent).into();
     Outcome { answer, buffers: vec![lent] }
-}
-
-pub fn mark(card: &[u8], sheet: &[u8]) -> Answer {
-    unsafe { raw::lamp_mark(card.as_ptr(), card.len(), sheet.as_ptr(), sheet.len()) }
-}
-
-/// Which of the two planners.
-#[derive(Clone, Copy, Debug, PartialEq, Eq)]
-pub enum Planner {
-    Exact,
-    Coarse,
 }
 
 pub fn plan(planner: Planner, card: &[u8], plan: &[u8], work: &[u8]) -> Outcome {
     let (mut plan, mut work) = (plan.to_vec(), work.to_vec());
-    let call = match planner {
-        Planner::Exact => raw::lamp_plan_exact,
-        Planner::Coarse => raw::lamp_plan_coarse,
-    };
-    let answer = unsafe {
-        call(card.as_ptr(), card.len(), plan.as_mut_ptr(), plan.len(), work.as_mut_ptr(), work.len())
-    };
+    let answer = planner.plan(card, &mut plan, &mut work).into();
     Outcome { answer, buffers: vec![plan, work] }
 }

@@ -1,0 +1,25 @@
+//! Calls that run at the same time on one card and on areas of their own.
+use lamp::planning::{self, Planner};
+use lamp_tests::random::Random;
+use lamp_tests::shows;
+use std::thread;
+
+#[test]
+fn a_card_is_shared() {
+    let mut random = Random::new(111);
+    let cards: Vec<Vec<u8>> = (0..12).map(|_| shows::card(&mut random, 150, 60, 200, 90).bytes()).collect();
+    let plan = |card: &[u8]| {
+        let both = [Planner::Exact, Planner::Coarse].map(|planner| planning::plan(planner, card));
+        both.map(|planned| planned.map(|planned| (planned.cost, planned.plan, planned.sheet)))
+    };
+    let alone: Vec<_> = cards.iter().map(|card| plan(card)).collect();
+    thread::scope(|scope| {
+        for _ in 0..4 {
+            scope.spawn(|| {
+                for _ in 0..10 {
+                    assert!(cards.iter().map(|card| plan(card)).eq(alone.iter().cloned()));
+                }
+            });
+        }
+    });
+}

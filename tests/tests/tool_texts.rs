@@ -1,0 +1,299 @@
+//! The tool's texts: cards read back, shows and sheets typed, and the places of a refusal.
+use lamp::faults;
+use lamp::refusal::Refusal;
+use lamp::sheet_text;
+use lamp::show::Show;
+use lamp::show_text;
+use lamp_tests::boundary::{check_card, mark};
+use lamp_tests::cards::{card_a, largest, small, Card};
+use lamp_tests::classes::Classes;
+use lamp_tests::plain::{self, OFF};
+use lamp_tests::random::Random;
+use lamp_tests::shows;
+
+/// A card of any size, mostly a small one.
+fn any_card(random: &mut Random) -> Card {
+    let (modules, top, slots) = (1 + random.below(200), 1 + random.below(200), random.below(1_025));
+    let small = (1 + random.below(9), 1 + random.below(5), random.below(14));
+    let (modules, top, slots) = if random.below(10) == 0 { (modules, top, slots) } else { small };
+    shows::card(random, modules, top, slots, 90)
+}
+
+/// The card that the text of `lamp show` makes.
+fn read_back(card: &[u8]) -> Vec<u8> {
+    let text = show_text::write(&Show::read(card).unwrap());
+    show_text::read(&text).unwrap_or_else(|error| panic!("{error} in {text}")).show.card()
+}
+
+#[test]
+fn cards_read_back() {
+    let mut classes = Classes::new("cards read back (seed 91)", &shows::ALL_CLASSES);
+    let mut random = Random::new(91);
+    for _ in 0..20_000 {
+        let card = any_card(&mut random);
+        let show = Show::read(&card.bytes()).unwrap();
+        let fields = (show.modules, show.top, show.warm_up, show.cool_down, &show.table, &show.loads);
+        assert_eq!(fields, (card.modules, card.top, card.up, card.down, &card.table, &card.loads));
+        assert_eq!(read_back(&card.bytes()), card.bytes());
+        shows::classes(&card).into_iter().for_each(|name| classes.see(name));
+    }
+    classes.require_all();
+    assert_eq!(read_back(&largest(40_000).bytes()), largest(40_000).bytes());
+}
+
+/// A refused card is read back as far as its length allows, and its text makes the same refused card.
+#[test]
+fn refused_cards_read_back() {
+    let mut classes = Classes::new("refused cards read back (seed 92)", &["1", "2", "3", "4", "5", "6", "7", "8"]);
+    let mut random = Random::new(92);
+    for _ in 0..20_000 {
+        let card = any_card(&mut random);
+        let bytes = shows::damaged(&mut random, &card);
+        let number = check_card(&bytes).number;
+        match Show::read(&bytes) {
+            Some(_) => assert_eq!(read_back(&bytes), bytes),
+            None => assert!([1, 2, 3, 4, 5].contains(&number), "{number}: {bytes:?}"),
+        }
+        if number != 0 {
+            classes.see(&number.to_string());
+        }
+    }
+    classes.require_all();
+}
+
+/// All one-digit typing errors in example A's hex text: 403 of them make another accepted card, and each of these is read back as
+/// another show, so that whoever reads the show over sees it.
+#[test]
+fn typing_errors_are_seen() {
+    let text = show_text::write(&Show::read(&card_a()).unwrap());
+    let (mut tried, mut accepted) = (0, 0);
+    for place in 0..card_a().len() {
+        for change in (1..16u8).flat_map(|digit| [digit, digit << 4]) {
+            let mut card = card_a();
+            card[place] ^= change;
+            tried += 1;
+            if check_card(&card).number == 0 {
+                accepted += 1;
+                assert_ne!(show_text::write(&Show::read(&card).unwrap()), text);
+            }
+        }
+    }
+    assert_eq!((tried, accepted), (1_050, 403));
+}
+
+/// The same show however it is typed: fields in any order, lists over several lines, comments, tabs, other ends of line.
+#[test]
+fn shows_typed_in_many_ways() {
+    let mut random = Random::new(93);
+    for _ in 0..5_000 {
+        let card = any_card(&mut random);
+        let list = |random: &mut Random, numbers: Vec<String>| {
+            let gaps = [" ", "  ", "\t", "\n", "\r\n", " # some\n", "\n\n   "];
+            numbers.into_iter().fold(String::new(), |text, number| text + random.pick(&gaps) + &number)
+        };
+        let entries = card.table.iter().map(u32::to_string).collect();
+        let loads = card.loads.iter().map(|load| format!("{load:0>5}")).collect();
+        let mut fields = vec![
+            format!("modules {}", card.modules),
+            format!("top\t{}", card.top),
+            format!("  warm-up {} # points", card.up),
+            format!("cool-down {}", card.down),
+            format!("table{}", list(&mut random, entries)),
+            format!("loads{}", list(&mut random, loads)),
+        ];
+        for at in (1..fields.len()).rev() {
+            fields.swap(at, random.below(at as u64 + 1) as usize);
+        }
+        let text = fields.join(random.pick(&["\n", "\r\n", "\n# a comment with loads 1 2 3\n", " \n\n"]));
+        let found = show_text::read(&text).unwrap_or_else(|error| panic!("{error} in {text:?}"));
+        assert_eq!(found.show.card(), card.bytes(), "{text:?}");
+    }
+}
+
+const A: &str = "modules 3\ntop 2\nwarm-up 3\ncool-down 2\ntable 1 2 4\nloads 6 0 2\n";
+
+/// Each wrong text is told with its line and column.
+#[test]
+fn wrong_shows_are_told() {
+    let wrong = |from: &str, to: &str, line: usize, column: usize, words: &str| {
+        let text = A.replacen(from, to, 1);
+        assert_ne!(text, A);
+        let error = show_text::read(&text).expect_err(&text);
+        assert_eq!((error.place.line, error.place.column), (line, column), "{error} in {text:?}");
+        assert!(error.message.contains(words), "{error}, and not {words}");
+    };
+    assert_eq!(show_text::read(A).unwrap().show.card(), card_a());
+    wrong("modules 3\n", "", 6, 1, "ends without modules");
+    wrong("loads 6 0 2\n", "", 6, 1, "ends without loads");
+    wrong("loads", "#loads", 7, 1, "ends without loads");
+    wrong("top 2", "top 2\ntop 2", 3, 1, "a second top; the first is in line 2");
+    wrong("top 2", "Top 2", 2, 1, "'Top' is no field");
+    wrong("loads", "lodas", 6, 1, "'lodas' is no field");
+    wrong("top 2", "top: 2", 2, 1, "'top:' is no field");
+    wrong("modules 3\n", "3\nmodules 3\n", 1, 1, "before the first field");
+    wrong("modules 3", "modules 256", 1, 9, "too large: a number of modules has 1 byte, at most 255");
+    wrong("top 2", "top 99999999999999999999999", 2, 5, "too large");
+    wrong("warm-up 3", "warm-up 4294967296", 3, 9, "at most 4,294,967,295");
+    wrong("loads 6 0 2", "loads 6 0\n  65536", 7, 3, "at most 65,535");
+    wrong("table 1 2 4", "table 1 2 4 4294967296", 5, 13, "too large");
+    wrong("table 1 2 4", "table 1 2", 5, 9, "the table has 2 entries, and top 2 asks for 3, F(0) to F(2)");
+    wrong("table 1 2 4", "table 1 2 4 7", 5, 13, "the table has 4 entries");
+    wrong("table 1 2 4", "table", 5, 1, "the table has 0 entries");
+    wrong("warm-up 3", "warm-up", 3, 1, "warm-up has no number");
+    wrong("warm-up 3", "warm-up 3 4", 3, 11, "a second number for warm-up");
+    wrong("warm-up 3", "warm-up 3\n4", 4, 1, "a second number for warm-up");
+    wrong("warm-up 3", "warm-up 3 points", 3, 11, "'points' is no field");
+    wrong("warm-up 3\n", "warm-up 3 ", 3, 11, "'cool-down' stands inside a line");
+    wrong("warm-up 3", "warm-up 1,000", 3, 9, "'1,000' is not a number");
+    wrong("warm-up 3", "warm-up -3", 3, 9, "'-3' is not a number");
+    wrong("warm-up 3", "warm-up +3", 3, 9, "'+3' is not a number");
+    wrong("warm-up 3", "warm-up 3.5", 3, 9, "'3.5' is not a number");
+    wrong("warm-up 3", "warm-up 0x3", 3, 9, "'0x3' is not a number");
+    wrong("warm-up 3", "warm-up \u{664}", 3, 9, "is not a number");
+    wrong("loads 6", "loads 6\u{1b}", 6, 7, "'6\\u{1b}' is not a number");
+    wrong("loads 6", "loads \u{e9}\u{e9} 6", 6, 7, "is no field");
+}
+
+/// The places of a refusal are those that document 01 names, and there is at least one for every refused card.
+#[test]
+fn places_of_refusals() {
+    let told = |card: &[u8]| {
+        let refusal = Refusal::of_number(check_card(card).number).unwrap();
+        faults::of_card(refusal, card).into_iter().map(|fault| fault.text).collect::<Vec<_>>().join("; ")
+    };
+    let a = || small(3, &[1, 2, 4], &[6, 0, 2]);
+    let with = |place: usize, byte: u8| {
+        let mut bytes = a().bytes();
+        bytes[place] = byte;
+        bytes
+    };
+    assert_eq!(told(&a().bytes()[..16]), "16 bytes");
+    assert_eq!(told(&[]), "0 bytes");
+    assert_eq!(told(&with(2, b'X')), "35 bytes, beginning with 44 4C 58 and not with 44 4C 53 (DLS)");
+    assert_eq!(told(&with(4, 1)), "version 257");
+    assert_eq!(told(&Card { modules: 0, top: 201, table: vec![0; 202], ..a() }.bytes()), "modules 0; top 201");
+    assert_eq!(told(&Card { loads: vec![0; 1_025], ..a() }.bytes()), "1,025 slots");
+    assert_eq!(told(&a().bytes()[..34]), "34 bytes where top 2 and 3 slots make 35");
+    let dear = Card { up: 500_000_001, down: 500_000_000, table: vec![1, 1_000_001, 2_000_001], ..a() };
+    assert_eq!(told(&dear.bytes()), "warm-up 500,000,001, above 500,000,000; F(1) 1,000,001, above 1,000,000; F(2) 2,000,001, above 1,000,000");
+    assert_eq!(told(&small(3, &[0, 2, 3, 9, 9], &[1]).bytes()), "F(0), F(1), F(2): 0 + 3 is below 2 times 2; F(2), F(3), F(4): 3 + 9 is below 2 times 9");
+    assert_eq!(told(&small(3, &[1, 2, 4], &[6, 7, 0, 9]).bytes()), "slot 2: load 7, above 6, 3 times 2; slot 4: load 9, above 6, 3 times 2");
+    let falling = faults::of_card(Refusal::NotMonotone, &small(2, &[5, 1, 9], &[2]).bytes());
+    assert_eq!(falling[0].text, "F(1) 1 is below F(0) 5");
+
+    let mut random = Random::new(94);
+    for _ in 0..50_000 {
+        let card = any_card(&mut random);
+        let mut bytes = shows::damaged(&mut random, &card);
+        if random.below(2) == 0 && !bytes.is_empty() {
+            let place = random.below(bytes.len() as u64) as usize;
+            bytes[place] = random.below(256) as u8;
+        }
+        if check_card(&bytes).number != 0 {
+            assert!(!told(&bytes).is_empty(), "{bytes:?}");
+        }
+    }
+}
+
+/// A sheet's lines as they are typed, sometimes with the labels of a listing.
+fn typed(random: &mut Random, rows: &[Vec<u8>]) -> String {
+    let labelled = random.below(2) == 0;
+    let mut out = if labelled { "cost 9\nplan 1 2\n".to_string() } else { "# a sheet\n".to_string() };
+    for (slot, row) in rows.iter().enumerate() {
+        let steps: Vec<String> = row.iter().map(|step| if *step == OFF { "-".to_string() } else { step.to_string() }).collect();
+        let label = if labelled { format!("slot {}: ", slot + 1) } else { String::new() };
+        out += &format!("{label}{}{}", steps.join(random.pick(&[" ", "   ", "\t"])), random.pick(&["\n", "\r\n", " # so\n", "\n\n"]));
+    }
+    out
+}
+
+/// Marking a typed sheet is marking its bytes where each line has a step for each module. Else it is refused by 11, however the
+/// steps would fall into slots if they were taken one after the other.
+#[test]
+fn sheets_typed() {
+    let mut classes = Classes::new("sheets typed (seed 95)", &["0", "11", "12", "13", "11 though the steps are as many"]);
+    let mut random = Random::new(95);
+    for _ in 0..30_000 {
+        let (modules, top, slots) = (1 + random.below(4), 1 + random.below(3), random.below(4));
+        let mut rows: Vec<Vec<u8>> = (0..slots)
+            .map(|_| (0..modules).map(|_| if random.below(3) == 0 { OFF } else { random.below(top + 1) as u8 }).collect())
+            .collect();
+        let light = |row: &Vec<u8>| row.iter().filter(|step| **step != OFF).map(|step| u16::from(*step)).sum();
+        let mut card = shows::card(&mut random, modules, top, slots, 50);
+        if random.below(3) != 0 {
+            card.loads = rows.iter().map(light).collect();
+        }
+        match random.below(10) {
+            0 if slots > 1 => {
+                let step = rows[0].pop().unwrap();
+                rows[1].insert(0, step);
+            }
+            1 => rows.push(vec![0; 1 + random.below(5) as usize]),
+            2 if slots > 0 => drop(rows.pop()),
+            3 if slots > 0 => rows[0][0] = 1 + top as u8,
+            4 if slots > 1 => {
+                let next = rows.remove(1);
+                rows[0].extend(next);
+            }
+            _ => {}
+        }
+        rows.retain(|row| !row.is_empty());
+        let text = typed(&mut random, &rows);
+        let sheet = sheet_text::read(&text).unwrap_or_else(|error| panic!("{error} in {text:?}"));
+        let found = mark(&card.bytes(), &sheet.bytes(modules as usize, slots as usize));
+        let even = rows.iter().all(|row| row.len() == modules as usize);
+        let wanted = if even { plain::mark(&card.bytes(), &rows.concat()).number } else { 11 };
+        assert_eq!(found.number, wanted, "{card:?} {text:?}");
+        assert_eq!(sheet.length_fault(modules as usize, slots as usize).is_some(), wanted == 11);
+        classes.see(&found.number.to_string());
+        if !even && rows.concat().len() == (modules * slots) as usize {
+            classes.see("11 though the steps are as many");
+        }
+    }
+    classes.require_all();
+}
+
+#[test]
+fn wrong_sheets_are_told() {
+    let wrong = |text: &str, line: usize, column: usize, words: &str| {
+        let error = sheet_text::read(text).expect_err(text);
+        assert_eq!((error.place.line, error.place.column), (line, column), "{error} in {text:?}");
+        assert!(error.message.contains(words), "{error}, and not {words}");
+    };
+    wrong("2 2 2\n- x -\n", 2, 3, "'x' is not a step: digits, or - for off");
+    wrong("2 2 2\n- \u{2013} -\n", 2, 3, "is not a step");
+    wrong("2 2 255\n", 1, 5, "'255' is too large for a step; a module that is off is typed -");
+    wrong("2 2 -1\n", 1, 5, "'-1' is not a step");
+    wrong("slot 1: 2 2\nslot 3: 2 2\n", 2, 6, "'3:' where slot 2: comes next");
+    wrong("slot 2: 2 2\n", 1, 6, "'2:' where slot 1: comes next");
+    wrong("slot 1 2 2\n", 1, 6, "'1' where slot 1: comes next");
+    wrong("slot 1:\n", 1, 6, "a slot without steps");
+    wrong("slot\n", 1, 1, "a slot without its number");
+    wrong("2 2\ncost 3\n", 2, 1, "'cost' after the first slot");
+    wrong("modules 3\n", 1, 1, "'modules' is not a step");
+}
+
+/// The light of each slot and the entries above the top step, beside the plain rule.
+#[test]
+fn places_in_sheets() {
+    let show = Show::read(&card_a()).unwrap();
+    let texts = |faults: Vec<faults::SheetFault>| faults.into_iter().map(|fault| fault.text).collect::<Vec<_>>();
+    assert_eq!(texts(faults::lights(&show, &[2, 2, 1, 0, 1, OFF, 2, OFF, OFF])), [
+        "slot 1: light 5 where the load is 6, 1 too little",
+        "slot 2: light 1 where the load is 0, 1 too much"
+    ]);
+    assert_eq!(texts(faults::entries(&show, &[2, 2, 254, OFF, 3, OFF, 2, OFF, OFF])), [
+        "slot 1, module 3: step 254, above 2",
+        "slot 2, module 2: step 3, above 2"
+    ]);
+    let mut random = Random::new(96);
+    let mut seen = Classes::new("places in sheets (seed 96)", &["0", "12", "13"]);
+    for _ in 0..30_000 {
+        let sheet: Vec<u8> = (0..9).map(|_| random.pick(&[0, 0, 1, 2, 2, OFF, OFF, OFF, OFF, 3])).collect();
+        let number = mark(&card_a(), &sheet).number;
+        assert_eq!(number == 12, !faults::entries(&show, &sheet).is_empty());
+        assert_eq!(number == 13, number != 12 && !faults::lights(&show, &sheet).is_empty());
+        seen.see(&number.to_string());
+    }
+    seen.require_all();
+}
