@@ -5,34 +5,50 @@ use crate::planning::{Planned, Planner};
 use crate::show::OFF;
 use crate::words::{grouped, several};
 
-/// Sizes in the picture's units, which are pixels at its own size.
+/// Sizes in the picture's units, which are pixels at its own size. A wide picture is scaled down where it is printed or shown whole, so
+/// its text and margins are twice as large.
 struct Layout {
     slots: usize,
     modules: usize,
     top: usize,
     cell_width: usize,
     cell_height: usize,
+    scale: usize,
 }
 
-const LEFT: usize = 64;
-const RIGHT: usize = 64;
+const MARGIN: usize = 64;
 const TITLE: usize = 66;
 const CHART: usize = 110;
 const NUMBERS: usize = 40;
 const LEGEND: usize = 74;
+/// The size of most of the text.
+const TEXT: usize = 11;
 /// The narrowest picture, so that its title has room.
 const NARROWEST: usize = 720;
+/// The widest grid whose text has its plain size.
+const WIDE: usize = 1_200;
 
 impl Layout {
     fn of(planned: &Planned) -> Self {
         let (slots, modules) = (planned.show.slots(), usize::from(planned.show.modules));
+        let cell_width = (960 / slots.max(1)).clamp(2, 48);
         Layout {
             slots,
             modules,
             top: planned.show.top.into(),
-            cell_width: (960 / slots.max(1)).clamp(2, 48),
+            cell_width,
             cell_height: (600 / modules.max(1)).clamp(3, 32),
+            scale: if slots * cell_width > WIDE { 2 } else { 1 },
         }
+    }
+
+    /// A size of text or of a margin.
+    fn size(&self, plain: usize) -> usize {
+        plain * self.scale
+    }
+
+    fn left(&self) -> usize {
+        self.size(MARGIN)
     }
 
     fn grid_width(&self) -> usize {
@@ -40,32 +56,24 @@ impl Layout {
     }
 
     fn width(&self) -> usize {
-        (LEFT + self.grid_width() + RIGHT).max(NARROWEST)
-    }
-
-    fn chart_top(&self) -> usize {
-        TITLE
+        (self.grid_width() + 2 * self.size(MARGIN)).max(NARROWEST)
     }
 
     fn grid_top(&self) -> usize {
-        TITLE + CHART + NUMBERS
-    }
-
-    fn grid_height(&self) -> usize {
-        self.modules * self.cell_height
+        self.size(TITLE + CHART + NUMBERS)
     }
 
     fn grid_bottom(&self) -> usize {
-        self.grid_top() + self.grid_height()
+        self.grid_top() + self.modules * self.cell_height
     }
 
     fn height(&self) -> usize {
-        self.grid_bottom() + LEGEND
+        self.grid_bottom() + self.size(LEGEND)
     }
 
     /// The left edge of a slot, counted from 0.
     fn x(&self, slot: usize) -> usize {
-        LEFT + slot * self.cell_width
+        self.left() + slot * self.cell_width
     }
 
     /// The upper edge of a module, counted from 0.
@@ -76,6 +84,11 @@ impl Layout {
     /// The middle of a slot.
     fn middle(&self, slot: usize) -> usize {
         self.x(slot) + self.cell_width / 2
+    }
+
+    /// The line of a text in the middle of a module.
+    fn baseline(&self, module: usize) -> usize {
+        self.y(module) + self.cell_height / 2 + self.size(4)
     }
 
     /// Whether a number fits into a cell.
@@ -92,14 +105,14 @@ pub fn file(planned: &Planned, name: &str) -> String {
 /// The picture as an element.
 pub fn draw(planned: &Planned, name: &str) -> String {
     let layout = Layout::of(planned);
-    let (width, height) = (layout.width(), layout.height());
+    let (width, height, text) = (layout.width(), layout.height(), layout.size(TEXT));
     let mut out = format!(
         "<svg xmlns=\"http://www.w3.org/2000/svg\" width=\"{width}\" height=\"{height}\" viewBox=\"0 0 {width} {height}\" \
-         font-family=\"sans-serif\" font-size=\"11\" fill=\"#000\">\n"
+         font-family=\"sans-serif\" font-size=\"{text}\" fill=\"#000\">\n"
     );
     out += &format!("<title>{}</title>\n", escaped(&format!("{}. {name}: {}", heading(planned), planned.show.summary())));
     out += &format!("<rect width=\"{width}\" height=\"{height}\" fill=\"#fff\"/>\n");
-    out += &titles(planned, name);
+    out += &titles(planned, name, &layout);
     out += &chart(planned, &layout);
     out += &cells(planned, &layout);
     out += &frame(&layout);
@@ -118,14 +131,13 @@ pub fn heading(planned: &Planned) -> String {
     }
 }
 
-fn titles(planned: &Planned, name: &str) -> String {
+fn titles(planned: &Planned, name: &str, layout: &Layout) -> String {
     let shown: String = name.chars().take(60).collect();
-    let (heading, summary) = (escaped(&heading(planned)), escaped(&planned.show.summary()));
-    format!(
-        "<text x=\"{LEFT}\" y=\"24\" font-size=\"17\" font-weight=\"bold\">{heading}</text>\n\
-         <text x=\"{LEFT}\" y=\"42\" font-size=\"12\">{}</text>\n<text x=\"{LEFT}\" y=\"57\" font-size=\"12\">{summary}</text>\n",
-        escaped(&shown)
-    )
+    let line = |y: usize, size: usize, text: &str| {
+        let (x, y, size) = (layout.left(), layout.size(y), layout.size(size));
+        format!("<text x=\"{x}\" y=\"{y}\" font-size=\"{size}\">{}</text>\n", escaped(text))
+    };
+    line(24, 17, &heading(planned)) + &line(42, 12, &shown) + &line(57, 12, &planned.show.summary())
 }
 
 /// A text with its anchor: start, middle or end.
@@ -139,28 +151,25 @@ const COUNT_COLOUR: &str = "#08306b";
 /// Loads and counts over the slots, each from 0 to what the full rack has. A load of all modules at the top step and a count of all
 /// modules are at the same height.
 fn chart(planned: &Planned, layout: &Layout) -> String {
-    let (show, upper) = (&planned.show, layout.chart_top() + 14);
-    let lower = layout.chart_top() + CHART;
+    let (upper, lower) = (layout.size(TITLE + 14), layout.size(TITLE + CHART));
+    let (left, right, gap) = (layout.left(), layout.x(layout.slots), layout.size(6));
     let (most_load, most_count) = (layout.modules * layout.top, layout.modules);
-    let loads: Vec<usize> = show.loads.iter().map(|load| usize::from(*load)).collect();
+    let loads: Vec<usize> = planned.show.loads.iter().map(|load| usize::from(*load)).collect();
     let counts: Vec<usize> = planned.plan.iter().map(|count| usize::from(*count)).collect();
-    let right = layout.x(layout.slots);
-    let mut out = format!(
-        "<rect x=\"{LEFT}\" y=\"{upper}\" width=\"{}\" height=\"{}\" fill=\"none\" stroke=\"#999\"/>\n",
-        layout.grid_width(),
-        lower - upper
-    );
-    out += &stairs(&loads, most_load, layout, upper, lower, LOAD_COLOUR, "");
-    out += &stairs(&counts, most_count, layout, upper, lower, COUNT_COLOUR, " stroke-dasharray=\"5 3\"");
-    out += &label(LEFT - 6, upper + 9, "end", LOAD_COLOUR, &grouped(most_load as u64));
-    out += &label(LEFT - 6, lower, "end", LOAD_COLOUR, "load 0");
-    out += &label(right + 6, upper + 9, "start", COUNT_COLOUR, &grouped(most_count as u64));
-    out += &label(right + 6, lower, "start", COUNT_COLOUR, "count 0");
+    let (width, height, text) = (layout.grid_width(), lower - upper, upper + layout.size(9));
+    let mut out = format!("<rect x=\"{left}\" y=\"{upper}\" width=\"{width}\" height=\"{height}\" fill=\"none\" stroke=\"#999\"/>\n");
+    let stroke = format!("stroke-width=\"{}\"", 1.5 * layout.scale as f64);
+    out += &stairs(&loads, most_load, layout, upper, lower, &format!("stroke=\"{LOAD_COLOUR}\" {stroke}"));
+    out += &stairs(&counts, most_count, layout, upper, lower, &format!("stroke=\"{COUNT_COLOUR}\" {stroke} stroke-dasharray=\"5 3\""));
+    out += &label(left - gap, text, "end", LOAD_COLOUR, &grouped(most_load as u64));
+    out += &label(left - gap, lower, "end", LOAD_COLOUR, "load 0");
+    out += &label(right + gap, text, "start", COUNT_COLOUR, &grouped(most_count as u64));
+    out += &label(right + gap, lower, "start", COUNT_COLOUR, "count 0");
     out
 }
 
 /// A line with a level piece for each slot.
-fn stairs(values: &[usize], most: usize, layout: &Layout, upper: usize, lower: usize, colour: &str, dash: &str) -> String {
+fn stairs(values: &[usize], most: usize, layout: &Layout, upper: usize, lower: usize, stroke: &str) -> String {
     if values.is_empty() {
         return String::new();
     }
@@ -170,7 +179,7 @@ fn stairs(values: &[usize], most: usize, layout: &Layout, upper: usize, lower: u
         let y = height(*value);
         points += &format!("{},{y:.1} {},{y:.1} ", layout.x(slot), layout.x(slot + 1));
     }
-    format!("<polyline points=\"{}\" fill=\"none\" stroke=\"{colour}\" stroke-width=\"1.5\"{dash}/>\n", points.trim_end())
+    format!("<polyline points=\"{}\" fill=\"none\" {stroke}/>\n", points.trim_end())
 }
 
 /// The colour of a step, from light at step 0 to dark at the top step. A module that is off is white.
@@ -216,7 +225,7 @@ fn ticks(most: usize, spacing: usize) -> impl Iterator<Item = usize> {
 
 /// The grid's frame, its lines where cells are large enough, and the numbers of slots and modules.
 fn frame(layout: &Layout) -> String {
-    let (left, right, upper, lower) = (LEFT, layout.x(layout.slots), layout.grid_top(), layout.grid_bottom());
+    let (left, right, upper, lower) = (layout.left(), layout.x(layout.slots), layout.grid_top(), layout.grid_bottom());
     let mut out = String::from("<g shape-rendering=\"crispEdges\" stroke=\"#999\" stroke-width=\"1\">\n");
     let line = |x1: usize, y1: usize, x2: usize, y2: usize| format!("<line x1=\"{x1}\" y1=\"{y1}\" x2=\"{x2}\" y2=\"{y2}\"/>\n");
     for slot in (0..=layout.slots).filter(|slot| layout.cell_width >= 6 || *slot == 0 || *slot == layout.slots) {
@@ -225,32 +234,35 @@ fn frame(layout: &Layout) -> String {
     for module in (0..=layout.modules).filter(|module| layout.cell_height >= 6 || *module == 0 || *module == layout.modules) {
         out += &line(left, layout.y(module), right, layout.y(module));
     }
-    out += "</g>\n";
-    for slot in ticks(layout.slots, spacing(layout.cell_width, 44)) {
-        out += &label(layout.middle(slot - 1), lower + 14, "middle", "#000", &grouped(slot as u64));
+    out + "</g>\n" + &axes(layout)
+}
+
+/// The numbers of slots below the grid, and of modules at its left.
+fn axes(layout: &Layout) -> String {
+    let (left, lower) = (layout.left() - layout.size(6), layout.grid_bottom() + layout.size(14));
+    let mut out = label(left, lower, "end", "#000", "slot");
+    for slot in ticks(layout.slots, spacing(layout.cell_width, layout.size(44))) {
+        out += &label(layout.middle(slot - 1), lower, "middle", "#000", &grouped(slot as u64));
     }
-    for module in ticks(layout.modules, spacing(layout.cell_height, 13)) {
-        let y = layout.y(module - 1) + layout.cell_height / 2 + 4;
+    for module in ticks(layout.modules, spacing(layout.cell_height, layout.size(13))) {
         let name = if module == 1 { "module " } else { "" };
-        out += &label(left - 6, y, "end", "#000", &format!("{name}{module}"));
+        out += &label(left, layout.baseline(module - 1), "end", "#000", &format!("{name}{module}"));
     }
-    out + &label(left - 6, lower + 14, "end", "#000", "slot")
+    out
 }
 
 /// Each cell's step, and each slot's load and count above it.
 fn numbers(planned: &Planned, layout: &Layout) -> String {
-    let lower = layout.grid_top();
-    let mut out = label(LEFT - 6, lower - 22, "end", LOAD_COLOUR, "load");
-    out += &label(LEFT - 6, lower - 8, "end", COUNT_COLOUR, "count");
+    let (left, loads, counts) = (layout.left() - layout.size(6), layout.grid_top() - 22, layout.grid_top() - 8);
+    let mut out = label(left, loads, "end", LOAD_COLOUR, "load") + &label(left, counts, "end", COUNT_COLOUR, "count");
     for (slot, (load, count)) in planned.show.loads.iter().zip(&planned.plan).enumerate() {
-        out += &label(layout.middle(slot), lower - 22, "middle", LOAD_COLOUR, &load.to_string());
-        out += &label(layout.middle(slot), lower - 8, "middle", COUNT_COLOUR, &count.to_string());
+        out += &label(layout.middle(slot), loads, "middle", LOAD_COLOUR, &load.to_string());
+        out += &label(layout.middle(slot), counts, "middle", COUNT_COLOUR, &count.to_string());
     }
     for (slot, row) in planned.show.rows(&planned.sheet).enumerate() {
         for (module, byte) in row.iter().enumerate() {
             let colour = if *byte != OFF && 2 * usize::from(*byte) > layout.top { "#fff" } else { "#000" };
-            let y = layout.y(module) + layout.cell_height / 2 + 4;
-            out += &label(layout.middle(slot), y, "middle", colour, &listing::step(*byte));
+            out += &label(layout.middle(slot), layout.baseline(module), "middle", colour, &listing::step(*byte));
         }
     }
     out
@@ -258,12 +270,12 @@ fn numbers(planned: &Planned, layout: &Layout) -> String {
 
 /// What the shades and the lines mean.
 fn legend(layout: &Layout) -> String {
-    let y = layout.grid_bottom() + 30;
+    let (left, y) = (layout.left(), layout.grid_bottom() + layout.size(30));
     let shown = (layout.top + 1).min(11);
-    let mut out = swatch(LEFT, y, "#fff", "off");
+    let mut out = swatch(layout, left, y, "#fff", "off");
     for at in 0..shown {
         let step = at * layout.top / (shown - 1).max(1);
-        out += &swatch(LEFT + 48 * (at + 1), y, &shade(step, layout.top), &step.to_string());
+        out += &swatch(layout, left + layout.size(48 * (at + 1)), y, &shade(step, layout.top), &step.to_string());
     }
     let text = format!(
         "Shade: step, 0 to {}. Line: load. Broken line: count. {} down, {} across.",
@@ -271,10 +283,11 @@ fn legend(layout: &Layout) -> String {
         several(layout.modules as u64, "module"),
         several(layout.slots as u64, "slot")
     );
-    out + &label(LEFT, y + 34, "start", "#000", &text)
+    out + &label(left, y + layout.size(34), "start", "#000", &text)
 }
 
-fn swatch(x: usize, y: usize, colour: &str, text: &str) -> String {
-    let rect = format!("<rect x=\"{x}\" y=\"{y}\" width=\"14\" height=\"14\" fill=\"{colour}\" stroke=\"#999\"/>\n");
-    rect + &label(x + 17, y + 11, "start", "#000", text)
+fn swatch(layout: &Layout, x: usize, y: usize, colour: &str, text: &str) -> String {
+    let side = layout.size(14);
+    let rect = format!("<rect x=\"{x}\" y=\"{y}\" width=\"{side}\" height=\"{side}\" fill=\"{colour}\" stroke=\"#999\"/>\n");
+    rect + &label(x + layout.size(17), y + layout.size(11), "start", "#000", text)
 }
