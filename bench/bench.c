@@ -10,9 +10,9 @@
 #include "lamp.h"
 #include "plain.h"
 
-enum { ROUNDS = 60, MOST_SLOTS = 1024, MOST_MODULES = 200 };
+enum { ROUNDS = 60 };
 
-static uint8_t card[2869], plan[MOST_SLOTS], work[201 * MOST_SLOTS], sheet[MOST_MODULES * MOST_SLOTS];
+static uint8_t card[LAMP_MAX_CARD], plan[LAMP_MAX_PLAN], work[LAMP_MAX_EXACT_WORK], sheet[LAMP_MAX_SHEET];
 static size_t card_len;
 
 static void put(size_t at, uint64_t value, size_t bytes)

@@ -1,5 +1,5 @@
-/* A small host: marks the two sheets of document 01's example D and two that are refused, then plans the card and marks the planner's
- * own sheet.
+/* A small host: marks the two sheets of document 01's example D and two that are refused, then plans the card and marks
+ * the planner's own sheet.
  *
  *   gcc -std=c11 -Wall -Wextra -Werror -Iinclude host/mark.c target/staticlib/liblamp.a -o target/host/mark
  */
@@ -12,7 +12,7 @@ static const uint8_t card[] = {0x44, 0x4C, 0x53, 0x01, 0x00, 0x03, 0x02, 0x03, 0
                                0x00, 0x02, 0x00, 0x00, 0x00, 0x01, 0x00, 0x00, 0x00, 0x02, 0x00, 0x00,
                                0x00, 0x04, 0x00, 0x00, 0x00, 0x06, 0x00, 0x00, 0x00, 0x02, 0x00};
 
-/* The words of document 01 for the refusals of marking a sheet on an accepted card; the others by their number alone. */
+/* The words of document 01 for the refusals of a sheet on an accepted card; the others by their number alone. */
 static const char *word(uint64_t number)
 {
     switch (number) {

@@ -1,18 +1,182 @@
-/* The lamp planner: the calls of liblamp.a (System V C, x86-64).
+/* lamp.h: the calls of liblamp.a, the lamp planner for a rack of laser modules.
  *
- * Every call answers every input. A success gives number 0 and a cost; a refusal gives its number, cost 0, and alters no
- * byte of any buffer. Of several refusals that apply, the lowest number is given.
+ * This file is the manual for the author of a host, a C program that uses the library. host/host.c is a
+ * whole host to copy from. LAMP_RELEASE below names the release, and CHANGES.md says what each changed.
  *
- * All buffers belong to the caller, for the length of the call alone. A buffer is a pointer and a length; one of length 0 may
- * come with any pointer. Buffers must not overlap, and must be as long as their length says: nothing can check these two.
- * No call keeps anything, allocates anything or needs more than a few kilobytes of stack. Calls on distinct buffers may run
- * at the same time.
  *
- * Lengths asked for, with the card's m modules and T slots:
- *   plan   T bytes        one count a slot
- *   work   (m + 1) * T    exact planner; 10 * T for the coarse planner; zero after success
- *   sheet  m * T bytes    a step or 255 (off) for each slot and module, slot by slot, module 1 first
- * A lent buffer may be longer; its further bytes stay as they were. A handed-in plan or sheet has exactly that length.
+ * WHAT THE LIBRARY DOES
+ *
+ * A rack has m identical modules. A show has T slots. In each slot a module is off, or it is active at a
+ * step from 0 to Q. Each slot has a load, and the steps of its active modules must sum to that load
+ * exactly. An active module costs points in each slot, and switching a module on or off costs points too.
+ * The library finds how many modules should be active in each slot, and at which steps, so that the whole
+ * show costs the least. It also gives the cost of any other choice.
+ *
+ *
+ * HOW TO LINK IT
+ *
+ * The library is for C and C++ on x86-64 Linux (System V calling convention). In the repository:
+ *     gcc -Iinclude host.c target/staticlib/liblamp.a
+ * With a release folder, where PKG_CONFIG_PATH names the folder that holds its lamp.pc:
+ *     gcc host.c $(pkg-config --cflags --libs lamp)
+ * The only symbol that the archive asks its host for is memset. So it can be linked into a freestanding
+ * host that has a memset.
+ *
+ *
+ * A SHORT HOST
+ *
+ * This plans a card and makes the sheet of the plan. The buffers are long enough for every card.
+ *
+ *     static uint8_t plan[LAMP_MAX_PLAN], work[LAMP_MAX_EXACT_WORK], sheet[LAMP_MAX_SHEET];
+ *     struct lamp_answer answer = lamp_plan_exact(card, card_len, plan, sizeof plan, work, sizeof work);
+ *     if (answer.number == 0) {
+ *         size_t slots = card[7] + 256 * card[8];
+ *         answer = lamp_sheet(card, card_len, plan, slots, sheet, sizeof sheet);
+ *     }
+ *     if (answer.number != 0)
+ *         printf("refused %u\n", (unsigned)answer.number);
+ *
+ *
+ * TERMS
+ *
+ *   point   The unit of cost. Every cost is a whole number of points.
+ *   step    The light of an active module, from 0 to Q. A module at step 0 is active, and it costs F(0).
+ *   off     A module that is not active is off. It gives no light and costs nothing. All modules are off
+ *           before slot 1 and after slot T.
+ *   load    The sum of steps that a slot must get.
+ *   F(k)    The cost of one active module at step k for one slot. F(0) to F(Q) are the table.
+ *   count   How many modules are active in a slot, from 0 to m.
+ *   plan    T bytes: the count of each slot, slot 1 first.
+ *   sheet   m * T bytes: one for each slot and module, slot by slot, module 1 first. The byte of module j
+ *           in slot t is at (t - 1) * m + (j - 1). It is the module's step, or LAMP_OFF.
+ *   card    The bytes that describe a rack and a show.
+ *
+ *
+ * THE CARD
+ *
+ * All numbers are unsigned and little-endian: the lowest byte comes first. Offsets and sizes are bytes.
+ *
+ *   at             size     field
+ *   0              3        mark: the bytes 44 4C 53 in hex, which are "DLS"
+ *   3              2        version: LAMP_CARD_VERSION
+ *   5              1        m, the number of modules: 1 to 200
+ *   6              1        Q, the top step: 1 to 200
+ *   7              2        T, the number of slots: 0 to 1,024
+ *   9              4        warm-up price: at most 500,000,000
+ *   13             4        cool-down price: at most 500,000,000
+ *   17             4 each   F(0) to F(Q): each at most 1,000,000
+ *   17 + 4(Q + 1)  2 each   the loads of slots 1 to T: each at most m * Q
+ *
+ * A card has exactly 17 + 4(Q + 1) + 2T bytes, and no byte more. Its table is convex, which means that
+ * F(k - 1) + F(k + 1) >= 2 * F(k) for 1 <= k < Q. A card that keeps all these rules is accepted. Refusals
+ * 1 to 8 say which rule a card breaks.
+ *
+ * An example, in hex: m = 3, Q = 2, T = 3, warm-up price 3, cool-down price 2, F = 1 2 4, loads 6 0 2.
+ *     44 4C 53 01 00 03 02 03 00 03 00 00 00 02 00 00 00 01 00 00 00 02 00 00 00 04 00 00 00 06 00 00 00 02 00
+ * lamp_plan_exact gives cost 32 and the plan 3 1 1. Of that plan lamp_sheet makes this sheet, here with a
+ * line for each slot:
+ *     2 2 2
+ *     0 255 255
+ *     2 255 255
+ * The active modules cost 12 + 1 + 4 points, the three warm-ups 9 and the three cool-downs 6.
+ *
+ *
+ * WHAT A SHEET COSTS, AND WHEN IT SERVES
+ *
+ * The cost of a sheet is the sum of
+ *   - F(step) for each slot and each module that is active in it,
+ *   - the warm-up price for each change of a module from off to active, and
+ *   - the cool-down price for each change of a module from active to off.
+ * All modules are off before slot 1 and after slot T. So a module that is active in slot 1 is charged its
+ * warm-up, and one that is active in slot T its cool-down. Each module is charged by itself: if module 1
+ * stops and module 2 starts in its place, both changes are charged, though the count stays the same.
+ *
+ * A sheet serves the show if it has m * T bytes, each byte is 0 to Q or LAMP_OFF, and in every slot the
+ * steps of the active modules sum to the load.
+ *
+ * The largest cost of a sheet that serves is below 1.03 * 10^14 points, so every cost fits uint64_t.
+ *
+ *
+ * THE SHEET OF A PLAN
+ *
+ * A count n can serve a load L if L <= n * Q. So count 0 can serve load 0 alone, and count m can serve
+ * every load of an accepted card. A plan serves the show if each count can serve the load of its slot.
+ *
+ * The sheet of a plan is filled slot by slot. In a slot with count n > 0 and load L let q = L / n and let
+ * r = L % n. Modules 1 to n are active: the first r at step q + 1, the others at step q. The rest are
+ * off. In a slot with count 0 all modules are off. A plan costs what its sheet costs.
+ *
+ *
+ * THE TWO PLANNERS
+ *
+ * lamp_plan_exact gives a plan of least cost. It is proved that no sheet that serves the show costs less.
+ * This holds for all sheets that serve, whichever modules they have active and however they spread the
+ * light, and not only for sheets of plans.
+ *
+ * lamp_plan_coarse gives a plan of least cost among the plans that use allowed counts only. The allowed
+ * counts are 0, each power of two up to m, and m itself. For this planner the card's table must never
+ * fall: F(k) <= F(k + 1) for 0 <= k < Q. If it falls somewhere, the call gives refusal 9. It is proved
+ * that the plan's cost is at most twice the least cost of any sheet that serves the show.
+ *
+ * Several plans may have the least cost. Both planners then give the one with the smallest count in slot
+ * T; among those the one with the smallest count in slot T - 1; and so on back to slot 1.
+ *
+ *
+ * ANSWERS AND REFUSALS
+ *
+ * Every call answers every input. A success gives number 0 and a cost. A refusal gives its number and
+ * cost 0. If several refusals apply, the call gives the lowest number, wherever in the input each of them
+ * lies. For example, a count above m in the last slot (12) is given before a count in slot 1 that cannot
+ * serve (13). No call sets errno.
+ *
+ *
+ * BUFFERS
+ *
+ * A buffer is a pointer and a length in bytes. All buffers belong to the caller, and a call uses them
+ * until it returns and no longer. A buffer must be as long as its length says, and no two buffers of a
+ * call may overlap: these two rules the library cannot check. A buffer of length 0 may come with any
+ * pointer, also NULL.
+ *
+ * Buffers that are read (card, a plan given to lamp_sheet, a sheet given to lamp_mark) have exactly the
+ * length of what they hold. So a plan is given to lamp_sheet with length T, even if it lies in a longer
+ * array. A host that reads a card from a file needs LAMP_MAX_CARD + 1 bytes for it and may leave the rest
+ * of the file unread: a card of that length is refused like any longer one.
+ *
+ * Buffers that are written (plan and work of a planner, sheet of lamp_sheet) have at least the length
+ * that the call asks for. They may be longer, and may hold anything at entry: they need no clearing, and
+ * nothing in them changes the answer. After a success the bytes asked for hold the answer, in a work
+ * buffer zeros, and all further bytes are as they were. After a refusal all bytes are as they were.
+ *
+ *   buffer                     bytes asked for
+ *   plan                       T
+ *   work of lamp_plan_exact    (m + 1) * T
+ *   work of lamp_plan_coarse   10 * T, for every m
+ *   sheet                      m * T
+ *
+ * Once lamp_check_card has accepted a card, its m is card[5] and its T is card[7] + 256 * card[8], and a
+ * host may make its buffers that long. Or it takes the sizes LAMP_MAX_.. below, enough for every card.
+ *
+ * The separate program `plan` has buffers of fixed size. It therefore plans only shows with (m + 1) * T
+ * at most 65,536, and gives refusal 10 for other accepted cards. The library has no such limit.
+ *
+ *
+ * THREADS, MEMORY AND STACK
+ *
+ * The library has no static data, and no call keeps anything after it returns. So all calls are
+ * reentrant. Calls that run at the same time may share the buffers that are only read. A buffer that is
+ * written belongs to one call at a time.
+ *
+ * No call allocates memory, does input or output, or computes with floating-point numbers. (The compiled
+ * code does use the SSE2 registers of x86-64, for whole numbers.) LAMP_MAX_STACK below says how much
+ * stack a call uses.
+ *
+ *
+ * WHAT IS PROVED
+ *
+ * Each call has a contract, in crates/lamp/src/lib.rt of the repository, and this file says in plain
+ * words what the contracts say. A contract gives the number, the cost and every byte of every written
+ * buffer, for every input that keeps the two rules on buffers. The contracts are proved. docs/TRUST.md
+ * says what the proofs rest on. The use of stack is measured and not proved.
  */
 #ifndef LAMP_H
 #define LAMP_H
@@ -24,54 +188,126 @@
 extern "C" {
 #endif
 
-/* number: 0, or a refusal. cost: in points; 0 with a refusal. */
-struct lamp_answer {
-    uint64_t number;
-    uint64_t cost;
-};
+/* The release of this library. */
+#define LAMP_RELEASE "1.0.0"
 
-/* The refusals, in the words of document 01. */
-enum lamp_refusal {
-    LAMP_NOT_A_CARD = 1,      /* not a card: under 17 bytes, or wrong mark */
-    LAMP_VERSION = 2,         /* version: not 1 */
-    LAMP_RACK_SIZE = 3,       /* rack: m or Q outside 1 to 200 */
-    LAMP_SLOT_COUNT = 4,      /* reel: T above 1,024 */
-    LAMP_CARD_LENGTH = 5,     /* length: not 17 + 4(Q + 1) + 2T */
-    LAMP_PRICE_RANGE = 6,     /* price: a price or F entry above its bound */
-    LAMP_NOT_CONVEX = 7,      /* bend: table not convex */
-    LAMP_LOAD_RANGE = 8,      /* glare: a load above m * Q */
-    LAMP_NOT_MONOTONE = 9,    /* slope: F(k+1) < F(k) somewhere; coarse plan only */
-    LAMP_BUFFER_TOO_SHORT = 10, /* desk: a lent area shorter than asked for */
-    LAMP_WRONG_LENGTH = 11,   /* roll: handed-in plan not T bytes, sheet not m * T */
-    LAMP_ENTRY_RANGE = 12,    /* entry: a count above m, or a sheet byte from Q + 1 to 254 */
-    LAMP_LOAD_NOT_SERVED = 13 /* light: a slot's steps don't sum to its load; or a count can't serve its load */
-};
+/* The version of the cards that this library accepts. */
+#define LAMP_CARD_VERSION 1
 
-/* The byte for a module that is off. */
+/* The byte of a sheet for a module that is off. */
 #define LAMP_OFF 255
 
-/* Refusals 1 to 8; cost 0. */
+/* The sizes that are enough for every card, in bytes. A host whose buffers have these sizes never gets refusal 10. */
+#define LAMP_MAX_CARD 2869         /* a card of Q 200 and T 1,024: 17 + 4 * (200 + 1) + 2 * 1,024 */
+#define LAMP_MAX_PLAN 1024         /* a plan of T 1,024 */
+#define LAMP_MAX_EXACT_WORK 205824 /* work of lamp_plan_exact for m 200 and T 1,024: (200 + 1) * 1,024 */
+#define LAMP_MAX_COARSE_WORK 10240 /* work of lamp_plan_coarse for T 1,024 and any m: 10 * 1,024 */
+#define LAMP_MAX_SHEET 204800      /* a sheet of m 200 and T 1,024: 200 * 1,024 */
+
+/* The stack that a call uses, in bytes: the largest figure that host/limits.c measured, rounded up to a
+ * multiple of 256. It counts the call's return address and the memset of the GNU C library. A dynamically
+ * linked host that binds symbols at their first use needs more in the first call that uses memset,
+ * because the dynamic linker then runs on the same stack: 6,648 bytes were measured on one machine. Such
+ * a host may use memset once before, or be linked with -Wl,-z,now. */
+#define LAMP_MAX_STACK 3584
+
+/* What every call returns. */
+struct lamp_answer {
+    uint64_t number; /* 0 for a success, else the refusal */
+    uint64_t cost;   /* in points; 0 with a refusal */
+};
+
+/* The refusals. The word before the colon is that of the papers which define the planner. */
+enum lamp_refusal {
+    LAMP_NOT_A_CARD = 1,        /* not a card: under 17 bytes, or wrong mark */
+    LAMP_WRONG_VERSION = 2,     /* version: the card's version is not 1 */
+    LAMP_RACK_SIZE = 3,         /* rack: m or Q outside 1 to 200 */
+    LAMP_SLOT_COUNT = 4,        /* reel: T above 1,024 */
+    LAMP_CARD_LENGTH = 5,       /* length: the card's length is not 17 + 4(Q + 1) + 2T */
+    LAMP_PRICE_RANGE = 6,       /* price: a price or F entry above its bound */
+    LAMP_NOT_CONVEX = 7,        /* bend: table not convex */
+    LAMP_LOAD_RANGE = 8,        /* glare: a load above m * Q */
+    LAMP_NOT_MONOTONE = 9,      /* slope: F(k + 1) < F(k) somewhere; coarse planner only */
+    LAMP_BUFFER_TOO_SHORT = 10, /* desk: a buffer shorter than asked for */
+    LAMP_WRONG_LENGTH = 11,     /* roll: a handed-in plan is not T bytes, or a sheet not m * T */
+    LAMP_ENTRY_RANGE = 12,      /* entry: a count above m, or a sheet byte from Q + 1 to 254 */
+    LAMP_LOAD_NOT_SERVED = 13   /* light: a slot's steps do not sum to its load, or a count cannot serve its load */
+};
+
+/* Checks a card.
+ *
+ * Reads:     card.
+ * Writes:    nothing.
+ * Success:   the card is accepted; cost 0.
+ * Refusals:  1 to 8. Every other call that takes a card makes these checks too. */
 struct lamp_answer lamp_check_card(const uint8_t *card, size_t card_len);
 
-/* The running cost of a count and a load. Refusals 1 to 8, 12, 13. */
+/* The running cost of one slot: what `count` active modules cost in a slot with load `load`, without any
+ * warm-up or cool-down. With n = count, q = load / n and r = load % n it is (n - r) * F(q) plus, if r is
+ * not 0, r * F(q + 1). It is 0 for count 0 and load 0. The load need not be one of the card's.
+ *
+ * Reads:     card.
+ * Writes:    nothing.
+ * Success:   the running cost.
+ * Refusals:  1 to 8; 12 if count is above m; 13 if count cannot serve the load, that is, load is above
+ *            count * Q. A load above m * Q gives no 8, which speaks of the card's own loads. */
 struct lamp_answer lamp_running_cost(const uint8_t *card, size_t card_len, uint64_t count, uint64_t load);
 
-/* The plan of least cost over all sheets. Writes plan, clears work. Refusals 1 to 8, 10. */
+/* The exact planner: a plan whose cost is the least of all sheets that serve the show.
+ *
+ * Reads:     card.
+ * Writes:    plan, work.
+ * Asks for:  T bytes of plan, (m + 1) * T bytes of work.
+ * Success:   the plan's cost. The first T bytes of plan hold the plan, the first (m + 1) * T bytes of
+ *            work are zero, and all further bytes are as they were. An accepted card with buffers long
+ *            enough is always planned.
+ * Refusals:  1 to 8; 10 if plan_len or work_len is less than asked for. All bytes of plan and work are as
+ *            they were. */
 struct lamp_answer lamp_plan_exact(const uint8_t *card, size_t card_len, uint8_t *plan, size_t plan_len, uint8_t *work,
                                    size_t work_len);
 
-/* The least plan with counts 0, the powers of two up to m, and m: at most twice the least cost. Refusals 1 to 10. */
+/* The coarse planner: a plan of least cost among those with counts 0, the powers of two up to m, and m.
+ * Its cost is at most twice the least cost of any sheet that serves the show.
+ *
+ * Reads:     card.
+ * Writes:    plan, work.
+ * Asks for:  T bytes of plan, 10 * T bytes of work.
+ * Success:   the plan's cost. The first T bytes of plan hold the plan, the first 10 * T bytes of work are
+ *            zero, and all further bytes are as they were. An accepted card whose table never falls is
+ *            always planned, with buffers long enough.
+ * Refusals:  1 to 8; 9 if F(k + 1) < F(k) for some k; 10 if plan_len or work_len is less than asked for.
+ *            All bytes of plan and work are as they were. */
 struct lamp_answer lamp_plan_coarse(const uint8_t *card, size_t card_len, uint8_t *plan, size_t plan_len, uint8_t *work,
                                     size_t work_len);
 
-/* The sheet of a handed-in plan. Writes sheet. Refusals 1 to 8, 10 to 13. */
-struct lamp_answer lamp_sheet(const uint8_t *card, size_t card_len, const uint8_t *plan, size_t plan_len, uint8_t *sheet,
-                              size_t sheet_len);
+/* Makes the sheet of a plan, from a planner or from anywhere else.
+ *
+ * Reads:     card, plan. plan_len must be T.
+ * Writes:    sheet.
+ * Asks for:  m * T bytes of sheet.
+ * Success:   the plan's cost, which lamp_mark gives for this sheet too. The first m * T bytes of sheet
+ *            hold the sheet, and all further bytes are as they were.
+ * Refusals:  1 to 8; 10 if sheet_len is less than asked for; 11 if plan_len is not T; 12 if a count is
+ *            above m; 13 if a count cannot serve its slot's load. All bytes of sheet are as they were. */
+struct lamp_answer lamp_sheet(const uint8_t *card, size_t card_len, const uint8_t *plan, size_t plan_len,
+                              uint8_t *sheet, size_t sheet_len);
 
-/* The cost of a handed-in sheet, module by module. Refusals 1 to 8, 11 to 13. */
+/* Marks a sheet: checks that it serves the show, and gives its cost.
+ *
+ * Reads:     card, sheet. sheet_len must be m * T.
+ * Writes:    nothing.
+ * Success:   the sheet serves the show; its cost.
+ * Refusals:  1 to 8; 11 if sheet_len is not m * T; 12 if a byte is from Q + 1 to 254; 13 if the steps of
+ *            a slot do not sum to its load. */
 struct lamp_answer lamp_mark(const uint8_t *card, size_t card_len, const uint8_t *sheet, size_t sheet_len);
 
-/* The smallest allowed count not below count in a rack of so many modules, in the cost's place. Refusals 3, 12. */
+/* The rounded count: the smallest count not below `count` that lamp_plan_coarse may use in a rack of
+ * `modules` modules, which is 0, a power of two, or `modules` itself. It takes no card.
+ *
+ * Reads:     nothing.
+ * Writes:    nothing.
+ * Success:   the rounded count, in the place of the cost.
+ * Refusals:  3 if modules is outside 1 to 200; 12 if count is above modules. */
 struct lamp_answer lamp_rounded_count(uint64_t count, uint64_t modules);
 
 #ifdef __cplusplus

@@ -1,0 +1,333 @@
+/* Compares the limits that lamp.h names with the rules of document 01 and with the library, and measures the stack that
+ * each call uses. Prints a line for each call, each fault, and how many comparisons were made; fails if there is a
+ * fault. host/build builds it.
+ */
+#define _XOPEN_SOURCE 700
+#include <inttypes.h>
+#include <stdio.h>
+#include <stdlib.h>
+#include <string.h>
+#include <ucontext.h>
+
+#include "lamp.h"
+
+/* The names of lamp.h can be used by the preprocessor. */
+#if LAMP_CARD_VERSION < 1 || LAMP_MAX_CARD < 1 || LAMP_MAX_PLAN < 1 || LAMP_MAX_EXACT_WORK < 1 || \
+    LAMP_MAX_COARSE_WORK < 1 || LAMP_MAX_SHEET < 1 || LAMP_MAX_STACK < 1 || LAMP_OFF < 1
+#error "a limit of lamp.h is not a positive number"
+#endif
+
+/* The bounds of document 01. They stand here and nowhere else in this file. */
+enum { MODULES = 200, TOP_STEP = 200, SLOTS = 1024, PRICE = 500000000, ENTRY = 1000000 };
+
+/* The sizes that document 01's rules give for these bounds, and the places of a card's fields. */
+enum {
+    CARD_BYTES = 17 + 4 * (TOP_STEP + 1) + 2 * SLOTS,
+    PLAN_BYTES = SLOTS,
+    EXACT_BYTES = (MODULES + 1) * SLOTS,
+    COARSE_BYTES = 10 * SLOTS,
+    SHEET_BYTES = MODULES * SLOTS,
+    TABLE_AT = 17,
+    LOADS_AT = TABLE_AT + 4 * (TOP_STEP + 1)
+};
+
+/* The stack on which a call is measured, and the bytes that a function of known size writes on it. */
+enum { STACK_BYTES = 1 << 20, KNOWN_BYTES = 4096, KNOWN_FRAME = 64 };
+
+static uint8_t card[CARD_BYTES], plan[PLAN_BYTES], work[EXACT_BYTES], sheet[SHEET_BYTES];
+static unsigned compared, faults;
+
+/* Counts a comparison, and a fault if it does not hold. */
+static int counted(int holds)
+{
+    compared++;
+    faults += !holds;
+    return holds;
+}
+
+static void compare(const char *subject, const char *property, uint64_t found, uint64_t wanted)
+{
+    if (!counted(found == wanted))
+        printf("%s, %s: %" PRIu64 " found, %" PRIu64 " wanted\n", subject, property, found, wanted);
+}
+
+static void compare_range(const char *subject, const char *property, uint64_t found, uint64_t least, uint64_t most)
+{
+    if (!counted(least <= found && found <= most))
+        printf("%s, %s: %" PRIu64 " found, %" PRIu64 " to %" PRIu64 " wanted\n", subject, property, found, least, most);
+}
+
+static void put(size_t at, uint64_t value, size_t bytes)
+{
+    for (size_t k = 0; k < bytes; k++)
+        card[at + k] = (uint8_t)(value >> (8 * k));
+}
+
+/* The largest show: every field at its bound, a rising convex table that ends at its bound, changing loads. */
+static void make_card(void)
+{
+    memcpy(card, "DLS", 3);
+    put(3, LAMP_CARD_VERSION, 2);
+    put(5, MODULES, 1);
+    put(6, TOP_STEP, 1);
+    put(7, SLOTS, 2);
+    put(9, PRICE, 4);
+    put(13, PRICE, 4);
+    for (uint64_t k = 0; k <= TOP_STEP; k++)
+        put(TABLE_AT + 4 * k, ENTRY * k * k / (TOP_STEP * TOP_STEP), 4);
+    for (uint64_t slot = 0; slot < SLOTS; slot++) /* the first load is at its bound */
+        put(LOADS_AT + 2 * slot, (MODULES * TOP_STEP + slot * 7919) % (MODULES * TOP_STEP + 1), 2);
+}
+
+/* The header's sizes are those of the rules. */
+static void compare_sizes(void)
+{
+    compare("LAMP_MAX_CARD", "bytes", LAMP_MAX_CARD, CARD_BYTES);
+    compare("LAMP_MAX_PLAN", "bytes", LAMP_MAX_PLAN, PLAN_BYTES);
+    compare("LAMP_MAX_EXACT_WORK", "bytes", LAMP_MAX_EXACT_WORK, EXACT_BYTES);
+    compare("LAMP_MAX_COARSE_WORK", "bytes", LAMP_MAX_COARSE_WORK, COARSE_BYTES);
+    compare("LAMP_MAX_SHEET", "bytes", LAMP_MAX_SHEET, SHEET_BYTES);
+}
+
+/* Writes one field of the largest card, and puts back what was there once the card has been checked. */
+static void compare_field(const char *what, size_t at, size_t bytes, uint64_t value, uint64_t wanted)
+{
+    uint8_t before[4];
+
+    memcpy(before, card + at, bytes);
+    put(at, value, bytes);
+    compare(what, "number", lamp_check_card(card, sizeof card).number, wanted);
+    memcpy(card + at, before, bytes);
+}
+
+/* The library's bounds are those of this file: the largest card is accepted, and one above each bound is refused. */
+static void compare_bounds(void)
+{
+    compare("the largest card", "number", lamp_check_card(card, LAMP_MAX_CARD).number, 0);
+    compare("a card of one byte less", "number", lamp_check_card(card, LAMP_MAX_CARD - 1).number, LAMP_CARD_LENGTH);
+    compare_field("version", 3, 2, LAMP_CARD_VERSION + 1, LAMP_WRONG_VERSION);
+    compare_field("modules", 5, 1, MODULES + 1, LAMP_RACK_SIZE);
+    compare_field("top step", 6, 1, TOP_STEP + 1, LAMP_RACK_SIZE);
+    compare_field("slots", 7, 2, SLOTS + 1, LAMP_SLOT_COUNT);
+    compare_field("warm-up price", 9, 4, PRICE + 1, LAMP_PRICE_RANGE);
+    compare_field("cool-down price", 13, 4, PRICE + 1, LAMP_PRICE_RANGE);
+    compare_field("F(Q)", LOADS_AT - 4, 4, ENTRY + 1, LAMP_PRICE_RANGE);
+    compare_field("load", LOADS_AT, 2, MODULES * TOP_STEP + 1, LAMP_LOAD_RANGE);
+}
+
+/* What the measured calls are given, and what they answer. */
+static struct {
+    uint64_t card_len, plan_len, work_len, sheet_len, count, load, modules;
+} given;
+static struct lamp_answer answer;
+
+static void check_card(void)
+{
+    answer = lamp_check_card(card, given.card_len);
+}
+
+static void running_cost(void)
+{
+    answer = lamp_running_cost(card, given.card_len, given.count, given.load);
+}
+
+static void plan_exact(void)
+{
+    answer = lamp_plan_exact(card, given.card_len, plan, given.plan_len, work, given.work_len);
+}
+
+static void plan_coarse(void)
+{
+    answer = lamp_plan_coarse(card, given.card_len, plan, given.plan_len, work, given.work_len);
+}
+
+static void make_sheet(void)
+{
+    answer = lamp_sheet(card, given.card_len, plan, given.plan_len, sheet, given.sheet_len);
+}
+
+static void mark(void)
+{
+    answer = lamp_mark(card, given.card_len, sheet, given.sheet_len);
+}
+
+static void rounded_count(void)
+{
+    answer = lamp_rounded_count(given.count, given.modules);
+}
+
+static void nothing(void)
+{
+}
+
+static void write_known_bytes(void)
+{
+    volatile uint8_t bytes[KNOWN_BYTES];
+
+    for (size_t k = 0; k < sizeof bytes; k++)
+        bytes[k] = 0;
+}
+
+static void no_stack(void)
+{
+    printf("limits: a function cannot be run on a stack of its own\n");
+    exit(1);
+}
+
+/* The deepest byte that a function changes on a stack full of the byte `paint`, counted from the stack's top. Filling
+ * the stack also binds memset, so that the dynamic linker does not run while a call is measured. */
+static size_t depth(void (*function)(void), int paint)
+{
+    static _Alignas(16) uint8_t stack[STACK_BYTES];
+    static ucontext_t here, there;
+    size_t untouched = 0;
+
+    memset(stack, paint, sizeof stack);
+    if (getcontext(&there) != 0)
+        no_stack();
+    there.uc_stack.ss_sp = stack;
+    there.uc_stack.ss_size = sizeof stack;
+    there.uc_link = &here;
+    makecontext(&there, function, 0);
+    if (swapcontext(&here, &there) != 0)
+        no_stack();
+    while (untouched < sizeof stack && stack[untouched] == paint)
+        untouched++;
+    return sizeof stack - untouched;
+}
+
+/* The bytes of stack that a function uses beyond an empty one. A byte that is written with the value it had is not
+ * seen; so two fillings are tried, and the larger figure is taken. */
+static size_t stack_of(void (*function)(void))
+{
+    size_t first = depth(function, 0x5A) - depth(nothing, 0x5A);
+    size_t second = depth(function, 0xA5) - depth(nothing, 0xA5);
+
+    return first > second ? first : second;
+}
+
+/* Each call, the work bytes that it is given, and which of the given numbers makes it refuse when it is one less. The
+ * order matters: the sheet is made from the exact plan, and then it is marked. */
+static const struct call {
+    const char *name;
+    void (*make)(void);
+    size_t work_len;
+    uint64_t *lessened;
+    enum lamp_refusal refusal;
+} calls[] = {
+    {"lamp_check_card", check_card, 0, &given.card_len, LAMP_CARD_LENGTH},
+    {"lamp_running_cost", running_cost, 0, &given.count, LAMP_LOAD_NOT_SERVED},
+    {"lamp_rounded_count", rounded_count, 0, &given.modules, LAMP_ENTRY_RANGE},
+    {"lamp_plan_coarse", plan_coarse, LAMP_MAX_COARSE_WORK, &given.work_len, LAMP_BUFFER_TOO_SHORT},
+    {"lamp_plan_exact", plan_exact, LAMP_MAX_EXACT_WORK, &given.work_len, LAMP_BUFFER_TOO_SHORT},
+    {"lamp_sheet", make_sheet, 0, &given.sheet_len, LAMP_BUFFER_TOO_SHORT},
+    {"lamp_mark", mark, 0, &given.sheet_len, LAMP_WRONG_LENGTH},
+};
+
+/* Gives the calls the largest show, with buffers of just the header's sizes. */
+static void give_largest(size_t work_len)
+{
+    given.card_len = LAMP_MAX_CARD;
+    given.plan_len = LAMP_MAX_PLAN;
+    given.work_len = work_len;
+    given.sheet_len = LAMP_MAX_SHEET;
+    given.count = MODULES;
+    given.load = MODULES * TOP_STEP;
+    given.modules = MODULES;
+    memset(work, LAMP_OFF, sizeof work);
+}
+
+static size_t work_bytes_left(size_t length)
+{
+    size_t left = 0;
+
+    for (size_t k = 0; k < length; k++)
+        left += work[k] != 0;
+    return left;
+}
+
+/* Makes a call on the largest show, then with one of its numbers one less, and compares its answers and its stack. */
+static void measure(const struct call *call)
+{
+    size_t accepted, refused;
+
+    give_largest(call->work_len);
+    accepted = stack_of(call->make);
+    compare(call->name, "number", answer.number, 0);
+    if (call->work_len != 0)
+        compare(call->name, "work bytes that are not zero", work_bytes_left(call->work_len), 0);
+
+    *call->lessened -= 1;
+    refused = stack_of(call->make);
+    compare(call->name, "number when it refuses", answer.number, call->refusal);
+
+    printf("%s: %zu bytes of stack on the largest show, %zu when it refuses\n", call->name, accepted, refused);
+    compare_range(call->name, "stack", accepted, 1, LAMP_MAX_STACK);
+    compare_range(call->name, "stack when it refuses", refused, 1, LAMP_MAX_STACK);
+}
+
+/* A plan buffer of one byte less is refused too. */
+static void compare_plan_length(void)
+{
+    give_largest(LAMP_MAX_COARSE_WORK);
+    given.plan_len = LAMP_MAX_PLAN - 1;
+    plan_coarse();
+    compare("lamp_plan_coarse", "number for a short plan", answer.number, LAMP_BUFFER_TOO_SHORT);
+    given.work_len = LAMP_MAX_EXACT_WORK;
+    plan_exact();
+    compare("lamp_plan_exact", "number for a short plan", answer.number, LAMP_BUFFER_TOO_SHORT);
+}
+
+/* Buffers of length 0 may be NULL: no card at all, and a show without slots. */
+static void compare_empty(void)
+{
+    put(7, 0, 2);
+    compare("no card", "number", lamp_check_card(NULL, 0).number, LAMP_NOT_A_CARD);
+    compare("empty exact plan", "number", lamp_plan_exact(card, LOADS_AT, NULL, 0, NULL, 0).number, 0);
+    compare("empty coarse plan", "number", lamp_plan_coarse(card, LOADS_AT, NULL, 0, NULL, 0).number, 0);
+    compare("sheet of an empty plan", "number", lamp_sheet(card, LOADS_AT, NULL, 0, NULL, 0).number, 0);
+    compare("empty sheet", "number", lamp_mark(card, LOADS_AT, NULL, 0).number, 0);
+    put(7, SLOTS, 2);
+}
+
+/* The dearest sheet: every entry and price is at its bound, and each module starts as often as it can and is active as
+ * long as it then can. It is active in slot 1 and in every slot of even number: in half of the slots and one more, with
+ * half as many starts as there are slots. */
+static void compare_dearest(void)
+{
+    const uint64_t starts = SLOTS / 2;
+
+    for (uint64_t k = 0; k <= TOP_STEP; k++)
+        put(TABLE_AT + 4 * k, ENTRY, 4);
+    for (uint64_t slot = 1; slot <= SLOTS; slot++) {
+        int active = slot == 1 || slot % 2 == 0;
+        put(LOADS_AT + 2 * (slot - 1), active ? MODULES * TOP_STEP : 0, 2);
+        memset(sheet + MODULES * (slot - 1), active ? TOP_STEP : LAMP_OFF, MODULES);
+    }
+    answer = lamp_mark(card, LAMP_MAX_CARD, sheet, LAMP_MAX_SHEET);
+    compare("the dearest sheet", "cost", answer.cost, MODULES * (starts * 2 * PRICE + (starts + 1) * ENTRY));
+    compare_range("the dearest sheet", "cost", answer.cost, 1, UINT64_C(103000000000000) - 1);
+}
+
+/* These comparisons hand over buffers of the rules' sizes with the header's lengths. So the two must agree before. */
+static void compare_with_library(void)
+{
+    make_card();
+    compare_bounds();
+    compare_range("a function of known size", "stack", stack_of(write_known_bytes), KNOWN_BYTES,
+                  KNOWN_BYTES + KNOWN_FRAME);
+    for (size_t k = 0; k < sizeof calls / sizeof calls[0]; k++)
+        measure(&calls[k]);
+    compare_plan_length();
+    compare_empty();
+    compare_dearest();
+}
+
+int main(void)
+{
+    compare_sizes();
+    if (faults == 0)
+        compare_with_library();
+    printf("limits: %u compared, %u faults\n", compared, faults);
+    return faults != 0;
+}
