@@ -15,9 +15,30 @@ struct LampAnswer {
 extern "C" {
     fn lamp_check_card(card: *const u8, card_len: usize) -> LampAnswer;
     fn lamp_running_cost(card: *const u8, card_len: usize, count: u64, load: u64) -> LampAnswer;
-    fn lamp_plan_exact(card: *const u8, card_len: usize, plan: *mut u8, plan_len: usize, work: *mut u8, work_len: usize) -> LampAnswer;
-    fn lamp_plan_coarse(card: *const u8, card_len: usize, plan: *mut u8, plan_len: usize, work: *mut u8, work_len: usize) -> LampAnswer;
-    fn lamp_sheet(card: *const u8, card_len: usize, plan: *const u8, plan_len: usize, sheet: *mut u8, sheet_len: usize) -> LampAnswer;
+    fn lamp_plan_exact(
+        card: *const u8,
+        card_len: usize,
+        plan: *mut u8,
+        plan_len: usize,
+        work: *mut u8,
+        work_len: usize,
+    ) -> LampAnswer;
+    fn lamp_plan_coarse(
+        card: *const u8,
+        card_len: usize,
+        plan: *mut u8,
+        plan_len: usize,
+        work: *mut u8,
+        work_len: usize,
+    ) -> LampAnswer;
+    fn lamp_sheet(
+        card: *const u8,
+        card_len: usize,
+        plan: *const u8,
+        plan_len: usize,
+        sheet: *mut u8,
+        sheet_len: usize,
+    ) -> LampAnswer;
     fn lamp_mark(card: *const u8, card_len: usize, sheet: *const u8, sheet_len: usize) -> LampAnswer;
     fn lamp_rounded_count(count: u64, modules: u64) -> LampAnswer;
 }

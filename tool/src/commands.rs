@@ -50,7 +50,11 @@ pub struct Words<'a> {
 
 impl Words<'_> {
     fn planner(&self) -> Planner {
-        if self.options.contains(&"--coarse") { Planner::Coarse } else { Planner::Exact }
+        if self.options.contains(&"--coarse") {
+            Planner::Coarse
+        } else {
+            Planner::Exact
+        }
     }
 }
 
@@ -174,7 +178,6 @@ pub fn page(words: &Words) -> Ended {
 pub fn picture(words: &Words) -> Ended {
     with_plan(words, picture::file)
 }
-
 
 /// A handed-in sheet: its bytes, and the text where it was typed.
 struct HandedIn {

@@ -63,7 +63,8 @@ fn length(head: &Head, found: usize) -> String {
 }
 
 fn prices(show: &Show) -> Vec<CardFault> {
-    let above = |name: String, number: u32, most: u32| format!("{name} {}, above {}", grouped(number.into()), grouped(most.into()));
+    let above =
+        |name: String, number: u32, most: u32| format!("{name} {}, above {}", grouped(number.into()), grouped(most.into()));
     let prices = [(Field::WarmUp, show.warm_up), (Field::CoolDown, show.cool_down)];
     let dear = prices.into_iter().filter(|(_, price)| *price > MOST_PRICE);
     let mut out: Vec<_> =
@@ -132,10 +133,9 @@ pub fn lights(show: &Show, sheet: &[u8]) -> Vec<SheetFault> {
     let wrong = slots.filter(|(_, (light, load))| *light != u64::from(**load));
     let text = |slot: usize, light: u64, load: u64| {
         let (less, more) = (load.saturating_sub(light), light.saturating_sub(load));
-        let difference = if light < load { format!("{} too little", grouped(less)) } else { format!("{} too much", grouped(more)) };
+        let difference =
+            if light < load { format!("{} too little", grouped(less)) } else { format!("{} too much", grouped(more)) };
         format!("slot {}: light {} where the load is {}, {difference}", slot + 1, grouped(light), grouped(load))
     };
-    wrong
-        .map(|(slot, (light, load))| SheetFault { slot, module: None, text: text(slot, light, u64::from(*load)) })
-        .collect()
+    wrong.map(|(slot, (light, load))| SheetFault { slot, module: None, text: text(slot, light, u64::from(*load)) }).collect()
 }

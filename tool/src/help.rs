@@ -74,7 +74,8 @@ impl Command {
     }
 
     pub fn help(&self) -> String {
-        let coarse = if self.options == PLANNER { "\n--coarse  the coarse planner's plan in place of the exact one." } else { "" };
+        let coarse =
+            if self.options == PLANNER { "\n--coarse  the coarse planner's plan in place of the exact one." } else { "" };
         format!("{}\n{}: {}.\n{}{coarse}\n{STATUS}\n", self.usage(), self.name, self.does, self.more)
     }
 }

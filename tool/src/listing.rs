@@ -5,7 +5,11 @@ use crate::words::listed;
 
 /// A step as it is printed: `-` for off.
 pub fn step(byte: u8) -> String {
-    if byte == OFF { "-".to_string() } else { byte.to_string() }
+    if byte == OFF {
+        "-".to_string()
+    } else {
+        byte.to_string()
+    }
 }
 
 /// The cost, the plan, and a line for each slot.

@@ -9,7 +9,8 @@ use std::panic;
 pub extern "C" fn main(_count: i32, _words: *const *const u8) -> i32 {
     output::keep_on_broken_pipe();
     let words: Vec<_> = std::env::args_os().skip(1).collect();
-    let outcome = panic::catch_unwind(|| commands::run(&words)).unwrap_or_else(|_| Outcome::error("a fault of the tool; nothing was written"));
+    let outcome = panic::catch_unwind(|| commands::run(&words))
+        .unwrap_or_else(|_| Outcome::error("a fault of the tool; nothing was written"));
     if let Err(error) = output::write_whole(&outcome.output) {
         output::complain(&format!("lamp: standard output was not written whole: {error}\n"));
         return 2;

@@ -35,17 +35,21 @@ pub fn standard_input() -> impl Read {
     Input(stream(0))
 }
 
-/// Writes all bytes to standard output. A file is also brought to its disk, since some file systems tell only then that they are full.
+/// Writes all bytes to standard output. A file is also brought to its disk, since some file systems tell only then that they are
+/// full; one that has no such request is not asked.
 pub fn write_whole(bytes: &[u8]) -> io::Result<()> {
     if bytes.is_empty() {
         return Ok(());
     }
     let mut out = stream(1);
     out.write_all(bytes)?;
-    if out.metadata()?.is_file() {
-        out.sync_all()?;
+    if !out.metadata()?.is_file() {
+        return Ok(());
     }
-    Ok(())
+    match out.sync_all() {
+        Err(error) if matches!(error.kind(), io::ErrorKind::InvalidInput | io::ErrorKind::Unsupported) => Ok(()),
+        synced => synced,
+    }
 }
 
 /// Writes a message to standard error, as far as that is possible.

@@ -73,7 +73,11 @@ fn plan(planned: &Planned) -> String {
 /// A range of numbers from 1 on, such as `slots 21 to 40`.
 fn range(name: &str, first: usize, last: usize) -> String {
     let (from, to) = (grouped(first as u64), grouped(last as u64));
-    if first == last { format!("{name} {from}") } else { format!("{name}s {from} to {to}") }
+    if first == last {
+        format!("{name} {from}")
+    } else {
+        format!("{name}s {from} to {to}")
+    }
 }
 
 /// The sheet: a group of lines for each slot, which no page break divides.

@@ -157,10 +157,18 @@ fn chart(planned: &Planned, layout: &Layout) -> String {
     let loads: Vec<usize> = planned.show.loads.iter().map(|load| usize::from(*load)).collect();
     let counts: Vec<usize> = planned.plan.iter().map(|count| usize::from(*count)).collect();
     let (width, height, text) = (layout.grid_width(), lower - upper, upper + layout.size(9));
-    let mut out = format!("<rect x=\"{left}\" y=\"{upper}\" width=\"{width}\" height=\"{height}\" fill=\"none\" stroke=\"#999\"/>\n");
+    let mut out =
+        format!("<rect x=\"{left}\" y=\"{upper}\" width=\"{width}\" height=\"{height}\" fill=\"none\" stroke=\"#999\"/>\n");
     let stroke = format!("stroke-width=\"{}\"", 1.5 * layout.scale as f64);
     out += &stairs(&loads, most_load, layout, upper, lower, &format!("stroke=\"{LOAD_COLOUR}\" {stroke}"));
-    out += &stairs(&counts, most_count, layout, upper, lower, &format!("stroke=\"{COUNT_COLOUR}\" {stroke} stroke-dasharray=\"5 3\""));
+    out += &stairs(
+        &counts,
+        most_count,
+        layout,
+        upper,
+        lower,
+        &format!("stroke=\"{COUNT_COLOUR}\" {stroke} stroke-dasharray=\"5 3\""),
+    );
     out += &label(left - gap, text, "end", LOAD_COLOUR, &grouped(most_load as u64));
     out += &label(left - gap, lower, "end", LOAD_COLOUR, "load 0");
     out += &label(right + gap, text, "start", COUNT_COLOUR, &grouped(most_count as u64));

@@ -38,7 +38,11 @@ pub fn read(text: &str) -> Result<SheetText, TextError> {
 
 /// A listing's first lines stand before its slots.
 fn before_slots(word: &Word, rows: &[Row]) -> Result<(), TextError> {
-    if rows.is_empty() { Ok(()) } else { word.error(format!("{} after the first slot", word.quoted())) }
+    if rows.is_empty() {
+        Ok(())
+    } else {
+        word.error(format!("{} after the first slot", word.quoted()))
+    }
 }
 
 /// The steps of a line, without the label of the slot.
@@ -63,7 +67,9 @@ fn step(word: &Word) -> Result<u8, TextError> {
     }
     match word.number(u64::from(OFF) - 1) {
         Ok(step) => Ok(step as u8),
-        Err(NoNumber::TooLarge) => word.error(format!("{} is too large for a step; a module that is off is typed -", word.quoted())),
+        Err(NoNumber::TooLarge) => {
+            word.error(format!("{} is too large for a step; a module that is off is typed -", word.quoted()))
+        }
         Err(NoNumber::NotDigits) => word.error(format!("{} is not a step: digits, or - for off", word.quoted())),
     }
 }
@@ -88,7 +94,11 @@ impl SheetText {
             let row = &self.rows[at];
             let found = several(row.steps.len() as u64, "step");
             let line = row.steps[0].1.line;
-            return Some(format!("slot {}: {found} where the rack has {} (line {line})", at + 1, several(modules as u64, "module")));
+            return Some(format!(
+                "slot {}: {found} where the rack has {} (line {line})",
+                at + 1,
+                several(modules as u64, "module")
+            ));
         }
         let found = self.rows.len();
         (found != slots).then(|| format!("{} where the show has {}", several(found as u64, "slot"), grouped(slots as u64)))

@@ -157,7 +157,9 @@ fn one_number(fields: &Fields, field: Option<Field>, name: &Word) -> Result<(), 
     match typed.numbers.len() {
         0 => name.error(format!("{} has no number", field.name())),
         1 => Ok(()),
-        _ => Err(TextError { place: typed.numbers[1].1, message: format!("a second number for {}, which has one", field.name()) }),
+        _ => {
+            Err(TextError { place: typed.numbers[1].1, message: format!("a second number for {}, which has one", field.name()) })
+        }
     }
 }
 
@@ -196,7 +198,11 @@ fn table_size(table: &Typed, top: u64) -> Result<(), TextError> {
 }
 
 fn entries(number: u64) -> String {
-    if number == 1 { "1 entry".to_string() } else { format!("{} entries", grouped(number)) }
+    if number == 1 {
+        "1 entry".to_string()
+    } else {
+        format!("{} entries", grouped(number))
+    }
 }
 
 /// The text of a show. Reading it gives the same show.
@@ -212,11 +218,19 @@ pub fn write(show: &Show) -> String {
 }
 
 fn entry_range(first: usize, last: usize) -> String {
-    if first == last { format!("F({first})") } else { format!("F({first}) to F({last})") }
+    if first == last {
+        format!("F({first})")
+    } else {
+        format!("F({first}) to F({last})")
+    }
 }
 
 fn slot_range(first: usize, last: usize) -> String {
-    if first == last { format!("slot {}", first + 1) } else { format!("slots {} to {}", first + 1, last + 1) }
+    if first == last {
+        format!("slot {}", first + 1)
+    } else {
+        format!("slots {} to {}", first + 1, last + 1)
+    }
 }
 
 /// How many numbers of a list stand on a line.
