@@ -175,9 +175,12 @@ fn places_of_refusals() {
     assert_eq!(told(&Card { loads: vec![0; 1_025], ..a() }.bytes()), "1,025 slots");
     assert_eq!(told(&a().bytes()[..34]), "34 bytes where top 2 and 3 slots make 35");
     let dear = Card { up: 500_000_001, down: 500_000_000, table: vec![1, 1_000_001, 2_000_001], ..a() };
-    assert_eq!(told(&dear.bytes()), "warm-up 500,000,001, above 500,000,000; F(1) 1,000,001, above 1,000,000; F(2) 2,000,001, above 1,000,000");
-    assert_eq!(told(&small(3, &[0, 2, 3, 9, 9], &[1]).bytes()), "F(0), F(1), F(2): 0 + 3 is below 2 times 2; F(2), F(3), F(4): 3 + 9 is below 2 times 9");
-    assert_eq!(told(&small(3, &[1, 2, 4], &[6, 7, 0, 9]).bytes()), "slot 2: load 7, above 6, 3 times 2; slot 4: load 9, above 6, 3 times 2");
+    let above = "warm-up 500,000,001, above 500,000,000; F(1) 1,000,001, above 1,000,000; F(2) 2,000,001, above 1,000,000";
+    assert_eq!(told(&dear.bytes()), above);
+    let bent = small(3, &[0, 2, 3, 4, 5, 4], &[1]);
+    assert_eq!(told(&bent.bytes()), "F(0), F(1), F(2): 0 + 3 is below 2 times 2; F(3), F(4), F(5): 4 + 4 is below 2 times 5");
+    let bright = small(3, &[1, 2, 4], &[6, 7, 0, 9]);
+    assert_eq!(told(&bright.bytes()), "slot 2: load 7, above 6, 3 times 2; slot 4: load 9, above 6, 3 times 2");
     let falling = faults::of_card(Refusal::NotMonotone, &small(2, &[5, 1, 9], &[2]).bytes());
     assert_eq!(falling[0].text, "F(1) 1 is below F(0) 5");
 

@@ -1,0 +1,108 @@
+#!/usr/bin/env python3
+"""The release folder, run from another place with nothing but the system's programs, and the commands that the two READMEs print."""
+import pathlib
+import re
+import shutil
+import subprocess
+import sys
+import tempfile
+
+ROOT = pathlib.Path(__file__).resolve().parent.parent
+SYSTEM = "/usr/bin:/bin"
+A = b"cost 32\nplan 3 1 1\nslot 1: 2 2 2\nslot 2: 0 - -\nslot 3: 2 - -\n"
+DAY = ["card", "check", "key", "picture", "page", "mark"]
+done = 0
+
+
+def run(words, folder, **more):
+    ended = subprocess.run(words, cwd=folder, capture_output=True, **more)
+    return ended.returncode, ended.stdout, ended.stderr
+
+
+def expect(name, found, status, out=None, err=b""):
+    """Compares an ended command; `out` None is any output."""
+    global done
+    if found[0] != status or out not in (None, found[1]) or not found[2].startswith(err) or (not err and found[2]):
+        sys.exit(f"{name}: status {found[0]}, printed {found[1][-300:]!r}, complained {found[2][-300:]!r}")
+    done += 1
+
+
+def commands(readme, section):
+    """The lines of the first block of commands after a heading."""
+    text = (ROOT / readme).read_text(encoding="utf-8").partition(section)[2]
+    block = re.search(r"\n\n((?:    .*\n)+)", text)
+    return [line[4:] for line in block[1].splitlines()]
+
+
+def run_lines(name, lines, folder, environment):
+    """Runs each line by itself; together they print the listing of example A and the marks of example D."""
+    printed = b""
+    for line in lines:
+        found = run(["sh", "-c", line], folder, env=environment)
+        expect(f"{name}: {line}", found, 0)
+        printed += found[1]
+    for part in (b"accepted: 3 modules", A, b"cost 37\nleast 32\nabove 5\n"):
+        if part not in printed:
+            sys.exit(f"{name}: its lines do not print {part!r}")
+
+
+def release(folder):
+    bare = {"PATH": SYSTEM}
+    for program in ("rt", "cargo", "rustc"):
+        if shutil.which(program, path=SYSTEM):
+            sys.exit(f"{program} is among the system's programs, so that this test shows nothing")
+    first, moved = folder / "first", folder / "some where else"
+    expect("bin/release", run([ROOT / "bin" / "release", first], folder), 0)
+    expect("bin/release into a folder with files", run([ROOT / "bin" / "release", first], folder), 2, b"", b"bin/release: ")
+    expect("bin/release without a folder", run([ROOT / "bin" / "release"], folder), 2, b"", b"bin/release: usage")
+    first.rename(moved)
+    expect("the sums", run(["sha256sum", "--quiet", "-c", "SHA256SUMS"], moved, env=bare), 0, b"")
+    listed = {line.split("  ./", 1)[1] for line in (moved / "SHA256SUMS").read_text().splitlines()}
+    there = {str(path.relative_to(moved)) for path in moved.rglob("*") if path.is_file()} - {"SHA256SUMS"}
+    if listed != there:
+        sys.exit(f"the sums are of other files than there are: {listed ^ there}")
+    build = (moved / "BUILD.txt").read_text()
+    if not re.search(r"\Arelease \d+\.\d+\.\d+\n(commit .*\n)?toolchain rattle-.*\n", build):
+        sys.exit(f"BUILD.txt has {build!r}")
+    use(moved, bare)
+    run_lines("the release's README", commands("release/README.md", "# Lamp planner, a release"), moved, bare)
+
+
+def use(folder, bare):
+    """The programs, and a host built with the folder's header and archive."""
+    expect("plan", run(["bin/plan", "samples/a.card"], folder, env=bare), 0, A)
+    reason = b"bin/plan: refused 7: table not convex"
+    expect("plan of a refused card", run(["bin/plan", "samples/not-convex.card"], folder, env=bare), 1, b"refused 7\n", reason)
+    expect("card", run(["bin/card", "samples/a.hex"], folder, env=bare), 0, (folder / "samples" / "a.card").read_bytes())
+    marked = run(["bin/lamp", "mark", "samples/a.show", "samples/d.sheet"], folder, env=bare)
+    expect("lamp mark", marked, 0, b"cost 37\nleast 32\nabove 5\n")
+    expect("lamp from elsewhere", run([folder / "bin" / "lamp", "--version"], "/", env=bare), 0, version())
+    flags = run(["pkg-config", "--cflags", "--libs", "lamp"], folder, env={**bare, "PKG_CONFIG_PATH": str(folder / "lib" / "pkgconfig")})
+    expect("pkg-config", flags, 0)
+    line = f"gcc -std=c11 samples/host.c {flags[1].decode().strip()} -o host && ./host samples/a.card"
+    expect("a host", run(["sh", "-c", line], folder, env=bare), 0, A)
+    (folder / "host").unlink()
+
+
+def version():
+    header = (ROOT / "include" / "lamp.h").read_text(encoding="utf-8")
+    return f"lamp {re.search(r'LAMP_RELEASE .([0-9.]+).', header)[1]}\n".encode()
+
+
+def readme(folder):
+    """The examiner's day, in a folder from which the repository's programs are reached by a link."""
+    for name in ("bin", "samples"):
+        (folder / name).symlink_to(ROOT / name)
+    lines = commands("README.md", "## The examiner's day")
+    if [command for command in DAY if not any(f"bin/lamp {command} " in line for line in lines)] or len(lines) > 6:
+        sys.exit(f"README's day is not six lines with {DAY}")
+    run_lines("README", lines, folder, None)
+    expect("README's first command", run(["sh", "-c", commands("README.md", "# Lamp planner")[0]], folder), 0, A)
+
+
+with tempfile.TemporaryDirectory() as place:
+    release(pathlib.Path(place))
+    day = pathlib.Path(place) / "day"
+    day.mkdir()
+    readme(day)
+print(f"release: {done} passed")

@@ -1,0 +1,63 @@
+//! What include/lamp.h says beside what the tool and the documents say.
+use lamp::input;
+use lamp::refusal::Refusal;
+use std::fs;
+use std::path::Path;
+
+fn read(name: &str) -> String {
+    let path = Path::new(env!("CARGO_MANIFEST_DIR")).join("..").join(name);
+    fs::read_to_string(&path).unwrap_or_else(|error| panic!("{name}: {error}"))
+}
+
+/// The value of a `#define`.
+fn defined(header: &str, name: &str) -> String {
+    let start = format!("#define {name} ");
+    let line = header.lines().find_map(|line| line.strip_prefix(&start)).unwrap_or_else(|| panic!("no {name}"));
+    line.split_whitespace().next().unwrap().trim_matches('"').to_string()
+}
+
+/// A name of C in the form of Rust: `LAMP_NOT_A_CARD` is `NotACard`.
+fn in_rust(name: &str) -> String {
+    let words = name.strip_prefix("LAMP_").unwrap().split('_');
+    words.map(|word| word[..1].to_string() + &word[1..].to_lowercase()).collect()
+}
+
+#[test]
+fn refusals_have_the_headers_names_and_numbers() {
+    let header = read("include/lamp.h");
+    let body = header.split("enum lamp_refusal {").nth(1).unwrap().split('}').next().unwrap();
+    let lines = body.lines().filter(|line| line.trim_start().starts_with("LAMP_"));
+    let found: Vec<(String, u64)> = lines
+        .map(|line| {
+            let (name, rest) = line.trim().split_once(" = ").unwrap();
+            (in_rust(name), rest.split(|c: char| !c.is_ascii_digit()).next().unwrap().parse().unwrap())
+        })
+        .collect();
+    let bound: Vec<(String, u64)> = Refusal::ALL.iter().map(|refusal| (format!("{refusal:?}"), refusal.number())).collect();
+    assert_eq!(found, bound);
+}
+
+/// Every call of the header is declared in the binding, and has a safe function there.
+#[test]
+fn every_call_is_bound() {
+    let (header, binding) = (read("include/lamp.h"), read("tool/src/calls.rs"));
+    let calls: Vec<&str> = header.split("\nstruct lamp_answer lamp_").skip(1).map(|rest| rest.split('(').next().unwrap()).collect();
+    assert_eq!(calls.len(), 7);
+    for call in calls {
+        assert!(binding.contains(&format!("    fn lamp_{call}(")), "{call} is not declared");
+        assert!(binding.contains(&format!("\npub fn {call}(")), "{call} has no safe function");
+    }
+}
+
+#[test]
+fn release_and_limits() {
+    let header = read("include/lamp.h");
+    let release = defined(&header, "LAMP_RELEASE");
+    assert!(read("tool/Cargo.toml").contains(&format!("\nversion = \"{release}\"\n")));
+    let newest = read("CHANGES.md").lines().find_map(|line| line.strip_prefix("## ").map(str::to_string));
+    assert_eq!(newest.and_then(|line| line.split(',').next().map(str::to_string)), Some(release));
+    assert_eq!(defined(&header, "LAMP_MAX_SHEET"), input::MOST_SHEET.to_string());
+    assert!(defined(&header, "LAMP_MAX_CARD").parse::<usize>().unwrap() < input::MOST_CARD);
+    assert_eq!(defined(&header, "LAMP_CARD_VERSION"), lamp::show::VERSION.to_string());
+    assert_eq!(defined(&header, "LAMP_OFF"), lamp::show::OFF.to_string());
+}
