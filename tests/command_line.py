@@ -6,6 +6,8 @@ import subprocess
 import sys
 import time
 
+from cards import card
+
 ROOT = pathlib.Path(__file__).resolve().parent.parent
 PROGRAM = ROOT / "target" / "bin" / "plan"
 done = 0
@@ -37,13 +39,6 @@ def expect(name, data, wanted, pieces=None):
     if found != wanted:
         sys.exit(f"{name}: printed {found[:200]!r}, expected {wanted[:200]!r}")
     done += 1
-
-
-def card(m=3, q=2, up=3, down=2, table=(1, 2, 4), loads=(6, 0, 2), version=1, slots=None):
-    slots = len(loads) if slots is None else slots
-    out = b"DLS" + version.to_bytes(2, "little") + bytes([m, q]) + slots.to_bytes(2, "little")
-    out += up.to_bytes(4, "little") + down.to_bytes(4, "little")
-    return out + b"".join(f.to_bytes(4, "little") for f in table) + b"".join(l.to_bytes(2, "little") for l in loads)
 
 
 def refused(number):

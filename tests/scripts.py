@@ -13,6 +13,8 @@ import tempfile
 import threading
 import time
 
+from cards import card
+
 ROOT = pathlib.Path(__file__).resolve().parent.parent
 PROGRAM = ROOT / "target" / "bin" / "plan"
 SCRIPTS = ("build", "card", "lamp", "plan")
@@ -108,12 +110,6 @@ def shells():
 
 
 # ---------------------------------------------------------------- cards
-
-
-def card(m=3, q=2, up=3, down=2, table=(1, 2, 4), loads=(6, 0, 2), version=1):
-    out = b"DLS" + version.to_bytes(2, "little") + bytes([m, q]) + len(loads).to_bytes(2, "little")
-    out += up.to_bytes(4, "little") + down.to_bytes(4, "little")
-    return out + b"".join(f.to_bytes(4, "little") for f in table) + b"".join(l.to_bytes(2, "little") for l in loads)
 
 
 A_CARD = (ROOT / "samples" / "a.card").read_bytes()
@@ -273,8 +269,8 @@ def plan_sees_a_broken_program(folder, path):
 
 def plan_elsewhere(folder, path):
     """Only what is needed, in an empty folder, without rt; through links; and as a release."""
-    alone = Place(copied(folder / "a place", ("plan", "build")), path)
-    equal("plan, build and the program alone", alone.run("bin/plan", data=A_CARD), PLANNED)
+    alone = Place(copied(folder / "a place", ("plan",)), path)
+    equal("bin/plan and the program alone", alone.run("bin/plan", data=A_CARD), PLANNED)
     link = folder / "links" / "planner"
     link.parent.mkdir()
     link.symlink_to(pathlib.Path("..") / "a place" / "bin" / "plan")
@@ -289,6 +285,8 @@ def plan_elsewhere(folder, path):
     both = Place(copied(folder / "both"), path)
     put(both.folder / "libexec/plan", READER + "echo cost 7\n", 0o755)
     equal("libexec beside target", both.run("bin/plan", data=A_CARD), PLANNED)
+    nothing = Place(copied(folder / "nothing", ("plan",), None), path)
+    complains("bin/plan alone", nothing.run("bin/plan", data=A_CARD), "bin/plan: there is neither a program nor bin/build here")
     bare = Place(copied(folder / "bare", ("plan", "build"), None), path)
     complains("no program", bare.run("bin/plan", data=A_CARD), "bin/build: target/bin/plan is missing; there is no crates here")
 

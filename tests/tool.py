@@ -8,6 +8,8 @@ import sys
 import tempfile
 import xml.etree.ElementTree as ElementTree
 
+from cards import card
+
 ROOT = pathlib.Path(__file__).resolve().parent.parent
 LAMP = ROOT / "tool" / "target" / "release" / "lamp"
 SAMPLES = ROOT / "samples"
@@ -47,12 +49,6 @@ def ensure(name, truth):
     """A part of a test, which is not counted by itself."""
     if not truth:
         sys.exit(f"{name}: it is not so")
-
-
-def card(m=3, q=2, up=3, down=2, table=(1, 2, 4), loads=(6, 0, 2), version=1):
-    out = b"DLS" + version.to_bytes(2, "little") + bytes([m, q]) + len(loads).to_bytes(2, "little")
-    out += up.to_bytes(4, "little") + down.to_bytes(4, "little")
-    return out + b"".join(f.to_bytes(4, "little") for f in table) + b"".join(l.to_bytes(2, "little") for l in loads)
 
 
 def shows_and_cards():
