@@ -720,6 +720,34 @@ def lamp_runs(tree):
     tree.calls()
 
 
+# A made-up compiler, which writes a program that does nothing where it is asked to, and a made-up nm.
+COMPILER = """#!/bin/sh
+while [ $# -gt 0 ]; do
+    [ "$1" = -o ] && printf '#!/bin/sh\\n' >"$2" && chmod 755 "$2"
+    shift
+done
+"""
+NM = "#!/bin/sh\necho '                 U memset'\n"
+
+
+def others_build(tree, folder):
+    """host/build and bench/run take no archive that is missing or older than its sources."""
+    for name, text in (("gcc", COMPILER), ("g++", COMPILER), ("nm", NM)):
+        put(folder / name, text, 0o755)
+    more = links(folder / "more", ("bash", "chmod", "dirname", "sort"))
+    path, without = f"{folder}:{more}:{tree.path}", f"{folder}:{more}:{tree.without}"
+    for script in ("host/build", "bench/run"):
+        put(tree.folder / script, (ROOT / script).read_bytes(), 0o755)
+        command = tree.folder / script
+        tree.have("library")
+        equal(f"{script} with an archive", (tree.run(command, path=path)[0], tree.calls()), (0, []))
+        tree.touch("crates.txt")
+        equal(f"{script} with an old archive and no rt", tree.run(command, path=without)[0], 2)
+        equal(f"{script} with an old archive", (tree.run(command, path=path)[0], tree.calls()), (0, [STATICLIB]))
+        tree.have()
+        equal(f"{script} without an archive", (tree.run(command, path=path)[0], tree.calls()), (0, [STATICLIB]))
+
+
 # ---------------------------------------------------------------- where a machine allows it
 
 SMALL = 'mount -t tmpfs -o size=8k none "$1" || exit 99; out=$1/out; shift; "$@" >"$out"'
@@ -794,6 +822,7 @@ def builds(folder, path):
     build_at_the_same_time(tree)
     plan_builds(tree)
     lamp_runs(tree)
+    others_build(tree, folder / "compilers")
 
 
 def main():
