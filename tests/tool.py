@@ -187,6 +187,7 @@ def wrong_use(folder):
         status, out, err = lamp(command, "--help")
         require(f"help of {command}", status == 0 and out.startswith(f"usage: lamp {command} ".encode()) and not err)
         require(f"{command} is in the help", f"\n  lamp {command} ".encode() in lamp("--help")[1])
+    expect("a file called --help", lamp("check", "--", "--help", cwd=folder), 2, b"", "--help: No such file or directory")
     expect("no such file", lamp("check", folder / "none"), 2, b"", "none: No such file or directory")
     expect("a directory", lamp("check", folder), 2, b"", "a directory, not a file")
     expect("a directory as standard input", folder_as_input(folder), 2, b"", "a directory")

@@ -69,7 +69,7 @@ pub fn run(words: &[OsString]) -> Outcome {
     let Some(command) = help::COMMANDS.iter().find(|command| first == command.name) else {
         return Outcome::error(&format!("'{}' is no command\n{}", input::name(first), help::USAGE));
     };
-    if words[1..].iter().any(|word| word == "--help" || word == "-h") {
+    if words[1..].iter().take_while(|word| *word != "--").any(|word| word == "--help" || word == "-h") {
         return Outcome::done(command.help());
     }
     let ended = split(command, &words[1..]).and_then(|words| (command.run)(&words));
