@@ -6,7 +6,9 @@
  * done, 1 if a call refused, with the reason on standard error, and 2 for wrong use, a file that cannot be read, a lack
  * of memory, or output that was not written whole. Unless all calls succeed, nothing is printed on standard output.
  *
+ * In the repository, and in a release folder:
  *   gcc -std=c11 -O2 -Wall -Wextra -Wswitch-enum -pedantic -Werror -Iinclude host/host.c target/staticlib/liblamp.a
+ *   gcc -std=c11 -O2 -Wall -Wextra -Wswitch-enum -pedantic -Werror -Iinclude samples/host.c lib/liblamp.a
  */
 #include <inttypes.h>
 #include <stdio.h>

@@ -1,7 +1,8 @@
 /* lamp.h: the calls of liblamp.a, the lamp planner for a rack of laser modules.
  *
- * This file is the manual for the author of a host, a C program that uses the library. host/host.c is a
- * whole host to copy from. LAMP_RELEASE below names the release, and CHANGES.md says what each changed.
+ * This file is the manual for the author of a host, a C program that uses the library. host/host.c (in a
+ * release folder samples/host.c) is a whole host to copy from. LAMP_RELEASE below names the release, and
+ * CHANGES.md says what each changed.
  *
  *
  * WHAT THE LIBRARY DOES
@@ -204,7 +205,7 @@ extern "C" {
 #define LAMP_MAX_COARSE_WORK 10240 /* work of lamp_plan_coarse for T 1,024 and any m: 10 * 1,024 */
 #define LAMP_MAX_SHEET 204800      /* a sheet of m 200 and T 1,024: 200 * 1,024 */
 
-/* The stack that a call uses, in bytes: the largest figure that host/limits.c measured, rounded up to a
+/* The stack that a call uses, in bytes: the largest figure that the test host/limits.c measures, rounded up to a
  * multiple of 256. It counts the call's return address and the memset of the GNU C library. A dynamically
  * linked host that binds symbols at their first use needs more in the first call that uses memset,
  * because the dynamic linker then runs on the same stack: 6,648 bytes were measured on one machine. Such

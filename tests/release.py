@@ -52,9 +52,21 @@ def release(folder):
         if shutil.which(program, path=SYSTEM):
             sys.exit(f"{program} is among the system's programs, so that this test shows nothing")
     first, moved = folder / "first", folder / "some where else"
-    expect("bin/release", run([ROOT / "bin" / "release", first], folder), 0)
-    expect("bin/release into a folder with files", run([ROOT / "bin" / "release", first], folder), 2, b"", b"bin/release: ")
-    expect("bin/release without a folder", run([ROOT / "bin" / "release"], folder), 2, b"", b"bin/release: usage")
+    command = ROOT / "bin" / "release"
+    first.mkdir()
+    said = b"bin/release: release %s is in " % version().split()[1]
+    expect("bin/release", run([command, f"{first}//"], folder), 0, b"", said)
+    expect("bin/release into a folder with files", run([command, first], folder), 2, b"", b"bin/release: ")
+    for words in ([], [""], ["/"], ["-x"], ["a", "b"]):
+        expect(f"bin/release {words}", run([command, *words], folder), 2, b"", b"bin/release: usage")
+    expect("bin/release --help", run([command, "--help"], folder), 0)
+    (folder / "empty").mkdir()
+    expect("bin/release without rt", run([command, "empty"], folder, env=bare), 2, b"", b"bin/release: the toolchain (rt) is needed")
+    (folder / "half.part").mkdir()
+    expect("bin/release after a stopped one", run([command, "half"], folder), 2, b"", b"bin/release: half.part is there")
+    expect("bin/release where no folder can be made", run([command, "none/x"], folder), 2, b"", b"mkdir: ")
+    if sorted(path.name for path in folder.iterdir()) != ["empty", "first", "half.part"]:
+        sys.exit(f"bin/release left something: {list(folder.iterdir())}")
     first.rename(moved)
     expect("the sums", run(["sha256sum", "--quiet", "-c", "SHA256SUMS"], moved, env=bare), 0, b"")
     listed = {line.split("  ./", 1)[1] for line in (moved / "SHA256SUMS").read_text().splitlines()}
@@ -64,7 +76,9 @@ def release(folder):
     build = (moved / "BUILD.txt").read_text()
     if not re.search(r"\Arelease \d+\.\d+\.\d+\n(commit .*\n)?toolchain rattle-.*\n", build):
         sys.exit(f"BUILD.txt has {build!r}")
+    (moved / "target").mkdir()
     use(moved, bare)
+    (moved / "target").rmdir()
     run_lines("the release's README", commands("release/README.md", "# Lamp planner, a release"), moved, bare)
 
 

@@ -137,8 +137,12 @@ REFUSED = [
 ]
 
 
+TEXTS = "bin/plan: hex text becomes a card by bin/card, and a show typed as text by bin/lamp card\n"
+
+
 def refused(number, words):
-    return 1, b"refused %d\n" % number, f"bin/plan: refused {number}: {words}\n"
+    hint = TEXTS if number == 1 else ""
+    return 1, b"refused %d\n" % number, f"bin/plan: refused {number}: {words}\n{hint}"
 
 
 # ---------------------------------------------------------------- what bin/plan and bin/card have in common
@@ -159,6 +163,9 @@ def writes_nothing_well(place, script, name):
         equal(f"{script}: a full device", place.run(script, name, stdout=full), (2, None, whole))
         equal(f"{script} --help: a full device", place.run(script, "--help", stdout=full), (2, None, whole))
     equal(f"{script}: a closed pipe", place.to_closed_pipe(script, name), (2, None, whole))
+    limited = f'ulimit -f 0; exec "$@" >"{place.folder}/limited"'
+    command = place.shell + [str(place.folder / script), str(name)]
+    equal(f"{script}: a file too large", place.run("sh", "-c", limited, "sh", *command), (2, NOTHING, whole))
     equal(f"{script}: closed", place.through_sh(">&-", script, name), (2, NOTHING, f"{script}: standard output is closed\n"))
     equal(f"{script} --help: closed", place.through_sh(">&-", script, "--help"), (2, NOTHING, whole))
 
@@ -307,8 +314,10 @@ def card_makes(place):
     equal("a text after -", run("bin/card", "-", data=A_HEX.encode()), made(A_CARD))
     equal("a name with a dash", run("bin/card", "./-a.hex"), made(A_CARD))
     equal("a name after --", run("bin/card", "--", "-a.hex"), made(A_CARD))
+    equal("a text, and messages closed", place.through_sh("2>&-", "bin/card", "./-a.hex"), made(A_CARD))
     cases = [
         (b"444C53", b"DLS"),
+        (b"\xef\xbb\xbf44 4C 53\n", b"DLS"),
         (b"44\t4c \t53\r\n01", b"DLS\1"),
         (b"  44\n\n\n4C53", b"DLS"),
         (b"44#4C\n53", b"DS"),
@@ -343,7 +352,7 @@ def card_finds_errors(place):
         (b"44 \x0c4C", "line 1: '?4C' is not hex digits"),
         (b"44 \x0b 4C", "line 1: '?' is not hex digits"),
         (b"44 \x1b[31m", "line 1: '?[31m' is not hex digits"),
-        (b"\xef\xbb\xbf44", "line 1: '???44' is not hex digits"),
+        (b"44\n\xef\xbb\xbf44", "line 2: '???44' is not hex digits"),
         (b"44\xc2\xa04C", "line 1: '44??4C' is not hex digits"),
         (b"44 # \0 4\n4", "line 1: the comment has a byte that is not text"),
         (b"44 # \x7f", "line 1: the comment has a byte that is not text"),

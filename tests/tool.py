@@ -99,7 +99,9 @@ def checks():
 
 
 def words_of_plan(data):
-    return subprocess.run([ROOT / "bin" / "plan"], input=data, capture_output=True).stderr
+    """The first line that bin/plan prints to standard error."""
+    said = subprocess.run([ROOT / "bin" / "plan"], input=data, capture_output=True).stderr
+    return said.partition(b"\n")[0] + b"\n"
 
 
 def keys():
@@ -137,6 +139,9 @@ def marks():
         b"2 2 2\n- 0\n2 - -\n": length + b"  slot 2: 2 steps where the rack has 3 modules (line 2)\n",
         b"2 2 2 - 0 -\n2 - -\n": length + b"  slot 1: 6 steps where the rack has 3 modules (line 1)\n",
         b"2 2 2\n- 0 -\n": length + b"  2 slots where the show has 3\n",
+        b"2 2 2 # first\r2 2 2\n- 0 -\n2 - -\n": length + b"  4 slots where the show has 3\n",
+        b"slot 1: 2 2 2\nslot 2:\nslot 3: 2 - -\n": length + b"  slot 2: 0 steps where the rack has 3 modules (line 2)\n",
+        b"2 2 2\n- 0 -\n2 - -\nslot 4:\n": length + b"  slot 4: 0 steps where the rack has 3 modules (line 4)\n",
         b"2 2 2\n- 0 -\n2 - -\n2 -\n": length + b"  slot 4: 2 steps where the rack has 3 modules (line 4)\n",
         b"2 2 2\n- 3 -\n2 - 9\n": entry
         + b"  slot 2, module 2: step 3, above 2 (line 2, column 3)\n  slot 3, module 3: step 9, above 2 (line 3, column 5)\n",
@@ -146,9 +151,19 @@ def marks():
     for text, wanted in refusals.items():
         expect(f"sheet {text!r}", lamp("mark", a, "-", data=text), 1, wanted)
     expect("eight bytes", lamp("mark", a, "-", "--bytes", data=as_bytes[:8]), 1, length + b"  8 bytes where 3 slots and 3 modules make 9\n")
+    looks = b"  10 bytes where 3 slots and 3 modules make 9; it looks like typed text, which is read without --bytes\n"
+    expect("text as bytes", lamp("mark", a, "-", "--bytes", data=b"2 2 2\n- 0\n"), 1, length + looks)
     expect("a step too large", lamp("mark", a, "-", data=b"2 2 255\n"), 2, b"", "line 1, column 5: '255' is too large for a step")
     expect("a card for a sheet", lamp("mark", a, a), 2, b"", "this is a card, not a sheet")
     expect("a show for a sheet", lamp("mark", a, SAMPLES / "a.show"), 2, b"", "this is a show, not a sheet")
+    expect("a key for a sheet", lamp("mark", a, "-", data=lamp("key", a)[1]), 2, b"", "this is a key; a sheet is its lines from 'cost' on")
+    expect("hex for a sheet", lamp("mark", a, SAMPLES / "a.hex"), 2, b"", "this is hex text, not a sheet")
+    expect("a page for a sheet", lamp("mark", a, "-", data=lamp("page", a)[1]), 2, b"", "this is a page or a picture, not a sheet")
+    expect("a sheet in UTF-16", lamp("mark", a, "-", data="2 2 2\n".encode("utf-16")), 2, b"", "save it as UTF-8")
+    latin = b"# M\xfcller\n2 2 2\n- 0 -\n2 - -\n"
+    expect("a sheet in Latin-1", lamp("mark", a, "-", data=latin), 2, b"", "line 1, column 4: the byte FC is not UTF-8; save the text as UTF-8")
+    expect("card and sheet swapped", lamp("mark", sheet, a), 2, b"", "this looks like a sheet; the card is named before it")
+    expect("a plain sheet for a card", lamp("mark", "-", a, data=b"22 11 10\n11 10 22\n"), 2, b"", "this looks like a sheet")
     require("a refused card", lamp("mark", SAMPLES / "not-convex.card", sheet)[1].startswith(b"refused 7: table not convex\n"))
 
 
@@ -167,12 +182,12 @@ def numbers():
     expect("a count above the rack", lamp("cost", a, "4", "0"), 1, b"", "refused 12", "count 4 in a rack of 3 modules")
     expect("cost on a refused card", lamp("cost", SAMPLES / "not-convex.card", "1", "1"), 1, b"", "refused 7: table not convex")
     expect("a load that is no number", lamp("cost", a, "3", "x"), 2, b"", "LOAD x is not a number")
-    expect("a count of 21 digits", lamp("cost", a, "1" * 21, "0"), 2, b"", "is not a number")
+    expect("a count of 21 digits", lamp("cost", a, "1" * 21, "0"), 2, b"", f"COUNT {'1' * 21} is above 18,446,744,073,709,551,615")
     expect("round", lamp("round", "5", "6"), 0, b"6\n")
     expect("round above the rack", lamp("round", "7", "6"), 1, b"", "refused 12", "count 7 in a rack of 6 modules")
     expect("round, rack", lamp("round", "7", "201"), 1, b"", "refused 3")
     expect("round, largest number", lamp("round", str(2**64 - 1), "200"), 1, b"", "refused 12")
-    expect("round, beyond it", lamp("round", str(2**64), "200"), 2, b"", "COUNT 18446744073709551616 is not a number")
+    expect("round, beyond it", lamp("round", str(2**64), "200"), 2, b"", "COUNT 18446744073709551616 is above")
 
 
 def wrong_use(folder):
@@ -191,9 +206,11 @@ def wrong_use(folder):
     expect("no such file", lamp("check", folder / "none"), 2, b"", "none: No such file or directory")
     expect("a directory", lamp("check", folder), 2, b"", "a directory, not a file")
     expect("a directory as standard input", folder_as_input(folder), 2, b"", "a directory")
-    expect("closed standard input", shell('exec "$0" check - <&-'), 2, b"", "standard input")
+    expect("closed standard input", shell('exec "$0" check - <&-'), 2, b"", "standard input: it is closed")
     odd = folder / "-a b\n<&>.card"
     shutil.copy(SAMPLES / "a.card", odd)
+    shutil.copy(SAMPLES / "a.card", folder / "-")
+    require("a file called -", b"<title>Least cost 32. -: 3 modules" in lamp("picture", "./-", cwd=folder)[1])
     require("a file with an odd name", lamp("check", "--", odd.name, cwd=folder)[0] == 0)
     require("its name in a picture", b"-a b\\n&lt;&amp;&gt;.card" in lamp("picture", "--", odd.name, cwd=folder)[1])
 
@@ -211,7 +228,10 @@ def other_kinds(folder):
         "hex without blanks": (card().hex().encode(), "this is hex text; bin/card makes a card of it"),
         "a listing": ((SAMPLES / "a.out").read_bytes(), "this is a listing, not a card"),
         "a refusal": (b"refused 7\n", "this is a refusal"),
-        "a sheet": ((SAMPLES / "d.sheet").read_bytes(), "this is a sheet, not a card"),
+        "a sheet": ((SAMPLES / "d.sheet").read_bytes(), "this looks like a sheet"),
+        "Latin-1": (b"# Pr\xfcfung\n" + A_TEXT, "standard input: line 1, column 5: the byte FC is not UTF-8"),
+        "a NUL in a text": (A_TEXT.replace(b"6 0", b"6\0 0"), "line 7, column 8: the character \\u{0} is no plain blank"),
+        "UTF-16 without its mark": (A_TEXT.decode().encode("utf-16-le"), "save it as UTF-8"),
         "a page": (lamp("page", SAMPLES / "a.card")[1], "this is a page or a picture"),
         "a picture": (lamp("picture", SAMPLES / "a.card")[1], "this is a page or a picture"),
         "UTF-16": (A_TEXT.decode().encode("utf-16"), "save it as UTF-8"),
@@ -254,6 +274,8 @@ def lost_output(folder):
         expect(f"{command} to a full device", shell(f"{line} > /dev/full"), 2, b"", "was not written whole: No space left on device")
         expect(f"{command} to a closed output", shell(f"{line} >&-"), 2, b"", "was not written whole: Bad file descriptor")
         expect(f"{command} to a closed pipe", to_closed_pipe(line), 2, b"", "was not written whole: Broken pipe")
+        limited = shell(f"ulimit -f 0; {line} > limited", cwd=folder)
+        expect(f"{command} to a file too large", limited, 2, b"", "was not written whole: File too large")
     closed = shell('"$0" key nofile >&- 2>&-')
     expect("nothing can be said", closed, 2, b"")
     small_disk(folder)

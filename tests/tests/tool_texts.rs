@@ -88,11 +88,11 @@ fn shows_typed_in_many_ways() {
     for _ in 0..5_000 {
         let card = any_card(&mut random);
         let list = |random: &mut Random, numbers: Vec<String>| {
-            let gaps = [" ", "  ", "\t", "\n", "\r\n", " # some\n", "\n\n   "];
+            let gaps = [" ", "  ", "\t", "\n", "\r\n", "\r", " # some\n", " # more\r", "\n\n   "];
             numbers.into_iter().fold(String::new(), |text, number| text + random.pick(&gaps) + &number)
         };
         let entries = card.table.iter().map(u32::to_string).collect();
-        let loads = card.loads.iter().map(|load| format!("{load:0>5}")).collect();
+        let loads = card.loads.iter().map(u16::to_string).collect();
         let mut fields = vec![
             format!("modules {}", card.modules),
             format!("top\t{}", card.top),
@@ -131,11 +131,11 @@ fn wrong_shows_are_told() {
     wrong("loads", "lodas", 6, 1, "'lodas' is no field");
     wrong("top 2", "top: 2", 2, 1, "'top:' is no field");
     wrong("modules 3\n", "3\nmodules 3\n", 1, 1, "before the first field");
-    wrong("modules 3", "modules 256", 1, 9, "too large: a number of modules has 1 byte, at most 255");
+    wrong("modules 3", "modules 256", 1, 9, "'256' is too large: modules is 1 to 200");
     wrong("top 2", "top 99999999999999999999999", 2, 5, "too large");
-    wrong("warm-up 3", "warm-up 4294967296", 3, 9, "at most 4,294,967,295");
-    wrong("loads 6 0 2", "loads 6 0\n  65536", 7, 3, "at most 65,535");
-    wrong("table 1 2 4", "table 1 2 4 4294967296", 5, 13, "too large");
+    wrong("warm-up 3", "warm-up 4294967296", 3, 9, "a price is at most 500,000,000");
+    wrong("loads 6 0 2", "loads 6 0\n  65536", 7, 3, "a load is at most modules times top");
+    wrong("table 1 2 4", "table 1 2 4 4294967296", 5, 13, "an entry is at most 1,000,000");
     wrong("table 1 2 4", "table 1 2", 5, 9, "the table has 2 entries, and top 2 asks for 3, F(0) to F(2)");
     wrong("table 1 2 4", "table 1 2 4 7", 5, 13, "the table has 4 entries");
     wrong("table 1 2 4", "table", 5, 1, "the table has 0 entries");
@@ -150,7 +150,15 @@ fn wrong_shows_are_told() {
     wrong("warm-up 3", "warm-up 3.5", 3, 9, "'3.5' is not a number");
     wrong("warm-up 3", "warm-up 0x3", 3, 9, "'0x3' is not a number");
     wrong("warm-up 3", "warm-up \u{664}", 3, 9, "is not a number");
-    wrong("loads 6", "loads 6\u{1b}", 6, 7, "'6\\u{1b}' is not a number");
+    wrong("loads 6 0", "loads 1 000", 6, 9, "'000' begins with a needless 0");
+    wrong("loads 6", "loads 06", 6, 7, "'06' begins with a needless 0");
+    wrong("loads 6 0 2", "loads 6 # act\u{b}0 2", 6, 14, "\\u{b} is no plain blank");
+    wrong("loads 6", "loads 6\u{1b}", 6, 8, "\\u{1b} is no plain blank");
+    wrong("loads 6 0", "loads 6\u{a0}0", 6, 8, "\\u{a0} is no plain blank");
+    wrong("loads 6 0", "loads 6\u{202f}0", 6, 8, "\\u{202f} is no plain blank");
+    wrong("loads 6 0", "loads 6 # \u{2028}0", 6, 11, "\\u{2028} is no plain blank");
+    wrong("loads 6 0", "loads 6 \u{feff}0", 6, 9, "\\u{feff} is no plain blank");
+    wrong("loads 6 0 2\n", "loads 6 0 2 # one\r0 2 # two\rx\n", 8, 1, "'x' is no field");
     wrong("loads 6", "loads \u{e9}\u{e9} 6", 6, 7, "is no field");
 }
 
@@ -256,6 +264,17 @@ fn sheets_typed() {
     classes.require_all();
 }
 
+/// A labelled slot without steps is a slot of the wrong length, inside the show and after its end.
+#[test]
+fn labels_without_steps() {
+    let rows = ["slot 1: 2 2 2\n", "slot 2: - 0 -\n", "slot 3: 2 - -\n"];
+    let number = |text: &str| mark(&card_a(), &sheet_text::read(text).unwrap().bytes(3, 3)).number;
+    assert_eq!(number(&rows.concat()), 0);
+    assert_eq!(number(&[rows[0], "slot 2:\n", rows[2]].concat()), 11);
+    assert_eq!(number(&(rows.concat() + "slot 4:\n")), 11);
+    assert_eq!(number(&(rows.concat() + "slot 4: - - -\n")), 11);
+}
+
 #[test]
 fn wrong_sheets_are_told() {
     let wrong = |text: &str, line: usize, column: usize, words: &str| {
@@ -267,10 +286,12 @@ fn wrong_sheets_are_told() {
     wrong("2 2 2\n- \u{2013} -\n", 2, 3, "is not a step");
     wrong("2 2 255\n", 1, 5, "'255' is too large for a step; a module that is off is typed -");
     wrong("2 2 -1\n", 1, 5, "'-1' is not a step");
-    wrong("slot 1: 2 2\nslot 3: 2 2\n", 2, 6, "'3:' where slot 2: comes next");
-    wrong("slot 2: 2 2\n", 1, 6, "'2:' where slot 1: comes next");
-    wrong("slot 1 2 2\n", 1, 6, "'1' where slot 1: comes next");
-    wrong("slot 1:\n", 1, 6, "a slot without steps");
+    wrong("slot 1: 2 2\nslot 3: 2 2\n", 2, 6, "'3:' where 'slot 2:' comes next");
+    wrong("slot 2: 2 2\n", 1, 6, "'2:' where 'slot 1:' comes next");
+    wrong("slot 1 2 2\n", 1, 6, "'1' where 'slot 1:' comes next");
+    wrong("2 2 02\n", 1, 5, "'02' begins with a needless 0");
+    wrong("2 2\u{a0}2\n", 1, 4, "\\u{a0} is no plain blank");
+    wrong("2 2 2 # first\r2 x 2\n", 2, 3, "'x' is not a step");
     wrong("slot\n", 1, 1, "a slot without its number");
     wrong("2 2\ncost 3\n", 2, 1, "'cost' after the first slot");
     wrong("modules 3\n", 1, 1, "'modules' is not a step");

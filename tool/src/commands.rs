@@ -215,7 +215,7 @@ fn sheet_places(refusal: Refusal, show: &Show, sheet: &HandedIn) -> Vec<String> 
         _ => return vec![length_fault(show, sheet)],
     };
     let place = |fault: &SheetFault| {
-        let typed = sheet.text.as_ref().and_then(|text| text.place(fault.slot, fault.module.unwrap_or(0)));
+        let typed = sheet.text.as_ref().and_then(|text| text.place(fault.slot, fault.module));
         match (typed, fault.module) {
             (Some(place), Some(_)) => format!("{} ({place})", fault.text),
             (Some(place), None) => format!("{} (line {})", fault.text, place.line),
@@ -227,18 +227,20 @@ fn sheet_places(refusal: Refusal, show: &Show, sheet: &HandedIn) -> Vec<String> 
 
 fn length_fault(show: &Show, sheet: &HandedIn) -> String {
     let (modules, slots) = (usize::from(show.modules), show.slots());
-    let typed = sheet.text.as_ref().and_then(|text| text.length_fault(modules, slots));
-    typed.unwrap_or_else(|| {
-        let asked = grouped((modules * slots) as u64);
-        let (found, slots) = (several(sheet.bytes.len() as u64, "byte"), several(slots as u64, "slot"));
-        format!("{found} where {slots} and {} make {asked}", several(modules as u64, "module"))
-    })
+    if let Some(fault) = sheet.text.as_ref().and_then(|text| text.length_fault(modules, slots)) {
+        return fault;
+    }
+    let asked = grouped((modules * slots) as u64);
+    let (found, slots) = (several(sheet.bytes.len() as u64, "byte"), several(slots as u64, "slot"));
+    let hint = if input::is_typed(&sheet.bytes) { "; it looks like typed text, which is read without --bytes" } else { "" };
+    format!("{found} where {slots} and {} make {asked}{hint}", several(modules as u64, "module"))
 }
 
 /// A number of the command line.
 fn number(words: &Words, at: usize, name: &str) -> Result<u64, String> {
     let word = words.plain[at].to_str().filter(|word| !word.is_empty() && word.bytes().all(|byte| byte.is_ascii_digit()));
-    word.and_then(|word| word.parse().ok()).ok_or_else(|| format!("{name} {} is not a number", input::name(words.plain[at])))
+    let found = word.ok_or_else(|| format!("{name} {} is not a number", input::name(words.plain[at])))?;
+    found.parse().map_err(|_| format!("{name} {found} is above {}", grouped(u64::MAX)))
 }
 
 pub fn cost(words: &Words) -> Ended {

@@ -30,12 +30,19 @@ pub fn name(path: &OsStr) -> String {
     if path == "-" {
         return "standard input".to_string();
     }
+    printable(path)
+}
+
+fn printable(path: &OsStr) -> String {
     path.to_string_lossy().chars().flat_map(|c| if c.is_control() { c.escape_debug().collect() } else { vec![c] }).collect()
 }
 
 /// How a file is called in the title of a page.
 pub fn title(path: &OsStr) -> String {
-    Path::new(path).file_name().map_or_else(|| name(path), name)
+    match Path::new(path).file_name() {
+        Some(last) if path != "-" => printable(last),
+        _ => name(path),
+    }
 }
 
 /// All bytes of a file, or of standard input for `-`, if they are no more than `most`.
@@ -56,75 +63,130 @@ pub fn read(path: &OsStr, most: usize) -> Result<Vec<u8>, String> {
 }
 
 fn reason(error: &io::Error) -> String {
+    const CLOSED: i32 = 9;
     if error.kind() == io::ErrorKind::IsADirectory {
         return "a directory, not a file".to_string();
+    }
+    if error.raw_os_error() == Some(CLOSED) {
+        return "it is closed, or not open for reading".to_string();
     }
     let text = error.to_string();
     text.split(" (os error").next().unwrap_or("").to_string()
 }
 
-/// The text of a file, if it is text.
-fn as_text(bytes: &[u8]) -> Option<&str> {
-    let bytes = bytes.strip_prefix(b"\xEF\xBB\xBF").unwrap_or(bytes);
-    std::str::from_utf8(bytes).ok().filter(|text| !text.contains('\0'))
+/// Whether bytes were typed: at most one in ten is a control character that a text does not have. A card has more.
+pub fn is_typed(bytes: &[u8]) -> bool {
+    let strange = bytes.iter().filter(|byte| byte.is_ascii_control() && !matches!(byte, b'\t' | b'\n' | b'\r'));
+    !bytes.is_empty() && 10 * strange.count() <= bytes.len()
 }
 
-/// Reads a card, as bytes if they begin with the mark or are no text, and else as a show's text.
+/// Whether bytes are text in UTF-16: they have its mark, or every second one of the first is 0.
+fn is_utf16(bytes: &[u8]) -> bool {
+    let zeros = |from: usize| bytes.len() >= 8 && bytes.iter().skip(from).step_by(2).take(16).all(|byte| *byte == 0);
+    bytes.starts_with(b"\xFF\xFE") || bytes.starts_with(b"\xFE\xFF") || zeros(0) != zeros(1)
+}
+
+/// Typed bytes as text, or the place from which on they are not UTF-8.
+fn text(bytes: &[u8]) -> Result<&str, String> {
+    let bytes = bytes.strip_prefix(b"\xEF\xBB\xBF").unwrap_or(bytes);
+    std::str::from_utf8(bytes).map_err(|error| {
+        let (before, after) = bytes.split_at(error.valid_up_to());
+        let place = typed::end(std::str::from_utf8(before).unwrap_or(""));
+        format!("{place}: the byte {:02X} is not UTF-8; save the text as UTF-8", after[0])
+    })
+}
+
+const UTF16: &str = "this is text in UTF-16; save it as UTF-8";
+
+/// Reads a card, as bytes if they begin with the mark or were not typed, and else as a show's text.
 pub fn card(path: &OsStr) -> Result<Card, String> {
     let bytes = read(path, MOST_CARD)?;
-    let text = as_text(&bytes).filter(|text| !text.as_bytes().starts_with(MARK) && !text.is_empty());
-    let Some(text) = text else {
-        return match utf16(&bytes) {
-            Some(hint) => Err(format!("{}: {hint}", name(path))),
-            None => Ok(Card { name: title(path), bytes, text: None }),
-        };
-    };
-    if let Some(hint) = other_kind(text) {
-        return Err(format!("{}: {hint}", name(path)));
+    if bytes.starts_with(MARK) || !(is_typed(&bytes) || is_utf16(&bytes)) {
+        return Ok(Card { name: title(path), bytes, text: None });
     }
-    let typed = show_text::read(text).map_err(|error| format!("{}: {error}", name(path)))?;
+    let typed = typed_show(&bytes).map_err(|message| format!("{}: {message}", name(path)))?;
     Ok(Card { name: title(path), bytes: typed.show.card(), text: Some(typed) })
 }
 
-fn utf16(bytes: &[u8]) -> Option<&'static str> {
-    let marked = bytes.starts_with(b"\xFF\xFE") || bytes.starts_with(b"\xFE\xFF");
-    marked.then_some("this is text in UTF-16; save it as UTF-8")
+fn typed_show(bytes: &[u8]) -> Result<ShowText, String> {
+    if is_utf16(bytes) {
+        return Err(UTF16.to_string());
+    }
+    let text = text(bytes)?;
+    match no_card(text) {
+        Some(hint) => Err(hint.to_string()),
+        None => show_text::read(text).map_err(|error| error.to_string()),
+    }
+}
+
+/// The words of each line, where a text can be split into words.
+fn lines(text: &str) -> Vec<Vec<&str>> {
+    let lines = typed::lines(text).unwrap_or_default();
+    lines.into_iter().map(|words| words.into_iter().map(|word| word.text).collect()).collect()
+}
+
+/// Whether some line begins with a field's name.
+fn has_field(lines: &[Vec<&str>]) -> bool {
+    lines.iter().any(|words| show_text::Field::named(words[0]).is_some())
 }
 
 /// What a text is that is no show.
-fn other_kind(text: &str) -> Option<&'static str> {
-    let words: Vec<&str> = typed::lines(text).flatten().map(|word| word.text).collect();
+fn no_card(text: &str) -> Option<&'static str> {
+    let lines = lines(text);
     if text.trim_start().starts_with('<') {
         return Some("this is a page or a picture, not a card");
     }
-    match words.first().copied() {
+    match lines.first().map(|words| words[0]) {
         Some("cost" | "plan") => Some("this is a listing, not a card"),
         Some("refused") => Some("this is a refusal that a program printed, not a card"),
-        Some("slot" | "-") => Some("this is a sheet, not a card"),
-        Some(_) if is_hex(&words) => Some("this is hex text; bin/card makes a card of it"),
+        Some(_) if is_hex(&lines) => Some("this is hex text; bin/card makes a card of it"),
+        Some(word) if !has_field(&lines) && is_step(word) => Some("this looks like a sheet; the card is named before it"),
         _ => None,
     }
 }
 
-/// Pairs of hex digits alone, with the mark first or at least two words of one pair each.
-fn is_hex(words: &[&str]) -> bool {
-    let digits = words.iter().all(|word| word.bytes().all(|byte| byte.is_ascii_hexdigit()));
-    let marked = words.concat().to_ascii_lowercase().starts_with("444c53");
-    digits && (marked || (words.len() > 1 && words.iter().all(|word| word.len() == 2)))
+fn is_step(word: &str) -> bool {
+    word == "slot" || word == "-" || word.bytes().all(|byte| byte.is_ascii_digit())
+}
+
+/// Pairs of hex digits alone, with the mark first or at least one digit that is a letter.
+fn is_hex(lines: &[Vec<&str>]) -> bool {
+    let digits = lines.concat().concat().to_ascii_lowercase();
+    let pairs = lines.iter().flatten().all(|word| word.len() % 2 == 0 && word.bytes().all(|byte| byte.is_ascii_hexdigit()));
+    pairs && (digits.starts_with("444c53") || digits.bytes().any(|byte| byte.is_ascii_alphabetic()))
 }
 
 /// Reads the text of a sheet.
 pub fn sheet_text(path: &OsStr) -> Result<String, String> {
     let bytes = read(path, MOST_SHEET_TEXT)?;
-    let hint = |hint: &str| Err(format!("{}: {hint}", name(path)));
-    if bytes.starts_with(MARK) {
-        return hint("this is a card, not a sheet");
-    }
-    let Some(text) = as_text(&bytes).filter(|text| !text.chars().any(|c| c.is_control() && !c.is_whitespace())) else {
-        return hint("this is not text; a sheet as bytes is read with --bytes");
-    };
-    if typed::lines(text).next().is_some_and(|words| show_text::Field::named(words[0].text).is_some()) {
-        return hint("this is a show, not a sheet; a sheet has a line a slot, as '2 2 -' or 'slot 1: 2 2 -'");
-    }
-    Ok(text.to_string())
+    typed_sheet(&bytes).map_err(|message| format!("{}: {message}", name(path)))
 }
+
+fn typed_sheet(bytes: &[u8]) -> Result<String, String> {
+    if bytes.starts_with(MARK) {
+        return Err("this is a card, not a sheet".to_string());
+    }
+    if is_utf16(bytes) {
+        return Err(UTF16.to_string());
+    }
+    if !bytes.is_empty() && !is_typed(bytes) {
+        return Err("this is not text; a sheet as bytes is read with --bytes".to_string());
+    }
+    let text = text(bytes)?;
+    no_sheet(text).map_or(Ok(text.to_string()), |hint| Err(hint.to_string()))
+}
+
+/// What a text is that is no sheet.
+fn no_sheet(text: &str) -> Option<&'static str> {
+    let lines = lines(text);
+    if text.trim_start().starts_with('<') {
+        return Some("this is a page or a picture, not a sheet");
+    }
+    if has_field(&lines) {
+        let key = lines.iter().any(|words| words[0] == "cost");
+        return Some(if key { "this is a key; a sheet is its lines from 'cost' on" } else { SHOW });
+    }
+    is_hex(&lines).then_some("this is hex text, not a sheet")
+}
+
+const SHOW: &str = "this is a show, not a sheet; a sheet has a line a slot, as '2 2 -' or 'slot 1: 2 2 -'";

@@ -7,7 +7,7 @@ use std::panic;
 /// The start of the program as C has it; see `lamp::output` for the reason.
 #[no_mangle]
 pub extern "C" fn main(_count: i32, _words: *const *const u8) -> i32 {
-    output::keep_on_broken_pipe();
+    output::keep_on_failed_write();
     let words: Vec<_> = std::env::args_os().skip(1).collect();
     let outcome = panic::catch_unwind(|| commands::run(&words))
         .unwrap_or_else(|_| Outcome::error("a fault of the tool; nothing was written"));

@@ -12,11 +12,14 @@ extern "C" {
     fn signal(number: i32, handler: usize) -> usize;
 }
 
-/// A write to a pipe that nobody reads is then an error, and does not end the process.
-pub fn keep_on_broken_pipe() {
+/// A write to a pipe that nobody reads, or beyond the largest size of a file, is then an error, and does not end the process.
+pub fn keep_on_failed_write() {
     const SIGPIPE: i32 = 13;
+    const SIGXFSZ: i32 = 25;
     const SIG_IGN: usize = 1;
-    unsafe { signal(SIGPIPE, SIG_IGN) };
+    for number in [SIGPIPE, SIGXFSZ] {
+        unsafe { signal(number, SIG_IGN) };
+    }
 }
 
 /// A standard stream by its number, which is not closed afterwards.

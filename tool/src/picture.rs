@@ -259,12 +259,22 @@ fn axes(layout: &Layout) -> String {
     out
 }
 
+/// The size of text at which so many digits fit into a cell's width, at most the usual one.
+fn fitting(layout: &Layout, digits: usize) -> usize {
+    (10 * (layout.cell_width - 4) / (7 * digits.max(1))).min(TEXT)
+}
+
 /// Each cell's step, and each slot's load and count above it.
 fn numbers(planned: &Planned, layout: &Layout) -> String {
     let (left, loads, counts) = (layout.left() - layout.size(6), layout.grid_top() - 22, layout.grid_top() - 8);
     let mut out = label(left, loads, "end", LOAD_COLOUR, "load") + &label(left, counts, "end", COUNT_COLOUR, "count");
-    for (slot, (load, count)) in planned.show.loads.iter().zip(&planned.plan).enumerate() {
+    let longest = planned.show.loads.iter().map(|load| load.to_string().len()).max().unwrap_or(0);
+    out += &format!("<g font-size=\"{}\">\n", fitting(layout, longest));
+    for (slot, load) in planned.show.loads.iter().enumerate() {
         out += &label(layout.middle(slot), loads, "middle", LOAD_COLOUR, &load.to_string());
+    }
+    out += "</g>\n";
+    for (slot, count) in planned.plan.iter().enumerate() {
         out += &label(layout.middle(slot), counts, "middle", COUNT_COLOUR, &count.to_string());
     }
     for (slot, row) in planned.show.rows(&planned.sheet).enumerate() {

@@ -1,13 +1,14 @@
 //! A sheet as text: a line a slot, with a step or `-` for each module. A line may begin with `slot 3:` as in a listing, and then has
 //! to be that slot's. The `cost` and `plan` lines of a listing may stand before the first slot, and are read past.
 use crate::show::OFF;
-use crate::typed::{self, NoNumber, Place, TextError, Word};
+use crate::typed::{self, NoNumber, Place, TextError, Word, NEEDLESS_ZERO};
 use crate::words::{grouped, several};
 
-/// The line of a slot: each module's byte with its place.
+/// The line of a slot: where it begins, and each module's byte with its place.
 #[derive(Clone, Debug)]
 pub struct Row {
-    pub steps: Vec<(u8, Place)>,
+    start: Place,
+    steps: Vec<(u8, Place)>,
 }
 
 impl Row {
@@ -25,13 +26,14 @@ pub struct SheetText {
 /// Reads the lines of a sheet. How many there are, and how long each is, is judged later.
 pub fn read(text: &str) -> Result<SheetText, TextError> {
     let mut rows = Vec::new();
-    for words in typed::lines(text) {
+    for words in typed::lines(text)? {
         if matches!(words[0].text, "cost" | "plan") {
             before_slots(&words[0], &rows)?;
             continue;
         }
         let steps = after_label(&words, rows.len() + 1)?;
-        rows.push(Row { steps: steps.iter().map(|word| Ok((step(word)?, word.place))).collect::<Result<_, _>>()? });
+        let steps = steps.iter().map(|word| Ok((step(word)?, word.place))).collect::<Result<_, _>>()?;
+        rows.push(Row { start: words[0].place, steps });
     }
     Ok(SheetText { rows })
 }
@@ -52,10 +54,7 @@ fn after_label<'a, 'b>(words: &'a [Word<'b>], slot: usize) -> Result<&'a [Word<'
     }
     let Some(label) = words.get(1) else { return words[0].error("a slot without its number") };
     if label.text != format!("{slot}:") {
-        return label.error(format!("{} where slot {}: comes next", label.quoted(), grouped(slot as u64)));
-    }
-    if words.len() == 2 {
-        return label.error("a slot without steps");
+        return label.error(format!("{} where 'slot {slot}:' comes next", label.quoted()));
     }
     Ok(&words[2..])
 }
@@ -67,6 +66,7 @@ fn step(word: &Word) -> Result<u8, TextError> {
     }
     match word.number(u64::from(OFF) - 1) {
         Ok(step) => Ok(step as u8),
+        Err(NoNumber::NeedlessZero) => word.error(format!("{} {NEEDLESS_ZERO}", word.quoted())),
         Err(NoNumber::TooLarge) => {
             word.error(format!("{} is too large for a step; a module that is off is typed -", word.quoted()))
         }
@@ -81,11 +81,15 @@ impl SheetText {
     }
 
     /// The bytes that are marked. Where a line has not one step for each module, its steps belong to no module, and the sheet is
-    /// taken up to that line. It is then shorter than the show's, or longer where the line comes after the last slot.
+    /// taken up to that line. It is then shorter than the show's. Where the line comes after the last slot, the sheet is one byte too
+    /// long.
     pub fn bytes(&self, modules: usize, slots: usize) -> Vec<u8> {
         let even = self.uneven(modules).unwrap_or(self.rows.len());
-        let taken = if even == slots { self.rows.len().min(slots + 1) } else { even };
-        self.rows[..taken].iter().flat_map(Row::bytes).collect()
+        let mut bytes: Vec<u8> = self.rows[..even].iter().flat_map(Row::bytes).collect();
+        if even == slots && self.rows.len() > slots {
+            bytes.push(OFF);
+        }
+        bytes
     }
 
     /// Why the text has not a line for each slot with a step for each module.
@@ -93,7 +97,7 @@ impl SheetText {
         if let Some(at) = self.uneven(modules) {
             let row = &self.rows[at];
             let found = several(row.steps.len() as u64, "step");
-            let line = row.steps[0].1.line;
+            let line = row.start.line;
             return Some(format!(
                 "slot {}: {found} where the rack has {} (line {line})",
                 at + 1,
@@ -104,8 +108,9 @@ impl SheetText {
         (found != slots).then(|| format!("{} where the show has {}", several(found as u64, "slot"), grouped(slots as u64)))
     }
 
-    /// Where a slot's and module's step stands, both counted from 0.
-    pub fn place(&self, slot: usize, module: usize) -> Option<Place> {
-        Some(self.rows.get(slot)?.steps.get(module)?.1)
+    /// Where a slot's and module's step stands, both counted from 0; without a module, where the slot's line begins.
+    pub fn place(&self, slot: usize, module: Option<usize>) -> Option<Place> {
+        let row = self.rows.get(slot)?;
+        module.map_or(Some(row.start), |module| Some(row.steps.get(module)?.1))
     }
 }

@@ -1,7 +1,7 @@
 //! A show as text: fields by name, each at the start of a line, in any order, with decimal numbers. A list goes on over the lines of
 //! numbers that follow it. `#` begins a comment.
 use crate::show::{Show, VERSION};
-use crate::typed::{self, NoNumber, Place, TextError, Word};
+use crate::typed::{self, NoNumber, Place, TextError, Word, NEEDLESS_ZERO};
 use crate::words::{grouped, listed, several};
 
 /// The fields of a show's text.
@@ -46,6 +46,17 @@ impl Field {
             Field::Loads => 2,
         }
     }
+
+    /// The bound that document 01 sets.
+    fn bound(self) -> &'static str {
+        match self {
+            Field::Modules => "modules is 1 to 200",
+            Field::Top => "top is 1 to 200",
+            Field::WarmUp | Field::CoolDown => "a price is at most 500,000,000",
+            Field::Table => "an entry is at most 1,000,000",
+            Field::Loads => "a load is at most modules times top, and so at most 40,000",
+        }
+    }
 }
 
 /// A field as it was typed: where its name stands, and its numbers with their places.
@@ -77,7 +88,7 @@ impl ShowText {
 pub fn read(text: &str) -> Result<ShowText, TextError> {
     let mut fields: Fields = Default::default();
     let mut last = None;
-    for words in typed::lines(text) {
+    for words in typed::lines(text)? {
         let numbers = match Field::named(words[0].text) {
             Some(field) => {
                 begin(&mut fields, field, &words[0])?;
@@ -119,13 +130,14 @@ fn no_field(word: &Word) -> String {
     format!("{} is no field; the fields are modules, top, warm-up, cool-down, table and loads", word.quoted())
 }
 
-/// Adds numbers to a field.
+/// Adds numbers to a field. What its bytes cannot hold is an error here; what they hold is judged by the library.
 fn add(fields: &mut Fields, field: Field, words: &[Word]) -> Result<(), TextError> {
     let most = (1u64 << (8 * field.bytes())) - 1;
     for word in words {
         let number = match word.number(most) {
             Ok(number) => number,
-            Err(NoNumber::TooLarge) => return too_large(word, field, most),
+            Err(NoNumber::TooLarge) => return word.error(format!("{} is too large: {}", word.quoted(), field.bound())),
+            Err(NoNumber::NeedlessZero) => return word.error(format!("{} {NEEDLESS_ZERO}", word.quoted())),
             Err(NoNumber::NotDigits) => return not_digits(word),
         };
         if let Some(typed) = &mut fields[field as usize] {
@@ -133,11 +145,6 @@ fn add(fields: &mut Fields, field: Field, words: &[Word]) -> Result<(), TextErro
         }
     }
     Ok(())
-}
-
-fn too_large<T>(word: &Word, field: Field, most: u64) -> Result<T, TextError> {
-    let bytes = several(field.bytes().into(), "byte");
-    word.error(format!("{} is too large: a number of {} has {bytes}, at most {}", word.quoted(), field.name(), grouped(most)))
 }
 
 fn not_digits<T>(word: &Word) -> Result<T, TextError> {

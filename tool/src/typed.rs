@@ -43,10 +43,14 @@ impl Word<'_> {
         !self.text.is_empty() && self.text.bytes().all(|byte| byte.is_ascii_digit())
     }
 
-    /// The decimal number that the word is, if it is at most `most`.
+    /// The decimal number that the word is, if it is at most `most`. A number does not begin with a needless 0: `000` is more likely the
+    /// end of a number that was typed with a blank inside.
     pub fn number(&self, most: u64) -> Result<u64, NoNumber> {
         if !self.is_number() {
             return Err(NoNumber::NotDigits);
+        }
+        if self.text.len() > 1 && self.text.starts_with('0') {
+            return Err(NoNumber::NeedlessZero);
         }
         match self.text.parse() {
             Ok(number) if number <= most => Ok(number),
@@ -65,13 +69,45 @@ impl Word<'_> {
 #[derive(Clone, Copy, Debug, PartialEq, Eq)]
 pub enum NoNumber {
     NotDigits,
+    NeedlessZero,
     TooLarge,
 }
 
-/// The words of each line that has any.
-pub fn lines(text: &str) -> impl Iterator<Item = Vec<Word<'_>>> {
-    let numbered = text.split('\n').enumerate();
-    numbered.map(|(at, line)| words(at + 1, line)).filter(|words| !words.is_empty())
+/// What is said of a number that begins with a needless 0.
+pub const NEEDLESS_ZERO: &str = "begins with a needless 0; a number has no blank inside";
+
+/// The lines of a text. A carriage return ends a line too, with a line feed after it or without, so that no comment hides what an
+/// editor shows on a line of its own.
+fn split(text: &str) -> impl Iterator<Item = &str> {
+    let fed = text.split('\n').map(|line| line.strip_suffix('\r').unwrap_or(line));
+    fed.flat_map(|line| line.split('\r'))
+}
+
+/// The words of each line that has any. A character that is neither visible nor a plain blank is an error, in a comment too: it may
+/// look like a line's end or like no blank at all.
+pub fn lines(text: &str) -> Result<Vec<Vec<Word<'_>>>, TextError> {
+    let mut out = Vec::new();
+    for (at, line) in split(text).enumerate() {
+        visible(at + 1, line)?;
+        out.push(words(at + 1, line));
+    }
+    out.retain(|words: &Vec<Word>| !words.is_empty());
+    Ok(out)
+}
+
+fn is_blank(letter: char) -> bool {
+    letter == ' ' || letter == '\t'
+}
+
+fn visible(line: usize, text: &str) -> Result<(), TextError> {
+    let strange = |letter: char| !is_blank(letter) && (letter.is_control() || letter.is_whitespace() || letter == '\u{FEFF}');
+    match text.chars().enumerate().find(|(_, letter)| strange(*letter)) {
+        None => Ok(()),
+        Some((column, letter)) => {
+            let message = format!("the character {} is no plain blank and not visible", letter.escape_unicode());
+            Err(TextError { place: Place { line, column: column + 1 }, message })
+        }
+    }
 }
 
 fn words(line: usize, text: &str) -> Vec<Word<'_>> {
@@ -79,13 +115,13 @@ fn words(line: usize, text: &str) -> Vec<Word<'_>> {
     let mut out: Vec<Word> = Vec::new();
     let mut inside = false;
     for (column, (at, letter)) in code.char_indices().enumerate() {
-        if !letter.is_whitespace() && !inside {
+        if !is_blank(letter) && !inside {
             out.push(Word { text: &code[at..], place: Place { line, column: column + 1 } });
         }
-        if letter.is_whitespace() && inside {
+        if is_blank(letter) && inside {
             end_word(out.last_mut(), code, at);
         }
-        inside = !letter.is_whitespace();
+        inside = !is_blank(letter);
     }
     out
 }
@@ -100,6 +136,6 @@ fn end_word<'a>(word: Option<&mut Word<'a>>, code: &'a str, end: usize) {
 
 /// The place after the last character.
 pub fn end(text: &str) -> Place {
-    let last = text.rsplit('\n').next().unwrap_or("");
-    Place { line: text.split('\n').count(), column: last.chars().count() + 1 }
+    let (line, last) = split(text).enumerate().last().unwrap_or((0, ""));
+    Place { line: line + 1, column: last.chars().count() + 1 }
 }
