@@ -432,7 +432,7 @@ case $does in
 write) write ;;
 leave) [ -e "$product" ] || write ;;
 edit) write && touch crates/plan/src/main.rt ;;
-slowly) sleep 0.3 && write ;;
+slowly) sleep 1 && write ;;
 nothing) ;;
 half) write && exit 1 ;;
 fail) exit 1 ;;
