@@ -60,11 +60,24 @@ def release(folder):
     for words in ([], [""], ["/"], ["-x"], ["a", "b"]):
         expect(f"bin/release {words}", run([command, *words], folder), 2, b"", b"bin/release: usage")
     expect("bin/release --help", run([command, "--help"], folder), 0)
+    full = run(["sh", "-c", '"$0" --help > /dev/full', command], folder)
+    expect("bin/release --help to a full device", full, 2, b"", b"bin/release: standard output was not written whole")
+    (folder / "rt").write_text("#!/bin/sh\nexit 3\n")
+    (folder / "rt").chmod(0o755)
+    found = run([command, "failing"], folder, env={"PATH": f"{folder}:{SYSTEM}"})
+    expect("bin/release with an rt that fails", found, 2, b"", b"bin/release: the toolchain (rt) is needed")
+    (folder / "rt").unlink()
     (folder / "empty").mkdir()
     expect("bin/release without rt", run([command, "empty"], folder, env=bare), 2, b"", b"bin/release: the toolchain (rt) is needed")
     (folder / "half.part").mkdir()
     expect("bin/release after a stopped one", run([command, "half"], folder), 2, b"", b"bin/release: half.part is there")
     expect("bin/release where no folder can be made", run([command, "none/x"], folder), 2, b"", b"mkdir: ")
+    pair = [subprocess.Popen([command, "twice"], cwd=folder, stderr=subprocess.DEVNULL) for _ in range(2)]
+    statuses = sorted(process.wait() for process in pair)
+    files = [sum(path.is_file() for path in (folder / name).rglob("*")) for name in ("first", "twice")]
+    if statuses != [0, 2] or files[0] != files[1]:
+        sys.exit(f"two releases at once: statuses {statuses}, files {files}")
+    shutil.rmtree(folder / "twice")
     if sorted(path.name for path in folder.iterdir()) != ["empty", "first", "half.part"]:
         sys.exit(f"bin/release left something: {list(folder.iterdir())}")
     first.rename(moved)

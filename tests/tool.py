@@ -141,8 +141,9 @@ def marks():
         b"2 2 2\n- 0 -\n": length + b"  2 slots where the show has 3\n",
         b"2 2 2 # first\r2 2 2\n- 0 -\n2 - -\n": length + b"  4 slots where the show has 3\n",
         b"slot 1: 2 2 2\nslot 2:\nslot 3: 2 - -\n": length + b"  slot 2: 0 steps where the rack has 3 modules (line 2)\n",
-        b"2 2 2\n- 0 -\n2 - -\nslot 4:\n": length + b"  slot 4: 0 steps where the rack has 3 modules (line 4)\n",
-        b"2 2 2\n- 0 -\n2 - -\n2 -\n": length + b"  slot 4: 2 steps where the rack has 3 modules (line 4)\n",
+        b"2 2 2\n- 0 -\n2 - -\nslot 4:\n": length + b"  4 slots where the show has 3\n",
+        b"2 2 2\n- 0 -\n2 - -\n- - -\n- -\n": length + b"  5 slots where the show has 3\n",
+        b"2 2 2\n- 0 -\n2 - -\n2 -\n": length + b"  4 slots where the show has 3\n",
         b"2 2 2\n- 3 -\n2 - 9\n": entry
         + b"  slot 2, module 2: step 3, above 2 (line 2, column 3)\n  slot 3, module 3: step 9, above 2 (line 3, column 5)\n",
         b"2 2 1\n- 1 -\n2 - -\n": light
@@ -156,12 +157,14 @@ def marks():
     expect("a step too large", lamp("mark", a, "-", data=b"2 2 255\n"), 2, b"", "line 1, column 5: '255' is too large for a step")
     expect("a card for a sheet", lamp("mark", a, a), 2, b"", "this is a card, not a sheet")
     expect("a show for a sheet", lamp("mark", a, SAMPLES / "a.show"), 2, b"", "this is a show, not a sheet")
-    expect("a key for a sheet", lamp("mark", a, "-", data=lamp("key", a)[1]), 2, b"", "this is a key; a sheet is its lines from 'cost' on")
+    key = lamp("mark", a, "-", data=lamp("key", a)[1])
+    expect("a key for a sheet", key, 2, b"", "this is a key; a sheet is its lines from 'cost' on")
     expect("hex for a sheet", lamp("mark", a, SAMPLES / "a.hex"), 2, b"", "this is hex text, not a sheet")
     expect("a page for a sheet", lamp("mark", a, "-", data=lamp("page", a)[1]), 2, b"", "this is a page or a picture, not a sheet")
     expect("a sheet in UTF-16", lamp("mark", a, "-", data="2 2 2\n".encode("utf-16")), 2, b"", "save it as UTF-8")
     latin = b"# M\xfcller\n2 2 2\n- 0 -\n2 - -\n"
-    expect("a sheet in Latin-1", lamp("mark", a, "-", data=latin), 2, b"", "line 1, column 4: the byte FC is not UTF-8; save the text as UTF-8")
+    wrong = "line 1, column 4: the byte FC is not UTF-8; save the text as UTF-8"
+    expect("a sheet in Latin-1", lamp("mark", a, "-", data=latin), 2, b"", wrong)
     expect("card and sheet swapped", lamp("mark", sheet, a), 2, b"", "this looks like a sheet; the card is named before it")
     expect("a plain sheet for a card", lamp("mark", "-", a, data=b"22 11 10\n11 10 22\n"), 2, b"", "this looks like a sheet")
     require("a refused card", lamp("mark", SAMPLES / "not-convex.card", sheet)[1].startswith(b"refused 7: table not convex\n"))
@@ -182,6 +185,8 @@ def numbers():
     expect("a count above the rack", lamp("cost", a, "4", "0"), 1, b"", "refused 12", "count 4 in a rack of 3 modules")
     expect("cost on a refused card", lamp("cost", SAMPLES / "not-convex.card", "1", "1"), 1, b"", "refused 7: table not convex")
     expect("a load that is no number", lamp("cost", a, "3", "x"), 2, b"", "LOAD x is not a number")
+    expect("a load that is a dash", lamp("cost", a, "3", "-"), 2, b"", "LOAD - is not a number")
+    expect("a needless zero", lamp("cost", a, "03", "4"), 2, b"", "COUNT 03 begins with a needless 0")
     expect("a count of 21 digits", lamp("cost", a, "1" * 21, "0"), 2, b"", f"COUNT {'1' * 21} is above 18,446,744,073,709,551,615")
     expect("round", lamp("round", "5", "6"), 0, b"6\n")
     expect("round above the rack", lamp("round", "7", "6"), 1, b"", "refused 12", "count 7 in a rack of 6 modules")
@@ -194,6 +199,7 @@ def wrong_use(folder):
     usage = "usage: lamp COMMAND"
     expect("no command", lamp(), 2, b"", usage)
     expect("no such command", lamp("plan", "x"), 2, b"", "'plan' is no command", usage)
+    expect("a dash for a command", lamp("-"), 2, b"", "'-' is no command", usage)
     for words in ("key", "key a b", "mark a", "cost a 1", "round 1", "key --bytes a", "check --coarse a", "page a --course"):
         expect(f"wrong use {words}", lamp(*words.split()), 2, b"", f"usage: lamp {words.split()[0]} ")
     expect("standard input twice", lamp("mark", "-", "-"), 2, b"", "standard input can be read once only")
@@ -235,10 +241,20 @@ def other_kinds(folder):
         "a page": (lamp("page", SAMPLES / "a.card")[1], "this is a page or a picture"),
         "a picture": (lamp("picture", SAMPLES / "a.card")[1], "this is a page or a picture"),
         "UTF-16": (A_TEXT.decode().encode("utf-16"), "save it as UTF-8"),
+        "a key": (lamp("key", SAMPLES / "a.card")[1], "this is a key, not a card"),
+        "a line in a comment": (A_TEXT.replace(b"6 0 2", "6 # \u2028 0 2".encode()), "line 7, column 11: the character \\u{2028} is"),
+        "a direction in a comment": (A_TEXT.replace(b"6 0 2", "6 0 2 # \u200f".encode()), "line 7, column 15: the character \\u{200f}"),
+        "a byte after a carriage return": (b"modules 3\r\xff", "line 2, column 1: the byte FF is not UTF-8"),
         "too long": (card() + b"\0" * MOST, f"more than {MOST:,} bytes"),
     }
     for name, (data, hint) in hints.items():
         expect(f"{name} for a card", lamp("key", "-", data=data), 2, b"", hint)
+    plain = A_TEXT + "# it's \"quoted\" \\ Pr\u00fcfung \u65e5\u672c e\u0301\n".encode()
+    expect("a comment in any language", lamp("show", "-", data=plain), 0, A_TEXT)
+    few = card(m=200, q=100, up=0x7E7E7E, down=0x7E7E7E, table=(949886,) * 101, loads=(20000,) * 1024)
+    expect("a card with a wrong mark and few zeros", lamp("check", "-", data=b"DLX" + few[3:])[:1] + (b"", b""), 1, b"")
+    zeros = lamp("mark", SAMPLES / "a.card", "-", data=b"\2\0" * 4)
+    expect("a sheet of bytes with every second zero", zeros, 2, b"", "a sheet as bytes is read with --bytes")
     others = lamp("key", "-", data=bytes(range(256)))
     expect("some other bytes", others, 1, b"", "refused 1", "256 bytes, beginning with 00 01 02 and not with 44 4C 53 (DLS)")
     a = SAMPLES / "a.card"
@@ -303,56 +319,199 @@ def without_references(name, root):
         ensure(f"{name}: {tag}'s style", "url(" not in (element.text or "") and "@import" not in (element.text or ""))
 
 
+def listed(path):
+    """The cost, the loads, the counts and the rows of steps of a card, from its key."""
+    cost, loads, counts, rows = None, [], [], []
+    name = None
+    for line in lamp("key", path)[1].decode().splitlines():
+        words = line.partition("#")[0].split()
+        name = words[0] if words and words[0][0].isalpha() else name
+        numbers = words[1:] if words and words[0] == name else words
+        if name == "loads":
+            loads += map(int, numbers)
+        elif name == "cost":
+            cost = int(numbers[0])
+        elif name == "plan":
+            counts = [int(number) for number in numbers]
+        elif name == "slot":
+            rows.append(numbers[1:])
+    return cost, loads, counts, rows
+
+
 def pictures(folder):
     cards = {name: SAMPLES / f"{name}.card" for name in ("a", "e", "empty", "keep-burning", "v-shaped")}
-    cards["largest"] = folder / "largest.card"
-    table, loads = tuple(400 + 3 * k + k * (k - 1) // 2 for k in range(201)), tuple(20000 + 97 * t % 20001 for t in range(1024))
-    cards["largest"].write_bytes(card(m=200, q=200, up=900, down=700, table=table, loads=loads))
+    table = tuple(400 + 3 * k + k * (k - 1) // 2 for k in range(201))
+    made = {
+        "largest": card(m=200, q=200, up=900, down=700, table=table, loads=tuple(20000 + 97 * t % 20001 for t in range(1024))),
+        "40 slots": card(m=26, q=200, up=90, down=70, table=table, loads=tuple(131 * t % 5201 for t in range(40))),
+        "33 slots": card(m=60, q=9, up=9, down=7, table=table[:10], loads=tuple(53 * t % 541 for t in range(33))),
+    }
+    for name, data in made.items():
+        cards[name] = folder / f"{name}.card"
+        cards[name].write_bytes(data)
     for name, path in cards.items():
-        listing = lamp("key", path)[1].decode().splitlines()
-        own = "\n".join(line for line in listing if line.startswith("slot ")).encode()
-        require(f"marks of the planner's sheet of {name}", lamp("mark", path, "-", data=own)[1].endswith(b"\nabove 0\n"))
-        rows = [line.split(": ")[1].split() for line in listing if line.startswith("slot ")]
-        cost = next(line.split()[1] for line in listing if line.startswith("cost "))
-        root = ElementTree.fromstring(lamp("picture", path)[1])
-        without_references(f"picture of {name}", root)
-        title = root.find(f"{SVG}title").text
-        require(f"title of {name}", title.startswith(f"Least cost {int(cost):,}. {path.name}: ") and "modules, top step" in title)
-        shaded(name, root, rows)
-        page_of(name, path, cost, rows)
+        cost, loads, counts, rows = listed(path)
+        own = "\n".join(f"slot {t + 1}: {' '.join(row)}" for t, row in enumerate(rows)).encode()
+        marked = b"cost %d\nleast %d\nabove 0\n" % (cost, cost)
+        expect(f"marks of the planner's sheet of {name}", lamp("mark", path, "-", data=own), 0, marked)
+        picture_of(name, path, cost, loads, counts, rows)
+        page_of(name, path, cost, loads, counts, rows)
     coarse = lamp("picture", "--coarse", SAMPLES / "e.card")[1]
     require("coarse title", ElementTree.fromstring(coarse).find(f"{SVG}title").text.startswith("Coarse plan, cost 8. e.card"))
 
 
-def shaded(name, root, rows):
-    """Each rectangle of the first group is a run of modules at one step, from the first module down: together they are the active
-    modules of the sheet, and a step has one shade, another than any other step of the show."""
-    slots = {}
+class Grid:
+    """The grid of a picture, from the lines of its frame."""
+
+    def __init__(self, root, slots, modules):
+        lines = root.findall(f"{SVG}g")[1].findall(f"{SVG}line")
+        xs = [int(line.get(key)) for line in lines for key in ("x1", "x2")]
+        ys = [int(line.get(key)) for line in lines for key in ("y1", "y2")]
+        self.left, self.top = min(xs), min(ys)
+        self.wide, self.tall = (max(xs) - self.left) // max(slots, 1), (max(ys) - self.top) // modules
+        ensure("the frame's width", self.left + slots * self.wide == max(xs) and self.top + modules * self.tall == max(ys))
+        self.bottom = max(ys)
+
+    def middle(self, slot):
+        return self.left + slot * self.wide + self.wide // 2
+
+
+def picture_of(name, path, cost, loads, counts, rows):
+    """The picture shows the show's loads, counts and steps, each in its place."""
+    root = ElementTree.fromstring(lamp("picture", path)[1])
+    without_references(f"picture of {name}", root)
+    title = root.find(f"{SVG}title").text
+    require(f"title of {name}", title.startswith(f"Least cost {cost:,}. {path.name}: ") and "modules, top step" in title)
+    head = path.read_bytes()
+    grid = Grid(root, len(loads), head[5])
+    shaded(name, root, grid, rows)
+    lines_of(name, root, grid, {"#b35900": (loads, head[5] * head[6]), "#08306b": (counts, head[5])})
+    texts = [(text.get("fill"), int(text.get("x")), int(text.get("y")), text.text) for text in root.iter(f"{SVG}text") if text.get("fill")]
+    axes(name, grid, texts, len(loads), head[5])
+    if grid.wide >= 24 and grid.tall >= 14:
+        written(name, grid, texts, loads, counts, rows)
+        size = max(int(group.get("font-size", 0)) for group in root.findall(f"{SVG}g"))
+        require(f"the loads of {name} do not touch", 0 < 0.65 * size * len(str(max(loads, default=0))) < grid.wide)
+
+
+def shaded(name, root, grid, rows):
+    """Each rectangle of the first group is a run of modules at one step; a step has one shade, another than any other step of the show."""
+    found, shades = {}, {}
     for rect in root.find(f"{SVG}g").findall(f"{SVG}rect"):
-        slots.setdefault(int(rect.get("x")), []).append((int(rect.get("y")), int(rect.get("height")), rect.get("fill")))
-    active = [[step for step in row if step != "-"] for row in rows if any(step != "-" for step in row)]
-    ensure(f"slots of the picture of {name}", len(slots) == len(active))
-    shades = {}
-    for (_, runs), steps in zip(sorted(slots.items()), active):
-        tall = sum(height for _, height, _ in runs)
-        ensure(f"cells of the picture of {name}", tall % len(steps) == 0)
-        painted = [fill for _, height, fill in sorted(runs) for _ in range(height * len(steps) // tall)]
-        ensure(f"steps of the picture of {name}", len(painted) == len(steps))
-        ensure(f"shades of the picture of {name}", all(shades.setdefault(step, fill) == fill for step, fill in zip(steps, painted)))
+        x, y, wide, tall = (int(rect.get(key)) for key in ("x", "y", "width", "height"))
+        ensure(f"a cell's size in the picture of {name}", wide == grid.wide and tall % grid.tall == 0)
+        for module in range((y - grid.top) // grid.tall, (y + tall - grid.top) // grid.tall):
+            ensure(f"a cell of the picture of {name} is drawn once", ((x - grid.left) / grid.wide, module) not in found)
+            found[(x - grid.left) / grid.wide, module] = rect.get("fill")
+    active = {(slot, module): step for slot, row in enumerate(rows) for module, step in enumerate(row) if step != "-"}
+    ensure(f"the active cells of the picture of {name}", found.keys() == active.keys())
+    for place, step in active.items():
+        ensure(f"the shade of step {step} of {name}", shades.setdefault(step, found[place]) == found[place])
     require(f"shades of {name}", len(set(shades.values())) == len(shades))
 
 
-def page_of(name, path, cost, rows):
-    """The tables of the page hold the plan and the sheet."""
+def lines_of(name, root, grid, wanted):
+    """A line for the loads and one for the counts, each from 0 to what the full rack has."""
+    box = root.findall(f"{SVG}rect")[1]
+    upper, tall = int(box.get("y")), int(box.get("height"))
+    found = {line.get("stroke"): line.get("points").split() for line in root.findall(f"{SVG}polyline")}
+    ensure(f"lines of {name}", found.keys() == (wanted.keys() if wanted["#08306b"][0] else set()))
+    for colour, (values, most) in wanted.items():
+        points = [tuple(map(float, point.split(","))) for point in found.get(colour, [])]
+        heights = [upper + tall - tall * value / most for value in values]
+        ensure(f"the line {colour} of {name}", len(points) == 2 * len(values))
+        for slot, height in enumerate(heights):
+            ends = [(grid.left + at * grid.wide, height) for at in (slot, slot + 1)]
+            near = all(x == end[0] and abs(y - end[1]) < 0.06 for (x, y), end in zip(points[2 * slot : 2 * slot + 2], ends))
+            ensure(f"slot {slot + 1} of the line {colour} of {name}", near)
+    require(f"lines of {name}", True)
+
+
+def axes(name, grid, texts, slots, modules):
+    """The numbers below the grid stand under their slots, those at its left beside their modules."""
+    below = {text: x for _, x, y, text in texts if grid.bottom < y < grid.bottom + 40 and text != "slot" and x >= grid.left}
+    beside = {text.split()[-1]: y for _, x, y, text in texts if x < grid.left and grid.top < y < grid.bottom + 12 and text != "slot"}
+    ensure(f"slots beside {name}", all(x == grid.middle(int(text.replace(",", "")) - 1) for text, x in below.items()))
+    rows = ((int(text) - 1, y) for text, y in beside.items())
+    ensure(f"modules beside {name}", all(0 <= y - (grid.top + module * grid.tall + grid.tall // 2) <= 8 for module, y in rows))
+    require(f"axes of {name}", ("1" in below or not slots) and "1" in beside and (modules < 200 or "200" in beside))
+
+
+def written(name, grid, texts, loads, counts, rows):
+    """Where cells are large enough, each has its step, and each slot its load and its count above it, no wider than the cell."""
+    right = [text for text in texts if text[1] > grid.left]
+    for colour, values in (("#b35900", loads), ("#08306b", counts)):
+        found = [(x, text) for fill, x, y, text in right if fill == colour and grid.top - 30 < y < grid.top]
+        ensure(f"numbers above {name}", found == [(grid.middle(slot), str(value)) for slot, value in enumerate(values)])
+    inside = [(x - grid.left, y - grid.top, text) for _, x, y, text in right if grid.top < y < grid.bottom]
+    inside = {(x // grid.wide, y // grid.tall): text for x, y, text in inside}
+    wanted = {(slot, module): step for slot, row in enumerate(rows) for module, step in enumerate(row)}
+    require(f"steps in the picture of {name}", inside == wanted)
+
+
+def page_of(name, path, cost, loads, counts, rows):
+    """The page holds the show, the cost, the plan and the sheet, each number in its place."""
     root = ElementTree.fromstring(lamp("page", path)[1])
     without_references(f"page of {name}", root)
-    require(f"heading of {name}", root.find(f"{HTML}body/{HTML}h1").text == f"Least cost {int(cost):,}")
+    require(f"heading of {name}", root.find(f"{HTML}body/{HTML}h1").text == f"Least cost {cost:,}")
     require(f"show of {name}", root.find(f".//{HTML}pre").text.encode() == lamp("show", path)[1])
     require(f"picture of {name}", root.find(f".//{SVG}svg") is not None)
-    sheets = root.findall(f".//{HTML}table[@class='sheet']/{HTML}tbody")
-    require(f"sheet of {name}", [[cell.text for cell in slot.iter(f"{HTML}td")] for slot in sheets] == rows)
-    counts = [cell.text for table in root.iter(f"{HTML}table") if table.get("class") is None for cell in table.iter(f"{HTML}td")]
-    require(f"plan of {name}", counts == [str(sum(step != "-" for step in row)) for row in rows])
+    cells = lambda element: [cell.text or "" for cell in element if cell.tag in (f"{HTML}th", f"{HTML}td")]
+    plans = [table for table in root.iter(f"{HTML}table") if table.get("class") is None]
+    wanted = []
+    for at in range(0, len(counts), 20):
+        last = min(at + 20, len(counts))
+        label = f"slots {at + 1:,} to {last:,}" if last > at + 1 else f"slot {last:,}"
+        wanted.append([label, *map(str, counts[at:last])])
+    require(f"plan of {name}", [cells(row) for table in plans for row in table] == wanted)
+    sheet = root.find(f".//{HTML}table[@class='sheet']")
+    if not rows:
+        require(f"no sheet of {name}", sheet is None)
+        return
+    modules = len(rows[0])
+    heading = ["slot", "load", "count", *(["modules"] if modules > 25 else []), *map(str, range(1, min(modules, 25) + 1))]
+    require(f"heading of the sheet of {name}", cells(sheet.find(f"{HTML}thead")[0]) == heading)
+    wanted = []
+    for slot, row in enumerate(rows):
+        lines = [row[at : at + 25] for at in range(0, modules, 25)]
+        facts = [f"{slot + 1:,}", f"{loads[slot]:,}", str(counts[slot])]
+        labels = [[f"{25 * at + 1} to {25 * at + len(line)}"] if modules > 25 else [] for at, line in enumerate(lines)]
+        wanted.append([(facts if at == 0 else [""] * 3) + labels[at] + line for at, line in enumerate(lines)])
+    require(f"sheet of {name}", [[cells(line) for line in slot] for slot in sheet.findall(f"{HTML}tbody")] == wanted)
+
+
+WRONG = """
+#include "lamp.h"
+/* Answers as a library does whose sheet costs one point more than its planner says. */
+struct lamp_answer lamp_check_card(const uint8_t *card, size_t card_len) { (void)card, (void)card_len; return (struct lamp_answer){0, 0}; }
+struct lamp_answer lamp_running_cost(const uint8_t *card, size_t card_len, uint64_t count, uint64_t load)
+{ (void)card, (void)card_len, (void)count, (void)load; return (struct lamp_answer){13, 7}; }
+struct lamp_answer lamp_plan_exact(const uint8_t *card, size_t card_len, uint8_t *plan, size_t plan_len, uint8_t *work, size_t work_len)
+{ (void)card, (void)card_len, (void)plan, (void)plan_len, (void)work, (void)work_len; return (struct lamp_answer){0, 32}; }
+struct lamp_answer lamp_plan_coarse(const uint8_t *card, size_t card_len, uint8_t *plan, size_t plan_len, uint8_t *work, size_t work_len)
+{ (void)card, (void)card_len, (void)plan, (void)plan_len, (void)work, (void)work_len; return (struct lamp_answer){99, 0}; }
+struct lamp_answer lamp_sheet(const uint8_t *card, size_t card_len, const uint8_t *plan, size_t plan_len, uint8_t *sheet, size_t sheet_len)
+{ (void)card, (void)card_len, (void)plan, (void)plan_len, (void)sheet, (void)sheet_len; return (struct lamp_answer){0, 33}; }
+struct lamp_answer lamp_mark(const uint8_t *card, size_t card_len, const uint8_t *sheet, size_t sheet_len)
+{ (void)card, (void)card_len, (void)sheet, (void)sheet_len; return (struct lamp_answer){0, 33}; }
+struct lamp_answer lamp_rounded_count(uint64_t count, uint64_t modules) { (void)count, (void)modules; return (struct lamp_answer){0, 0}; }
+"""
+
+
+def a_wrong_library(folder):
+    """The tool over a library that contradicts itself prints no key: two costs that differ, an unknown number, a refusal with a cost."""
+    shutil.copytree(ROOT / "tool", folder / "tool", ignore=shutil.ignore_patterns("target"))
+    (folder / "target" / "staticlib").mkdir(parents=True)
+    (folder / "wrong.c").write_text(WRONG)
+    build = 'gcc -I "$1/include" -c wrong.c -o wrong.o && ar rc target/staticlib/liblamp.a wrong.o && '
+    build += "cargo build --release --offline --quiet --manifest-path tool/Cargo.toml"
+    subprocess.run(["sh", "-c", build, "sh", ROOT], cwd=folder, check=True)
+    wrong = folder / "tool" / "target" / "release" / "lamp"
+    a = SAMPLES / "a.card"
+    for words in (["key", a], ["mark", a, SAMPLES / "d.sheet"], ["key", "--coarse", a], ["cost", a, "1", "1"]):
+        ended = subprocess.run([wrong, *words], capture_output=True)
+        found = ended.returncode, ended.stdout, ended.stderr
+        expect(f"{words[0]} over a wrong library", found, 2, b"", "a fault of the tool; nothing was written")
 
 
 with tempfile.TemporaryDirectory() as place:
@@ -365,4 +524,5 @@ with tempfile.TemporaryDirectory() as place:
     other_kinds(pathlib.Path(place))
     lost_output(pathlib.Path(place))
     pictures(pathlib.Path(place))
+    a_wrong_library(pathlib.Path(place))
 print(f"tool: {done} passed")

@@ -37,15 +37,31 @@ fn refusals_have_the_headers_names_and_numbers() {
     assert_eq!(found, bound);
 }
 
-/// Every call of the header is declared in the binding, and has a safe function there.
+/// A parameter of C as Rust writes it.
+fn parameter(text: &str) -> String {
+    let kinds = [("const uint8_t *", "*const u8"), ("uint8_t *", "*mut u8"), ("size_t ", "usize"), ("uint64_t ", "u64")];
+    let found = kinds.iter().find_map(|(c, rust)| text.strip_prefix(c).map(|name| format!("{name}: {rust}")));
+    found.unwrap_or_else(|| panic!("no type for {text}"))
+}
+
+/// The text with one blank for each run of blanks and line breaks.
+fn on_a_line(text: &str) -> String {
+    text.split_whitespace().collect::<Vec<_>>().join(" ")
+}
+
+/// Every call of the header is declared in the binding with the same parameters, and has a safe function there.
 #[test]
 fn every_call_is_bound() {
     let (header, binding) = (read("include/lamp.h"), read("tool/src/calls.rs"));
-    let calls: Vec<&str> = header.split("\nstruct lamp_answer lamp_").skip(1).map(|rest| rest.split('(').next().unwrap()).collect();
+    let declared = on_a_line(&binding).replace("( ", "(").replace(", )", ")");
+    let calls: Vec<&str> = header.split("\nstruct lamp_answer lamp_").skip(1).collect();
     assert_eq!(calls.len(), 7);
     for call in calls {
-        assert!(binding.contains(&format!("    fn lamp_{call}(")), "{call} is not declared");
-        assert!(binding.contains(&format!("\npub fn {call}(")), "{call} has no safe function");
+        let (name, rest) = call.split_once('(').unwrap();
+        let parameters: Vec<String> = on_a_line(rest.split(')').next().unwrap()).split(", ").map(parameter).collect();
+        let line = format!("fn lamp_{name}({}) -> LampAnswer;", parameters.join(", "));
+        assert!(declared.contains(&line), "the binding has no {line}");
+        assert!(binding.contains(&format!("\npub fn {name}(")), "{name} has no safe function");
     }
 }
 

@@ -159,6 +159,12 @@ fn wrong_shows_are_told() {
     wrong("loads 6 0", "loads 6 # \u{2028}0", 6, 11, "\\u{2028} is no plain blank");
     wrong("loads 6 0", "loads 6 \u{feff}0", 6, 9, "\\u{feff} is no plain blank");
     wrong("loads 6 0 2\n", "loads 6 0 2 # one\r0 2 # two\rx\n", 8, 1, "'x' is no field");
+    wrong("loads 6 0 2\n", "\r", 7, 1, "ends without loads");
+    let error = show_text::read(&A.replace('\n', "\r\n").replace("loads 6", "loads x")).unwrap_err();
+    assert_eq!((error.place.line, error.place.column), (6, 7), "{error}");
+    for letter in "\u{ad}\u{200b}\u{200f}\u{202e}\u{2066}\u{2060}\u{2800}\u{3164}\u{e0001}\u{85}".chars() {
+        wrong("loads 6 0", &format!("loads 6 # {letter} 0"), 6, 11, "is no plain blank and not visible");
+    }
     wrong("loads 6", "loads \u{e9}\u{e9} 6", 6, 7, "is no field");
 }
 

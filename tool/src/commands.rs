@@ -7,6 +7,7 @@ use crate::planning::{self, Planned, Planner};
 use crate::refusal::Refusal;
 use crate::sheet_text::{self, SheetText};
 use crate::show::Show;
+use crate::typed::{self, NoNumber};
 use crate::words::{grouped, several};
 use crate::{help, listing, page, picture, show_text};
 use std::ffi::{OsStr, OsString};
@@ -67,7 +68,7 @@ pub fn run(words: &[OsString]) -> Outcome {
         _ => {}
     }
     let Some(command) = help::COMMANDS.iter().find(|command| first == command.name) else {
-        return Outcome::error(&format!("'{}' is no command\n{}", input::name(first), help::USAGE));
+        return Outcome::error(&format!("'{}' is no command\n{}", input::printable(first), help::USAGE));
     };
     if words[1..].iter().take_while(|word| *word != "--").any(|word| word == "--help" || word == "-h") {
         return Outcome::done(command.help());
@@ -87,7 +88,7 @@ fn split<'a>(command: &help::Command, words: &'a [OsString]) -> Result<Words<'a>
         }
         match word.to_str().filter(|word| command.options.contains(word)) {
             Some(option) => out.options.push(option),
-            None => return Err(format!("{}: no option {}\n{}", command.name, input::name(word), command.usage())),
+            None => return Err(format!("{}: no option {}\n{}", command.name, input::printable(word), command.usage())),
         }
     }
     if out.plain.len() != command.takes.len() {
@@ -238,9 +239,12 @@ fn length_fault(show: &Show, sheet: &HandedIn) -> String {
 
 /// A number of the command line.
 fn number(words: &Words, at: usize, name: &str) -> Result<u64, String> {
-    let word = words.plain[at].to_str().filter(|word| !word.is_empty() && word.bytes().all(|byte| byte.is_ascii_digit()));
-    let found = word.ok_or_else(|| format!("{name} {} is not a number", input::name(words.plain[at])))?;
-    found.parse().map_err(|_| format!("{name} {found} is above {}", grouped(u64::MAX)))
+    let word = input::printable(words.plain[at]);
+    typed::number(&word, u64::MAX).map_err(|fault| match fault {
+        NoNumber::NotDigits => format!("{name} {word} is not a number"),
+        NoNumber::NeedlessZero => format!("{name} {word} {}", typed::NEEDLESS_ZERO),
+        NoNumber::TooLarge => format!("{name} {word} is above {}", grouped(u64::MAX)),
+    })
 }
 
 pub fn cost(words: &Words) -> Ended {

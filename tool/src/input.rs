@@ -33,7 +33,8 @@ pub fn name(path: &OsStr) -> String {
     printable(path)
 }
 
-fn printable(path: &OsStr) -> String {
+/// A word of the command line as it can be printed.
+pub fn printable(path: &OsStr) -> String {
     path.to_string_lossy().chars().flat_map(|c| if c.is_control() { c.escape_debug().collect() } else { vec![c] }).collect()
 }
 
@@ -74,16 +75,24 @@ fn reason(error: &io::Error) -> String {
     text.split(" (os error").next().unwrap_or("").to_string()
 }
 
-/// Whether bytes were typed: at most one in ten is a control character that a text does not have. A card has more.
-pub fn is_typed(bytes: &[u8]) -> bool {
-    let strange = bytes.iter().filter(|byte| byte.is_ascii_control() && !matches!(byte, b'\t' | b'\n' | b'\r'));
-    !bytes.is_empty() && 10 * strange.count() <= bytes.len()
+/// A control character that a text does not have.
+fn is_strange(byte: u8) -> bool {
+    byte.is_ascii_control() && !matches!(byte, b'\t' | b'\n' | b'\r')
 }
 
-/// Whether bytes are text in UTF-16: they have its mark, or every second one of the first is 0.
+/// Whether bytes were typed: at most one in ten is a control character that a text does not have, and there is no NUL where a card's
+/// fields before its table are. A card has one there, in its version.
+pub fn is_typed(bytes: &[u8]) -> bool {
+    let strange = bytes.iter().filter(|byte| is_strange(**byte)).count();
+    !bytes.is_empty() && 10 * strange <= bytes.len() && !bytes.iter().take(17).any(|byte| *byte == 0)
+}
+
+/// Whether bytes are text in UTF-16: they have its mark, or of the first ones every second is 0 and the others were typed.
 fn is_utf16(bytes: &[u8]) -> bool {
-    let zeros = |from: usize| bytes.len() >= 8 && bytes.iter().skip(from).step_by(2).take(16).all(|byte| *byte == 0);
-    bytes.starts_with(b"\xFF\xFE") || bytes.starts_with(b"\xFE\xFF") || zeros(0) != zeros(1)
+    let half = |from: usize| bytes.iter().skip(from).step_by(2).take(16);
+    let typed = |from: usize| half(from).all(|byte| byte.is_ascii() && !is_strange(*byte));
+    let letters = |from: usize| bytes.len() >= 8 && typed(from) && half(1 - from).all(|byte| *byte == 0);
+    bytes.starts_with(b"\xFF\xFE") || bytes.starts_with(b"\xFE\xFF") || letters(0) || letters(1)
 }
 
 /// Typed bytes as text, or the place from which on they are not UTF-8.
@@ -139,14 +148,20 @@ fn no_card(text: &str) -> Option<&'static str> {
     match lines.first().map(|words| words[0]) {
         Some("cost" | "plan") => Some("this is a listing, not a card"),
         Some("refused") => Some("this is a refusal that a program printed, not a card"),
+        Some(_) if is_key(&lines) => Some("this is a key, not a card; the show's text is its lines before the blank one"),
         Some(_) if is_hex(&lines) => Some("this is hex text; bin/card makes a card of it"),
         Some(word) if !has_field(&lines) && is_step(word) => Some("this looks like a sheet; the card is named before it"),
         _ => None,
     }
 }
 
+/// Whether the text is what `lamp key` prints: a show and a listing.
+fn is_key(lines: &[Vec<&str>]) -> bool {
+    has_field(lines) && lines.iter().any(|words| words[0] == "cost")
+}
+
 fn is_step(word: &str) -> bool {
-    word == "slot" || word == "-" || word.bytes().all(|byte| byte.is_ascii_digit())
+    word == "slot" || word == "-" || typed::is_digits(word)
 }
 
 /// Pairs of hex digits alone, with the mark first or at least one digit that is a letter.
@@ -183,8 +198,7 @@ fn no_sheet(text: &str) -> Option<&'static str> {
         return Some("this is a page or a picture, not a sheet");
     }
     if has_field(&lines) {
-        let key = lines.iter().any(|words| words[0] == "cost");
-        return Some(if key { "this is a key; a sheet is its lines from 'cost' on" } else { SHOW });
+        return Some(if is_key(&lines) { "this is a key; a sheet is its lines from 'cost' on" } else { SHOW });
     }
     is_hex(&lines).then_some("this is hex text, not a sheet")
 }

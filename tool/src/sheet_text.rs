@@ -64,7 +64,7 @@ fn step(word: &Word) -> Result<u8, TextError> {
     if word.text == "-" {
         return Ok(OFF);
     }
-    match word.number(u64::from(OFF) - 1) {
+    match typed::number(word.text, u64::from(OFF) - 1) {
         Ok(step) => Ok(step as u8),
         Err(NoNumber::NeedlessZero) => word.error(format!("{} {NEEDLESS_ZERO}", word.quoted())),
         Err(NoNumber::TooLarge) => {
@@ -94,7 +94,7 @@ impl SheetText {
 
     /// Why the text has not a line for each slot with a step for each module.
     pub fn length_fault(&self, modules: usize, slots: usize) -> Option<String> {
-        if let Some(at) = self.uneven(modules) {
+        if let Some(at) = self.uneven(modules).filter(|at| *at < slots) {
             let row = &self.rows[at];
             let found = several(row.steps.len() as u64, "step");
             let line = row.start.line;

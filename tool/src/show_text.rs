@@ -117,7 +117,7 @@ fn begin(fields: &mut Fields, field: Field, word: &Word) -> Result<(), TextError
 
 /// A line that begins neither with a field's name nor goes on with a list.
 fn stray<T>(word: &Word, last: Option<Field>) -> Result<T, TextError> {
-    if !word.is_number() {
+    if !typed::is_digits(word.text) {
         return word.error(no_field(word));
     }
     match last {
@@ -134,7 +134,7 @@ fn no_field(word: &Word) -> String {
 fn add(fields: &mut Fields, field: Field, words: &[Word]) -> Result<(), TextError> {
     let most = (1u64 << (8 * field.bytes())) - 1;
     for word in words {
-        let number = match word.number(most) {
+        let number = match typed::number(word.text, most) {
             Ok(number) => number,
             Err(NoNumber::TooLarge) => return word.error(format!("{} is too large: {}", word.quoted(), field.bound())),
             Err(NoNumber::NeedlessZero) => return word.error(format!("{} {NEEDLESS_ZERO}", word.quoted())),

@@ -39,29 +39,30 @@ impl Word<'_> {
         Err(TextError { place: self.place, message: message.into() })
     }
 
-    pub fn is_number(&self) -> bool {
-        !self.text.is_empty() && self.text.bytes().all(|byte| byte.is_ascii_digit())
-    }
-
-    /// The decimal number that the word is, if it is at most `most`. A number does not begin with a needless 0: `000` is more likely the
-    /// end of a number that was typed with a blank inside.
-    pub fn number(&self, most: u64) -> Result<u64, NoNumber> {
-        if !self.is_number() {
-            return Err(NoNumber::NotDigits);
-        }
-        if self.text.len() > 1 && self.text.starts_with('0') {
-            return Err(NoNumber::NeedlessZero);
-        }
-        match self.text.parse() {
-            Ok(number) if number <= most => Ok(number),
-            _ => Err(NoNumber::TooLarge),
-        }
-    }
-
     /// The word as it is quoted in a message: what cannot be printed is escaped, and a long word is cut.
     pub fn quoted(&self) -> String {
         let shown: String = self.text.chars().take(30).flat_map(char::escape_debug).collect();
         format!("'{shown}{}'", if self.text.chars().count() > 30 { ".." } else { "" })
+    }
+}
+
+/// Whether a word is digits alone.
+pub fn is_digits(word: &str) -> bool {
+    !word.is_empty() && word.bytes().all(|byte| byte.is_ascii_digit())
+}
+
+/// The decimal number that a word is, if it is at most `most`. A number does not begin with a needless 0: `000` is more likely the end of
+/// a number that was typed with a blank inside.
+pub fn number(word: &str, most: u64) -> Result<u64, NoNumber> {
+    if !is_digits(word) {
+        return Err(NoNumber::NotDigits);
+    }
+    if word.len() > 1 && word.starts_with('0') {
+        return Err(NoNumber::NeedlessZero);
+    }
+    match word.parse() {
+        Ok(number) if number <= most => Ok(number),
+        _ => Err(NoNumber::TooLarge),
     }
 }
 
@@ -79,8 +80,9 @@ pub const NEEDLESS_ZERO: &str = "begins with a needless 0; a number has no blank
 /// The lines of a text. A carriage return ends a line too, with a line feed after it or without, so that no comment hides what an
 /// editor shows on a line of its own.
 fn split(text: &str) -> impl Iterator<Item = &str> {
-    let fed = text.split('\n').map(|line| line.strip_suffix('\r').unwrap_or(line));
-    fed.flat_map(|line| line.split('\r'))
+    let fed = text.matches('\n').count();
+    let lines = text.split('\n').enumerate();
+    lines.flat_map(move |(at, line)| if at < fed { line.strip_suffix('\r').unwrap_or(line) } else { line }.split('\r'))
 }
 
 /// The words of each line that has any. A character that is neither visible nor a plain blank is an error, in a comment too: it may
@@ -99,9 +101,17 @@ fn is_blank(letter: char) -> bool {
     letter == ' ' || letter == '\t'
 }
 
+/// Whether a character is seen as itself. Rust escapes what has no look of its own when it prints a text, but for these fillers, and
+/// escapes quotes and the backslash besides.
+fn is_visible(letter: char) -> bool {
+    const FILLERS: [char; 5] = ['\u{115F}', '\u{1160}', '\u{2800}', '\u{3164}', '\u{FFA0}'];
+    let shown: String = format!("a{letter}").escape_debug().collect();
+    matches!(letter, '"' | '\'' | '\\')
+        || (shown.chars().eq(['a', letter]) && !letter.is_whitespace() && !FILLERS.contains(&letter))
+}
+
 fn visible(line: usize, text: &str) -> Result<(), TextError> {
-    let strange = |letter: char| !is_blank(letter) && (letter.is_control() || letter.is_whitespace() || letter == '\u{FEFF}');
-    match text.chars().enumerate().find(|(_, letter)| strange(*letter)) {
+    match text.chars().enumerate().find(|(_, letter)| !is_blank(*letter) && !is_visible(*letter)) {
         None => Ok(()),
         Some((column, letter)) => {
             let message = format!("the character {} is no plain blank and not visible", letter.escape_unicode());
