@@ -46,48 +46,61 @@ def run_lines(name, lines, folder, environment):
             sys.exit(f"{name}: its lines do not print {part!r}")
 
 
+COMMAND = ROOT / "bin" / "release"
+
+
+def refused_releases(folder, bare):
+    """Wrong use, and folders in which nothing can be made: status 2, and nothing is left."""
+    for words in ([], [""], ["/"], ["-x"], ["a", "b"]):
+        expect(f"bin/release {words}", run([COMMAND, *words], folder), 2, b"", b"bin/release: usage")
+    expect("bin/release --help", run([COMMAND, "--help"], folder), 0)
+    full = run(["sh", "-c", '"$0" --help > /dev/full', COMMAND], folder)
+    expect("bin/release --help to a full device", full, 2, b"", b"bin/release: standard output was not written whole")
+    (folder / "rt").write_text("#!/bin/sh\nexit 3\n")
+    (folder / "rt").chmod(0o755)
+    needed = b"bin/release: the toolchain (rt) is needed"
+    expect("bin/release with an rt that fails", run([COMMAND, "failing"], folder, env={"PATH": f"{folder}:{SYSTEM}"}), 2, b"", needed)
+    (folder / "rt").unlink()
+    (folder / "empty").mkdir()
+    expect("bin/release without rt", run([COMMAND, "empty"], folder, env=bare), 2, b"", needed)
+    (folder / "half.part").mkdir()
+    expect("bin/release after a stopped one", run([COMMAND, "half"], folder), 2, b"", b"bin/release: half.part is there")
+    expect("bin/release where no folder can be made", run([COMMAND, "none/x"], folder), 2, b"", b"mkdir: ")
+    if sorted(path.name for path in folder.iterdir()) != ["empty", "half.part"]:
+        sys.exit(f"bin/release left something: {list(folder.iterdir())}")
+
+
+def files_of(folder):
+    return {str(path.relative_to(folder)) for path in folder.rglob("*") if path.is_file()}
+
+
+def made_twice(folder, files):
+    """Of two releases into one folder at the same time one is made, whole, and the other says that it is not."""
+    pair = [subprocess.Popen([COMMAND, "twice"], cwd=folder, stderr=subprocess.DEVNULL) for _ in range(2)]
+    statuses = sorted(process.wait() for process in pair)
+    if statuses != [0, 2] or files_of(folder / "twice") != files or (folder / "twice.part").exists():
+        sys.exit(f"two releases at once: statuses {statuses}, files {files_of(folder / 'twice') ^ files}")
+
+
 def release(folder):
     bare = {"PATH": SYSTEM}
     for program in ("rt", "cargo", "rustc"):
         if shutil.which(program, path=SYSTEM):
             sys.exit(f"{program} is among the system's programs, so that this test shows nothing")
+    refused_releases(folder, bare)
     first, moved = folder / "first", folder / "some where else"
-    command = ROOT / "bin" / "release"
     first.mkdir()
     said = b"bin/release: release %s is in " % version().split()[1]
-    expect("bin/release", run([command, f"{first}//"], folder), 0, b"", said)
-    expect("bin/release into a folder with files", run([command, first], folder), 2, b"", b"bin/release: ")
-    for words in ([], [""], ["/"], ["-x"], ["a", "b"]):
-        expect(f"bin/release {words}", run([command, *words], folder), 2, b"", b"bin/release: usage")
-    expect("bin/release --help", run([command, "--help"], folder), 0)
-    full = run(["sh", "-c", '"$0" --help > /dev/full', command], folder)
-    expect("bin/release --help to a full device", full, 2, b"", b"bin/release: standard output was not written whole")
-    (folder / "rt").write_text("#!/bin/sh\nexit 3\n")
-    (folder / "rt").chmod(0o755)
-    found = run([command, "failing"], folder, env={"PATH": f"{folder}:{SYSTEM}"})
-    expect("bin/release with an rt that fails", found, 2, b"", b"bin/release: the toolchain (rt) is needed")
-    (folder / "rt").unlink()
-    (folder / "empty").mkdir()
-    expect("bin/release without rt", run([command, "empty"], folder, env=bare), 2, b"", b"bin/release: the toolchain (rt) is needed")
-    (folder / "half.part").mkdir()
-    expect("bin/release after a stopped one", run([command, "half"], folder), 2, b"", b"bin/release: half.part is there")
-    expect("bin/release where no folder can be made", run([command, "none/x"], folder), 2, b"", b"mkdir: ")
-    pair = [subprocess.Popen([command, "twice"], cwd=folder, stderr=subprocess.DEVNULL) for _ in range(2)]
-    statuses = sorted(process.wait() for process in pair)
-    files = [sum(path.is_file() for path in (folder / name).rglob("*")) for name in ("first", "twice")]
-    if statuses != [0, 2] or files[0] != files[1]:
-        sys.exit(f"two releases at once: statuses {statuses}, files {files}")
-    shutil.rmtree(folder / "twice")
-    if sorted(path.name for path in folder.iterdir()) != ["empty", "first", "half.part"]:
-        sys.exit(f"bin/release left something: {list(folder.iterdir())}")
+    expect("bin/release", run([COMMAND, f"{first}//"], folder), 0, b"", said)
+    expect("bin/release into a folder with files", run([COMMAND, first], folder), 2, b"", b"bin/release: ")
+    made_twice(folder, files_of(first))
     first.rename(moved)
     expect("the sums", run(["sha256sum", "--quiet", "-c", "SHA256SUMS"], moved, env=bare), 0, b"")
     listed = {line.split("  ./", 1)[1] for line in (moved / "SHA256SUMS").read_text().splitlines()}
-    there = {str(path.relative_to(moved)) for path in moved.rglob("*") if path.is_file()} - {"SHA256SUMS"}
-    if listed != there:
-        sys.exit(f"the sums are of other files than there are: {listed ^ there}")
+    if listed != files_of(moved) - {"SHA256SUMS"}:
+        sys.exit(f"the sums are of other files than there are: {listed ^ files_of(moved)}")
     build = (moved / "BUILD.txt").read_text()
-    if not re.search(r"\Arelease \d+\.\d+\.\d+\n(commit .*\n)?toolchain rattle-.*\n", build):
+    if not re.search(r"\Arelease \d+\.\d+\.\d+\n(commit .*\n)?toolchain \S.*\n", build):
         sys.exit(f"BUILD.txt has {build!r}")
     (moved / "target").mkdir()
     use(moved, bare)

@@ -118,10 +118,13 @@ def keys():
         falling = lamp(command, SAMPLES / "v-shaped.card", "--coarse")
         expect(f"{command} of a falling table", falling, 1, b"", falls, "F(1) 1 is below F(0) 5")
         refused = lamp(command, SAMPLES / "not-convex.card")
-        expect(f"{command} of a refused card", refused, 1, b"", "not-convex.card: refused 7: table not convex")
+        expect(f"{command} of a refused card", refused, 1, b"", f"lamp: {SAMPLES}/not-convex.card: refused 7: table not convex")
     beyond = card(m=200, loads=(3,) * 327)
     status, out, _ = lamp("key", "-", data=beyond)
     require("m 200, T 327", status == 0 and len(out.splitlines()) == 7 + 32 + 2 + 2 + 327)
+
+
+D_BYTES = bytes([2, 2, 2, 255, 0, 255, 2, 255, 255])
 
 
 def marks():
@@ -130,10 +133,13 @@ def marks():
     expect("D on the show's text", lamp("mark", SAMPLES / "a.show", sheet), 0, b"cost 37\nleast 32\nabove 5\n")
     expect("D without labels", lamp("mark", a, "-", data=b"2 2 2\n- 0 -\n2 - -\n"), 0, b"cost 37\nleast 32\nabove 5\n")
     expect("the listing", lamp("mark", a, SAMPLES / "a.out"), 0, b"cost 32\nleast 32\nabove 0\n")
-    as_bytes = bytes([2, 2, 2, 255, 0, 255, 2, 255, 255])
-    expect("D as bytes", lamp("mark", "--bytes", a, "-", data=as_bytes), 0, b"cost 37\nleast 32\nabove 5\n")
-    expect("bytes without --bytes", lamp("mark", a, "-", data=as_bytes), 2, b"", "this is not text; a sheet as bytes is read with --bytes")
+    expect("D as bytes", lamp("mark", "--bytes", a, "-", data=D_BYTES), 0, b"cost 37\nleast 32\nabove 5\n")
     expect("no slot", lamp("mark", SAMPLES / "empty.card", "-"), 0, b"cost 0\nleast 0\nabove 0\n")
+    require("a refused card", lamp("mark", SAMPLES / "not-convex.card", sheet)[1].startswith(b"refused 7: table not convex\n"))
+
+
+def refused_sheets():
+    a = SAMPLES / "a.card"
     length, entry, light = (line.encode() for line in WORDS)
     refusals = {
         b"2 2 2\n- 0\n2 - -\n": length + b"  slot 2: 2 steps where the rack has 3 modules (line 2)\n",
@@ -151,9 +157,16 @@ def marks():
     }
     for text, wanted in refusals.items():
         expect(f"sheet {text!r}", lamp("mark", a, "-", data=text), 1, wanted)
-    expect("eight bytes", lamp("mark", a, "-", "--bytes", data=as_bytes[:8]), 1, length + b"  8 bytes where 3 slots and 3 modules make 9\n")
+    short = b"  8 bytes where 3 slots and 3 modules make 9\n"
+    expect("eight bytes", lamp("mark", a, "-", "--bytes", data=D_BYTES[:8]), 1, length + short)
     looks = b"  10 bytes where 3 slots and 3 modules make 9; it looks like typed text, which is read without --bytes\n"
     expect("text as bytes", lamp("mark", a, "-", "--bytes", data=b"2 2 2\n- 0\n"), 1, length + looks)
+
+
+def no_sheets():
+    """What is no sheet, or stands in its place, is told."""
+    a, sheet = SAMPLES / "a.card", SAMPLES / "d.sheet"
+    expect("bytes without --bytes", lamp("mark", a, "-", data=D_BYTES), 2, b"", "this is not text; a sheet as bytes is read with --bytes")
     expect("a step too large", lamp("mark", a, "-", data=b"2 2 255\n"), 2, b"", "line 1, column 5: '255' is too large for a step")
     expect("a card for a sheet", lamp("mark", a, a), 2, b"", "this is a card, not a sheet")
     expect("a show for a sheet", lamp("mark", a, SAMPLES / "a.show"), 2, b"", "this is a show, not a sheet")
@@ -167,7 +180,6 @@ def marks():
     expect("a sheet in Latin-1", lamp("mark", a, "-", data=latin), 2, b"", wrong)
     expect("card and sheet swapped", lamp("mark", sheet, a), 2, b"", "this looks like a sheet; the card is named before it")
     expect("a plain sheet for a card", lamp("mark", "-", a, data=b"22 11 10\n11 10 22\n"), 2, b"", "this looks like a sheet")
-    require("a refused card", lamp("mark", SAMPLES / "not-convex.card", sheet)[1].startswith(b"refused 7: table not convex\n"))
 
 
 WORDS = (
@@ -252,7 +264,7 @@ def other_kinds(folder):
     plain = A_TEXT + "# it's \"quoted\" \\ Pr\u00fcfung \u65e5\u672c e\u0301\n".encode()
     expect("a comment in any language", lamp("show", "-", data=plain), 0, A_TEXT)
     few = card(m=200, q=100, up=0x7E7E7E, down=0x7E7E7E, table=(949886,) * 101, loads=(20000,) * 1024)
-    expect("a card with a wrong mark and few zeros", lamp("check", "-", data=b"DLX" + few[3:])[:1] + (b"", b""), 1, b"")
+    require("a card with a wrong mark and few zeros", lamp("check", "-", data=b"DLX" + few[3:])[1].startswith(b"refused 1: "))
     zeros = lamp("mark", SAMPLES / "a.card", "-", data=b"\2\0" * 4)
     expect("a sheet of bytes with every second zero", zeros, 2, b"", "a sheet as bytes is read with --bytes")
     others = lamp("key", "-", data=bytes(range(256)))
@@ -419,12 +431,9 @@ def lines_of(name, root, grid, wanted):
     for colour, (values, most) in wanted.items():
         points = [tuple(map(float, point.split(","))) for point in found.get(colour, [])]
         heights = [upper + tall - tall * value / most for value in values]
-        ensure(f"the line {colour} of {name}", len(points) == 2 * len(values))
-        for slot, height in enumerate(heights):
-            ends = [(grid.left + at * grid.wide, height) for at in (slot, slot + 1)]
-            near = all(x == end[0] and abs(y - end[1]) < 0.06 for (x, y), end in zip(points[2 * slot : 2 * slot + 2], ends))
-            ensure(f"slot {slot + 1} of the line {colour} of {name}", near)
-    require(f"lines of {name}", True)
+        ends = [(grid.left + at * grid.wide, height) for slot, height in enumerate(heights) for at in (slot, slot + 1)]
+        near = all(x == end[0] and abs(y - end[1]) < 0.06 for (x, y), end in zip(points, ends))
+        require(f"the line {colour} of {name}", len(points) == len(ends) and near)
 
 
 def axes(name, grid, texts, slots, modules):
@@ -519,6 +528,8 @@ with tempfile.TemporaryDirectory() as place:
     checks()
     keys()
     marks()
+    refused_sheets()
+    no_sheets()
     numbers()
     wrong_use(pathlib.Path(place))
     other_kinds(pathlib.Path(place))

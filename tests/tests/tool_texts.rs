@@ -112,16 +112,18 @@ fn shows_typed_in_many_ways() {
 
 const A: &str = "modules 3\ntop 2\nwarm-up 3\ncool-down 2\ntable 1 2 4\nloads 6 0 2\n";
 
+/// Example A's text with a change is wrong at a place, and the message has these words.
+fn wrong(from: &str, to: &str, line: usize, column: usize, words: &str) {
+    let text = A.replacen(from, to, 1);
+    assert_ne!(text, A);
+    let error = show_text::read(&text).expect_err(&text);
+    assert_eq!((error.place.line, error.place.column), (line, column), "{error} in {text:?}");
+    assert!(error.message.contains(words), "{error}, and not {words}");
+}
+
 /// Each wrong text is told with its line and column.
 #[test]
 fn wrong_shows_are_told() {
-    let wrong = |from: &str, to: &str, line: usize, column: usize, words: &str| {
-        let text = A.replacen(from, to, 1);
-        assert_ne!(text, A);
-        let error = show_text::read(&text).expect_err(&text);
-        assert_eq!((error.place.line, error.place.column), (line, column), "{error} in {text:?}");
-        assert!(error.message.contains(words), "{error}, and not {words}");
-    };
     assert_eq!(show_text::read(A).unwrap().show.card(), card_a());
     wrong("modules 3\n", "", 6, 1, "ends without modules");
     wrong("loads 6 0 2\n", "", 6, 1, "ends without loads");
@@ -150,6 +152,12 @@ fn wrong_shows_are_told() {
     wrong("warm-up 3", "warm-up 3.5", 3, 9, "'3.5' is not a number");
     wrong("warm-up 3", "warm-up 0x3", 3, 9, "'0x3' is not a number");
     wrong("warm-up 3", "warm-up \u{664}", 3, 9, "is not a number");
+    wrong("loads 6", "loads \u{e9}\u{e9} 6", 6, 7, "is no field");
+}
+
+/// What would be read otherwise than it looks is told too: blanks inside numbers, and characters that cannot be seen.
+#[test]
+fn unseen_characters_are_told() {
     wrong("loads 6 0", "loads 1 000", 6, 9, "'000' begins with a needless 0");
     wrong("loads 6", "loads 06", 6, 7, "'06' begins with a needless 0");
     wrong("loads 6 0 2", "loads 6 # act\u{b}0 2", 6, 14, "\\u{b} is no plain blank");
@@ -165,7 +173,6 @@ fn wrong_shows_are_told() {
     for letter in "\u{ad}\u{200b}\u{200f}\u{202e}\u{2066}\u{2060}\u{2800}\u{3164}\u{e0001}\u{85}".chars() {
         wrong("loads 6 0", &format!("loads 6 # {letter} 0"), 6, 11, "is no plain blank and not visible");
     }
-    wrong("loads 6", "loads \u{e9}\u{e9} 6", 6, 7, "is no field");
 }
 
 /// The places of a refusal are those that document 01 names, and there is at least one for every refused card.

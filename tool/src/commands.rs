@@ -125,11 +125,16 @@ fn card_refusal(card: &Card, refusal: Refusal) -> String {
     lines(refusal, &faults.iter().map(place).collect::<Vec<_>>())
 }
 
+/// A card is refused, and the command has nothing to give.
+fn refused_card(card: &Card, refusal: Refusal) -> Outcome {
+    Outcome::refused(&format!("{}: {}", card.name, card_refusal(card, refusal)))
+}
+
 pub fn card(words: &Words) -> Ended {
     let card = input::card(words.plain[0])?;
     Ok(match calls::check_card(&card.bytes) {
         Ok(_) => Outcome::done(card.bytes),
-        Err(refusal) => Outcome::refused(&format!("{}: {}", card.name, card_refusal(&card, refusal))),
+        Err(refusal) => refused_card(&card, refusal),
     })
 }
 
@@ -139,10 +144,7 @@ pub fn show(words: &Words) -> Ended {
     let text = Show::read(&card.bytes).map_or(String::new(), |show| show_text::write(&show));
     Ok(match calls::check_card(&card.bytes) {
         Ok(_) => Outcome::done(text),
-        Err(refusal) => {
-            let complaint = Outcome::refused(&format!("{}: {}", card.name, card_refusal(&card, refusal)));
-            Outcome { output: text.into(), ..complaint }
-        }
+        Err(refusal) => Outcome { output: text.into(), ..refused_card(&card, refusal) },
     })
 }
 
@@ -161,8 +163,8 @@ pub fn check(words: &Words) -> Ended {
 fn with_plan(words: &Words, write: fn(&Planned, &str) -> String) -> Ended {
     let card = input::card(words.plain[0])?;
     Ok(match planning::plan(words.planner(), &card.bytes) {
-        Ok(planned) => Outcome::done(write(&planned, &card.name)),
-        Err(refusal) => Outcome::refused(&format!("{}: {}", card.name, card_refusal(&card, refusal))),
+        Ok(planned) => Outcome::done(write(&planned, &card.title)),
+        Err(refusal) => refused_card(&card, refusal),
     })
 }
 
@@ -254,14 +256,15 @@ pub fn cost(words: &Words) -> Ended {
         Ok(cost) => return Ok(Outcome::done(format!("{cost}\n"))),
         Err(refusal) => refusal,
     };
-    Ok(Outcome::refused(&match (refusal, Show::read(&card.bytes)) {
-        (Refusal::EntryRange, Some(show)) => lines(refusal, &[above_rack(count, show.modules.into())]),
+    let place = match (refusal, Show::read(&card.bytes)) {
+        (Refusal::EntryRange, Some(show)) => above_rack(count, show.modules.into()),
         (Refusal::LoadNotServed, Some(show)) => {
             let most = several(u64::from(show.top) * count, "step");
-            lines(refusal, &[format!("{} can give {most}, not {}", several(count, "module"), grouped(load))])
+            format!("{} can give {most}, not {}", several(count, "module"), grouped(load))
         }
-        _ => format!("{}: {}", card.name, card_refusal(&card, refusal)),
-    }))
+        _ => return Ok(refused_card(&card, refusal)),
+    };
+    Ok(Outcome::refused(&lines(refusal, &[place])))
 }
 
 fn above_rack(count: u64, modules: u64) -> String {

@@ -10,17 +10,18 @@ use std::io::{self, Read};
 use std::path::Path;
 
 /// The most bytes that are read of a card or of a show's text. The longest card has 2,869 bytes, and its text as `lamp show` writes it
-/// about 12,000.
+/// at most some 11,000.
 pub const MOST_CARD: usize = 65_536;
 /// The most bytes that are read of a sheet's text. That of the largest sheet in a listing has about 830,000.
 pub const MOST_SHEET_TEXT: usize = 2_097_152;
 /// The bytes of the largest sheet.
 pub const MOST_SHEET: usize = 204_800;
 
-/// A card, with the text that it was read from where it was text.
+/// A card, with its name in messages and in titles, and the text that it was read from where it was text.
 #[derive(Clone, Debug)]
 pub struct Card {
     pub name: String,
+    pub title: String,
     pub bytes: Vec<u8>,
     pub text: Option<ShowText>,
 }
@@ -39,7 +40,7 @@ pub fn printable(path: &OsStr) -> String {
 }
 
 /// How a file is called in the title of a page.
-pub fn title(path: &OsStr) -> String {
+fn title(path: &OsStr) -> String {
     match Path::new(path).file_name() {
         Some(last) if path != "-" => printable(last),
         _ => name(path),
@@ -48,15 +49,14 @@ pub fn title(path: &OsStr) -> String {
 
 /// All bytes of a file, or of standard input for `-`, if they are no more than `most`.
 pub fn read(path: &OsStr, most: usize) -> Result<Vec<u8>, String> {
-    let fault = |error: io::Error| format!("{}: {}", name(path), reason(&error));
     let mut bytes = Vec::new();
     let bound = most as u64 + 1;
-    if path == "-" {
-        output::standard_input().take(bound).read_to_end(&mut bytes).map_err(fault)?;
+    let found = if path == "-" {
+        (&*output::stream(0)).take(bound).read_to_end(&mut bytes)
     } else {
-        let file = File::open(path).map_err(fault)?;
-        file.take(bound).read_to_end(&mut bytes).map_err(fault)?;
-    }
+        File::open(path).and_then(|file| file.take(bound).read_to_end(&mut bytes))
+    };
+    found.map_err(|error| format!("{}: {}", name(path), reason(&error)))?;
     if bytes.len() > most {
         return Err(format!("{}: more than {} bytes", name(path), grouped(most as u64)));
     }
@@ -109,12 +109,12 @@ const UTF16: &str = "this is text in UTF-16; save it as UTF-8";
 
 /// Reads a card, as bytes if they begin with the mark or were not typed, and else as a show's text.
 pub fn card(path: &OsStr) -> Result<Card, String> {
-    let bytes = read(path, MOST_CARD)?;
+    let (name, title, bytes) = (name(path), title(path), read(path, MOST_CARD)?);
     if bytes.starts_with(MARK) || !(is_typed(&bytes) || is_utf16(&bytes)) {
-        return Ok(Card { name: title(path), bytes, text: None });
+        return Ok(Card { name, title, bytes, text: None });
     }
-    let typed = typed_show(&bytes).map_err(|message| format!("{}: {message}", name(path)))?;
-    Ok(Card { name: title(path), bytes: typed.show.card(), text: Some(typed) })
+    let typed = typed_show(&bytes).map_err(|message| format!("{name}: {message}"))?;
+    Ok(Card { name, title, bytes: typed.show.card(), text: Some(typed) })
 }
 
 fn typed_show(bytes: &[u8]) -> Result<ShowText, String> {

@@ -4,7 +4,7 @@
 //! device in its place. A key would then be lost and the status 0. So the program starts without it, and writes to the file
 //! descriptor itself.
 use std::fs::File;
-use std::io::{self, Read, Write};
+use std::io::{self, Write};
 use std::mem::ManuallyDrop;
 use std::os::fd::FromRawFd;
 
@@ -23,19 +23,8 @@ pub fn keep_on_failed_write() {
 }
 
 /// A standard stream by its number, which is not closed afterwards.
-fn stream(number: i32) -> ManuallyDrop<File> {
+pub fn stream(number: i32) -> ManuallyDrop<File> {
     ManuallyDrop::new(unsafe { File::from_raw_fd(number) })
-}
-
-/// Standard input.
-pub fn standard_input() -> impl Read {
-    struct Input(ManuallyDrop<File>);
-    impl Read for Input {
-        fn read(&mut self, buffer: &mut [u8]) -> io::Result<usize> {
-            self.0.read(buffer)
-        }
-    }
-    Input(stream(0))
 }
 
 /// Writes all bytes to standard output. A file is also brought to its disk, since some file systems tell only then that they are

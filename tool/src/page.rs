@@ -4,7 +4,7 @@ use crate::markup::escaped;
 use crate::picture;
 use crate::planning::Planned;
 use crate::show_text;
-use crate::words::grouped;
+use crate::words::{grouped, range};
 
 /// How many modules stand on a line of the sheet.
 const MODULES_ON_A_LINE: usize = 25;
@@ -68,16 +68,6 @@ fn plan(planned: &Planned) -> String {
         out += &format!("<tr>{}{counts}</tr>\n", th(&range("slot", first, first + line.len() - 1)));
     }
     out + "</table>\n"
-}
-
-/// A range of numbers from 1 on, such as `slots 21 to 40`.
-fn range(name: &str, first: usize, last: usize) -> String {
-    let (from, to) = (grouped(first as u64), grouped(last as u64));
-    if first == last {
-        format!("{name} {from}")
-    } else {
-        format!("{name}s {from} to {to}")
-    }
 }
 
 /// The sheet: a group of lines for each slot, which no page break divides.

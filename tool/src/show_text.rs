@@ -2,7 +2,7 @@
 //! numbers that follow it. `#` begins a comment.
 use crate::show::{Show, VERSION};
 use crate::typed::{self, NoNumber, Place, TextError, Word, NEEDLESS_ZERO};
-use crate::words::{grouped, listed, several};
+use crate::words::{grouped, listed, range, several};
 
 /// The fields of a show's text.
 #[derive(Clone, Copy, Debug, PartialEq, Eq)]
@@ -220,7 +220,7 @@ pub fn write(show: &Show) -> String {
     out += &format!("warm-up {}\n", show.warm_up);
     out += &format!("cool-down {}\n", show.cool_down);
     out += &list("table", &show.table, entry_range);
-    out += &list("loads", &show.loads, slot_range);
+    out += &list("loads", &show.loads, |first, last| range("slot", first + 1, last + 1));
     out
 }
 
@@ -232,19 +232,11 @@ fn entry_range(first: usize, last: usize) -> String {
     }
 }
 
-fn slot_range(first: usize, last: usize) -> String {
-    if first == last {
-        format!("slot {}", first + 1)
-    } else {
-        format!("slots {} to {}", first + 1, last + 1)
-    }
-}
-
 /// How many numbers of a list stand on a line.
 const ON_A_LINE: usize = 10;
 
 /// A list on one line, or ten numbers a line with a comment that says which they are.
-fn list<T: ToString>(name: &str, numbers: &[T], range: fn(usize, usize) -> String) -> String {
+fn list<T: ToString>(name: &str, numbers: &[T], which: fn(usize, usize) -> String) -> String {
     if numbers.len() <= ON_A_LINE {
         return format!("{name} {}", listed(numbers.iter().map(T::to_string))).trim_end().to_string() + "\n";
     }
@@ -255,7 +247,7 @@ fn list<T: ToString>(name: &str, numbers: &[T], range: fn(usize, usize) -> Strin
         let padded = line.iter().map(|number| format!("{:>width$}", number.to_string()));
         let shown = format!("{} {}", if at == 0 { name } else { "     " }, listed(padded));
         let full = name.len() + ON_A_LINE * (width + 1);
-        out += &format!("{shown:<full$}  # {}\n", range(first, first + line.len() - 1));
+        out += &format!("{shown:<full$}  # {}\n", which(first, first + line.len() - 1));
     }
     out
 }

@@ -19,6 +19,16 @@ pub fn several(number: u64, name: &str) -> String {
     format!("{} {name}{end}", grouped(number))
 }
 
+/// Things of a name by their numbers, as `slot 21` or `slots 21 to 40`.
+pub fn range(name: &str, first: usize, last: usize) -> String {
+    let (from, to) = (grouped(first as u64), grouped(last as u64));
+    if first == last {
+        format!("{name} {from}")
+    } else {
+        format!("{name}s {from} to {to}")
+    }
+}
+
 /// Numbers with a blank between two.
 pub fn listed<T: ToString>(numbers: impl IntoIterator<Item = T>) -> String {
     numbers.into_iter().map(|number| number.to_string()).collect::<Vec<_>>().join(" ")
