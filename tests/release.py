@@ -1,11 +1,14 @@
 #!/usr/bin/env python3
 """The release folder, run from another place with nothing but the system's programs, and the commands that the two READMEs print."""
+import os
 import pathlib
 import re
 import shutil
+import signal
 import subprocess
 import sys
 import tempfile
+import time
 
 ROOT = pathlib.Path(__file__).resolve().parent.parent
 SYSTEM = "/usr/bin:/bin"
@@ -82,6 +85,26 @@ def made_twice(folder, files):
         sys.exit(f"two releases at once: statuses {statuses}, files {files_of(folder / 'twice') ^ files}")
 
 
+def stopped(folder):
+    """A release that is stopped, by each signal that a terminal or a system sends, ends with 2 and leaves nothing."""
+    slow = folder / "slow"
+    slow.mkdir()
+    (slow / "sha256sum").write_text("#!/bin/sh\nexec sleep 60\n")
+    (slow / "sha256sum").chmod(0o755)
+    path = {**os.environ, "PATH": f"{slow}:{os.environ['PATH']}"}
+    for number in (signal.SIGINT, signal.SIGTERM, signal.SIGHUP):
+        process = subprocess.Popen([COMMAND, "halted"], cwd=folder, env=path, start_new_session=True, stderr=subprocess.DEVNULL)
+        for _ in range(600):
+            if (folder / "halted.part" / "BUILD.txt").exists():
+                break
+            time.sleep(0.05)
+        os.killpg(process.pid, number)
+        found = process.wait(), (folder / "halted.part").exists(), (folder / "halted").exists()
+        expect(f"bin/release stopped by {number.name}", (found[0], b"", b""), 2)
+        if any(found[1:]):
+            sys.exit(f"bin/release stopped by {number.name} left something")
+
+
 def release(folder):
     bare = {"PATH": SYSTEM}
     for program in ("rt", "cargo", "rustc"):
@@ -94,6 +117,7 @@ def release(folder):
     expect("bin/release", run([COMMAND, f"{first}//"], folder), 0, b"", said)
     expect("bin/release into a folder with files", run([COMMAND, first], folder), 2, b"", b"bin/release: ")
     made_twice(folder, files_of(first))
+    stopped(folder)
     first.rename(moved)
     expect("the sums", run(["sha256sum", "--quiet", "-c", "SHA256SUMS"], moved, env=bare), 0, b"")
     listed = {line.split("  ./", 1)[1] for line in (moved / "SHA256SUMS").read_text().splitlines()}
