@@ -16,7 +16,7 @@ use Rattle.model.specs.Instance.{instanceOf}
 use Rattle.model.specs.Thesis.{countsCost}
 use Rattle.model.specs.Plans.{planServes, sheetOf}
 use Rattle.model.specs.Calls.{makeSheet, plan, answer, requestOf, refusals, applies, buffersOf, anyShort, rightLength, entriesInRange}
-use Rattle.model.specs.Calls.{loadsServed, lowest, sheetBytes, sheetAtExit, atExit}
+use Rattle.model.specs.Calls.{loadsServed, firstRefusal, sheetBytes, sheetAtExit, atExit}
 use Rattle.laws.specs.Acceptance.{top-range}
 use Rattle.laws.specs.OnCard.{on-card-refused}
 use Rattle.theory.specs.Hypotheses.{PlanFits}
@@ -67,7 +67,7 @@ module _ (s p x : List ℕ) where
           }
 
     pub make-short : length x < h .modules * h .slots → Refused BufferTooShort ≡ answer (makeSheet s p x)
-    unfolding lowest applies buffersOf anyShort
+    unfolding firstRefusal applies buffersOf anyShort
     make-short less =
         sym (make-tests s p x (r .accepted) ∙ rw (lt-ltb (length x) (sheetBytes (instanceOf s)) (rw (← sheet-size r) less)))
 
@@ -76,7 +76,7 @@ module _ (s p x : List ℕ) where
       room = rw (← sheet-size r) roomy
 
       pub make-length : (length p ≡ h .slots → ⊥) → Refused WrongLength ≡ answer (makeSheet s p x)
-      unfolding lowest applies buffersOf anyShort rightLength
+      unfolding firstRefusal applies buffersOf anyShort rightLength
       make-length wrong =
           sym
           (make-tests s p x (r .accepted) ∙
@@ -84,18 +84,18 @@ module _ (s p x : List ℕ) where
 
       module _ (slotwise : length p ≡ h .slots) where
         pub make-entries : entriesInRange (instanceOf s) (plan p) ≡ false → Refused EntryRange ≡ answer (makeSheet s p x)
-        unfolding lowest applies buffersOf anyShort rightLength
+        unfolding firstRefusal applies buffersOf anyShort rightLength
         make-entries e = sym (make-tests s p x (r .accepted) ∙ rw (le-ltb _ _ room, eq-eqb _ _ (plan-sized slotwise .slotwise), e))
 
         module _ (entries : entriesInRange (instanceOf s) (plan p) ≡ true) where
           pub make-load : planServes (instanceOf s) p ≡ false → Refused LoadNotServed ≡ answer (makeSheet s p x)
-          unfolding lowest applies buffersOf anyShort rightLength loadsServed
+          unfolding firstRefusal applies buffersOf anyShort rightLength loadsServed
           make-load e =
               sym (make-tests s p x (r .accepted) ∙ rw (le-ltb _ _ room, eq-eqb _ _ (plan-sized slotwise .slotwise), entries, e))
 
           module _ (served : planServes (instanceOf s) p ≡ true) where
             pub make-cost : {n : ℕ} → n ≡ countsCost (instanceOf s) 0 p → Cost n ≡ answer (makeSheet s p x)
-            unfolding lowest applies buffersOf anyShort rightLength loadsServed
+            unfolding firstRefusal applies buffersOf anyShort rightLength loadsServed
             make-cost e =
                 let fit : PlanFits (instanceOf s) p =
                 record {

@@ -10,7 +10,7 @@ use Rattle.model.specs.declared.Refusal.the-variants.{WrongLength, EntryRange, 
 use Rattle.model.specs.declared.Answer.the-variants.{Cost, Refused}
 use Rattle.model.specs.Instance.{instanceOf}
 use Rattle.model.specs.Sheets.{sheetLength, sheetEntries, sheetLight, sheetCost}
-use Rattle.model.specs.Calls.{markSheet, requestOf, refusals, applies, rightLength, entriesInRange, loadsServed, lowest, sheetBytes, answer}
+use Rattle.model.specs.Calls.{markSheet, requestOf, refusals, applies, rightLength, entriesInRange, loadsServed, firstRefusal, sheetBytes, answer}
 use Rattle.laws.specs.OnCard.{on-card-refused}
 use Rattle.theory.specs.Outcomes.{mark-tests}
 use Rattle.card.specs.declared.Header.{Header}
@@ -28,7 +28,7 @@ module _ (s x : List ℕ) where
 
   module _ {h : Header} (r : Ready s h) where
     pub mark-length : (length x ≡ h .modules * h .slots → ⊥) → Refused WrongLength ≡ answer (markSheet s x)
-    unfolding lowest applies rightLength sheetLength
+    unfolding firstRefusal applies rightLength sheetLength
     mark-length wrong =
         sym (mark-tests s x (r .accepted) ∙ rw (ne-eqb (length x) (sheetBytes (instanceOf s)) (λ e. wrong (e ∙ sym (sheet-size r)))))
 
@@ -37,7 +37,7 @@ module _ (s x : List ℕ) where
       sized = record { ready = r; size = size ∙ sheet-size r }
 
       pub mark-entries : sheetEntries (instanceOf s) x ≡ false → Refused EntryRange ≡ answer (markSheet s x)
-      unfolding lowest applies rightLength sheetLength entriesInRange
+      unfolding firstRefusal applies rightLength sheetLength entriesInRange
       mark-entries e = sym (mark-tests s x (r .accepted) ∙ rw (eq-eqb _ _ (sized .size), e))
 
       module _ (entries : sheetEntries (instanceOf s) x ≡ true) where
@@ -45,10 +45,10 @@ module _ (s x : List ℕ) where
         sheet-ready = record { sized = sized; entries = entries }
 
         pub mark-light : sheetLight (instanceOf s) x ≡ false → Refused LoadNotServed ≡ answer (markSheet s x)
-        unfolding lowest applies rightLength sheetLength entriesInRange loadsServed
+        unfolding firstRefusal applies rightLength sheetLength entriesInRange loadsServed
         mark-light e = sym (mark-tests s x (r .accepted) ∙ rw (eq-eqb _ _ (sized .size), entries, e))
 
         pub mark-cost :
             sheetLight (instanceOf s) x ≡ true → {n : ℕ} → n ≡ sheetCost (instanceOf s) x → Cost n ≡ answer (markSheet s x)
-        unfolding lowest applies rightLength sheetLength entriesInRange loadsServed
+        unfolding firstRefusal applies rightLength sheetLength entriesInRange loadsServed
         mark-cost e n-is = ap Cost n-is ∙ sym (mark-tests s x (r .accepted) ∙ rw (eq-eqb _ _ (sized .size), entries, e))

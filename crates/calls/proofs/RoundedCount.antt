@@ -9,17 +9,17 @@ use Rattle.model.specs.declared.Refusal.the-variants.{RackSize, EntryRange}
 use Rattle.model.specs.declared.Answer.the-variants.{Cost, Refused}
 use Rattle.model.specs.Instance.{rackNumber}
 use Rattle.model.specs.Counts.{roundedCount}
-use Rattle.model.specs.Calls.{roundCount, requestOf, refusals, applies, entriesInRange, lowest, successCost, answer}
+use Rattle.model.specs.Calls.{roundCount, requestOf, refusals, applies, entriesInRange, firstRefusal, successCost, answer}
 use Rattle.counts.specs.AllowedCounts.{RackCount}
 
 module _ (n m : ℕ) where
   pub round-rack : rackNumber m ≡ false → Refused RackSize ≡ answer (roundCount n m)
-  unfolding answer requestOf refusals lowest applies allOf
+  unfolding answer requestOf refusals firstRefusal applies allOf
   round-rack wrong = rw wrong
 
   module _ (right : rackNumber m ≡ true) where
     pub round-entry : m < n → Refused EntryRange ≡ answer (roundCount n m)
-    unfolding answer requestOf refusals lowest applies allOf entriesInRange
+    unfolding answer requestOf refusals firstRefusal applies allOf entriesInRange
     round-entry many = rw (right, lt-leb n m many)
 
     module _ (few : n ≤ m) where
@@ -32,5 +32,5 @@ module _ (n m : ℕ) where
           }
 
       pub round-cost : {x : ℕ} → x ≡ roundedCount m n → Cost x ≡ answer (roundCount n m)
-      unfolding answer requestOf refusals lowest applies allOf entriesInRange successCost
+      unfolding answer requestOf refusals firstRefusal applies allOf entriesInRange successCost
       round-cost e = rw (right, le-leb n m few) (ap Cost e)

@@ -12,7 +12,7 @@ use Rattle.model.specs.declared.Refusal.the-variants.{EntryRange, LoadNotServed
 use Rattle.model.specs.declared.Answer.the-variants.{Cost, Refused}
 use Rattle.model.specs.Instance.{instanceOf}
 use Rattle.model.specs.Counts.{canServe, operatingCost}
-use Rattle.model.specs.Calls.{runningCost, pair, onCard, requestOf, refusals, applies, entriesInRange, loadsServed, lowest, successCost}
+use Rattle.model.specs.Calls.{runningCost, pair, onCard, requestOf, refusals, applies, entriesInRange, loadsServed, firstRefusal, successCost}
 use Rattle.model.specs.Calls.{answer}
 use Rattle.laws.specs.OnCard.{on-card-refused, on-card-passed}
 use Rattle.card.specs.declared.Header.{Header}
@@ -30,12 +30,12 @@ module _ (s : List ℕ) (n l : ℕ) where
   module _ {h : Header} (r : Ready s h) where
     tests :
         answer (runningCost s n l) ≡
-        lowest (applies (onCard s [] (pair n l))) (EntryRange ∷ LoadNotServed ∷ []) (Cost (operatingCost (instanceOf s) n l))
+        firstRefusal (applies (onCard s [] (pair n l))) (EntryRange ∷ LoadNotServed ∷ []) (Cost (operatingCost (instanceOf s) n l))
     unfolding answer requestOf refusals successCost
     tests = on-card-passed s _ _ _ _ (r .accepted)
 
     pub pair-entry : h .modules < n → Refused EntryRange ≡ answer (runningCost s n l)
-    unfolding lowest applies entriesInRange
+    unfolding firstRefusal applies entriesInRange
     pair-entry many = sym (tests ∙ rw (lt-leb n (instanceOf s .modules) (omega (arith, r .header .modules-is))))
 
     module _ (few : n ≤ h .modules) where
@@ -58,11 +58,11 @@ module _ (s : List ℕ) (n l : ℕ) where
       served enough = record { ready = r; in-rack = in-rack; serves = rw (← r .header .top-is) enough }
 
       pub pair-load : n * h .topStep < l → Refused LoadNotServed ≡ answer (runningCost s n l)
-      unfolding lowest applies entriesInRange loadsServed canServe
+      unfolding firstRefusal applies entriesInRange loadsServed canServe
       pair-load less =
           sym (tests ∙ rw (le-leb _ _ in-rack, lt-leb l (n * instanceOf s .topStep) (rw (← r .header .top-is) less)))
 
       pub pair-cost : l ≤ n * h .topStep → {x : ℕ} → x ≡ operatingCost (instanceOf s) n l → Cost x ≡ answer (runningCost s n l)
-      unfolding lowest applies entriesInRange loadsServed canServe
+      unfolding firstRefusal applies entriesInRange loadsServed canServe
       pair-cost enough e =
           ap Cost e ∙ sym (tests ∙ rw (le-leb _ _ in-rack, le-leb l (n * instanceOf s .topStep) (served enough .serves)))

@@ -27,6 +27,7 @@ pub fn refusal_number(x: Refusal) -> u64
         Refusal::WrongLength => 11,
         Refusal::EntryRange => 12,
         Refusal::LoadNotServed => 13,
+        Refusal::ZeroStart => 14,
     }
 }
 

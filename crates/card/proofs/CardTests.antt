@@ -13,11 +13,11 @@ use Rattle.model.specs.declared.Answer.{Answer}
 use Rattle.model.specs.declared.Answer.the-variants.{Cost, Refused}
 use Rattle.model.specs.Instance.{instanceOf, headLength, loadPlace, markOf, cardMark, versionOf, cardLength, rackNumber}
 use Rattle.model.specs.Instance.{convex, tableInRange, pricesInRange, loadsInRange}
-use Rattle.model.specs.Calls.{Call, checkCard, applies, requestOf, lowest}
-use Rattle.laws.specs.Lowest.{lowest-passed}
+use Rattle.model.specs.Calls.{Call, checkCard, applies, requestOf, firstRefusal}
+use Rattle.laws.specs.FirstRefusal.{first-passed}
 use Rattle.card.specs.declared.Header.{Header}
 use Rattle.card.specs.Fields.{HeaderOf, Sized}
-use Rattle.card.specs.Checking.{rackOf, lowestAmong, frontRefusals, sizeRefusals, bodyRefusals}
+use Rattle.card.specs.Checking.{rackOf, firstAmong, frontRefusals, sizeRefusals, bodyRefusals}
 
 -- Each lemma below is one way through the code: the tests passed and the one that failed.
 module _ (s : List ℕ) where
@@ -32,27 +32,27 @@ module _ (s : List ℕ) where
   unfolding applies requestOf
   version-applies e = rw e
 
-  pub front-short : length s < headLength → Refused NotACard ≡ lowestAmong s frontRefusals
-  unfolding lowestAmong lowest applies requestOf
+  pub front-short : length s < headLength → Refused NotACard ≡ firstAmong s frontRefusals
+  unfolding firstAmong firstRefusal applies requestOf
   front-short h = rw (lt-ltb _ _ h)
 
-  pub front-unmarked : headLength ≤ length s → sameList (markOf s) cardMark ≡ false → Refused NotACard ≡ lowestAmong s frontRefusals
-  unfolding lowestAmong lowest
+  pub front-unmarked : headLength ≤ length s → sameList (markOf s) cardMark ≡ false → Refused NotACard ≡ firstAmong s frontRefusals
+  unfolding firstAmong firstRefusal
   front-unmarked h e = rw (mark-applies e h)
 
   module _ (long : headLength ≤ length s) (marked : sameList (markOf s) cardMark ≡ true) {v : ℕ} (is : v ≡ versionOf s) where
-    pub front-version : (v ≡ 1 → ⊥) → Refused Version ≡ lowestAmong s frontRefusals
-    unfolding lowestAmong lowest
+    pub front-version : (v ≡ 1 → ⊥) → Refused Version ≡ firstAmong s frontRefusals
+    unfolding firstAmong firstRefusal
     front-version n = rw (mark-applies marked long, version-applies (rw is at (ne-eqb v 1 n)))
 
-    pub front-passed : v ≡ 1 → Cost 0 ≡ lowestAmong s frontRefusals
-    unfolding lowestAmong lowest
+    pub front-passed : v ≡ 1 → Cost 0 ≡ firstAmong s frontRefusals
+    unfolding firstAmong firstRefusal
     front-passed e = rw (mark-applies marked long, version-applies (rw is at (eq-eqb v 1 e)))
 
   -- A card that passes refusals 1 and 2 has its head.
-  pub front-length : {a : Answer} {n : ℕ} → a ≡ lowestAmong s frontRefusals → a ≡ Cost n → headLength ≤ length s
-  unfolding lowestAmong applies requestOf
-  front-length is e = ltb-false _ _ (or-left _ _ (lowest-passed _ _ _ (sym is ∙ e) .0))
+  pub front-length : {a : Answer} {n : ℕ} → a ≡ firstAmong s frontRefusals → a ≡ Cost n → headLength ≤ length s
+  unfolding firstAmong applies requestOf
+  front-length is e = ltb-false _ _ (or-left _ _ (first-passed _ _ _ (sym is ∙ e) .0))
 
   module _ (h : Header) (given : HeaderOf s h) where
     rack-applies : {b : Bool} → allOf rackNumber (rackOf h) ≡ b → applies (requestOf req) RackSize ≡ not b
@@ -67,34 +67,34 @@ module _ (s : List ℕ) where
     unfolding applies requestOf cardLength
     size-applies e = rw (← given .top-is, ← given .slots-is, e)
 
-    pub size-rack : allOf rackNumber (rackOf h) ≡ false → Refused RackSize ≡ lowestAmong s sizeRefusals
-    unfolding lowestAmong lowest
+    pub size-rack : allOf rackNumber (rackOf h) ≡ false → Refused RackSize ≡ firstAmong s sizeRefusals
+    unfolding firstAmong firstRefusal
     size-rack e = rw (rack-applies e)
 
     module _ (rack-ok : allOf rackNumber (rackOf h) ≡ true) where
-      pub size-slots : 1024 < h .slots → Refused SlotCount ≡ lowestAmong s sizeRefusals
-      unfolding lowestAmong lowest
+      pub size-slots : 1024 < h .slots → Refused SlotCount ≡ firstAmong s sizeRefusals
+      unfolding firstAmong firstRefusal
       size-slots g = rw (rack-applies rack-ok, slots-applies (lt-ltb _ _ g))
 
       module _ (slots-ok : h .slots ≤ 1024) where
         module _ {n : ℕ} (n-is : n ≡ loadPlace (h .topStep) (h .slots)) where
-          pub size-length : (length s ≡ n → ⊥) → Refused CardLength ≡ lowestAmong s sizeRefusals
-          unfolding lowestAmong lowest
+          pub size-length : (length s ≡ n → ⊥) → Refused CardLength ≡ firstAmong s sizeRefusals
+          unfolding firstAmong firstRefusal
           size-length wrong =
               rw (rack-applies rack-ok, slots-applies (le-ltb _ _ slots-ok), size-applies (rw n-is at (ne-eqb (length s) n wrong)))
 
-          pub size-passed : length s ≡ n → Cost 0 ≡ lowestAmong s sizeRefusals
-          unfolding lowestAmong lowest
+          pub size-passed : length s ≡ n → Cost 0 ≡ firstAmong s sizeRefusals
+          unfolding firstAmong firstRefusal
           size-passed right =
               rw (rack-applies rack-ok, slots-applies (le-ltb _ _ slots-ok), size-applies (rw n-is at (eq-eqb (length s) n right)))
 
     -- A card that passes refusals 3 to 5 has the length its header says.
-    pub size-of : {a : Answer} {n : ℕ} → a ≡ lowestAmong s sizeRefusals → a ≡ Cost n → Sized s h
-    unfolding lowestAmong
+    pub size-of : {a : Answer} {n : ℕ} → a ≡ firstAmong s sizeRefusals → a ≡ Cost n → Sized s h
+    unfolding firstAmong
     size-of is e =
-        let rack = lowest-passed _ _ _ (sym is ∙ e) in
-        let slots = lowest-passed _ _ _ (rack .1) in
-        let size = lowest-passed _ _ _ (slots .1) .0 in
+        let rack = first-passed _ _ _ (sym is ∙ e) in
+        let slots = first-passed _ _ _ (rack .1) in
+        let size = first-passed _ _ _ (slots .1) .0 in
         record { header = given; size = eqb-true _ _ (not-false _ (sym (size-applies refl) ∙ size)) }
 
     price-applies :
@@ -112,33 +112,33 @@ module _ (s : List ℕ) where
     unfolding applies requestOf
     load-applies e = rw e
 
-    pub body-up : 500000000 < h .powerUp → Refused PriceRange ≡ lowestAmong s bodyRefusals
-    unfolding lowestAmong lowest
+    pub body-up : 500000000 < h .powerUp → Refused PriceRange ≡ firstAmong s bodyRefusals
+    unfolding firstAmong firstRefusal
     body-up e = rw (price-applies (lt-leb _ _ e) refl refl)
 
     module _ (up-ok : h .powerUp ≤ 500000000) where
-      pub body-down : 500000000 < h .powerDown → Refused PriceRange ≡ lowestAmong s bodyRefusals
-      unfolding lowestAmong lowest
+      pub body-down : 500000000 < h .powerDown → Refused PriceRange ≡ firstAmong s bodyRefusals
+      unfolding firstAmong firstRefusal
       body-down e = rw (price-applies (le-leb _ _ up-ok) (lt-leb _ _ e) refl)
 
       module _ (down-ok : h .powerDown ≤ 500000000) where
-        pub body-table : tableInRange (h .topStep) (instanceOf s .table) ≡ false → Refused PriceRange ≡ lowestAmong s bodyRefusals
-        unfolding lowestAmong lowest
+        pub body-table : tableInRange (h .topStep) (instanceOf s .table) ≡ false → Refused PriceRange ≡ firstAmong s bodyRefusals
+        unfolding firstAmong firstRefusal
         body-table e = rw (price-applies (le-leb _ _ up-ok) (le-leb _ _ down-ok) e)
 
         module _ (table-ok : tableInRange (h .topStep) (instanceOf s .table) ≡ true) where
           prices : applies (requestOf req) PriceRange ≡ false
           prices = price-applies (le-leb _ _ up-ok) (le-leb _ _ down-ok) table-ok
 
-          pub body-not-convex : convex (h .topStep) (instanceOf s .table) ≡ false → Refused NotConvex ≡ lowestAmong s bodyRefusals
-          unfolding lowestAmong lowest
+          pub body-not-convex : convex (h .topStep) (instanceOf s .table) ≡ false → Refused NotConvex ≡ firstAmong s bodyRefusals
+          unfolding firstAmong firstRefusal
           body-not-convex e = rw (prices, convex-applies e)
 
           module _ (convex-ok : convex (h .topStep) (instanceOf s .table) ≡ true) where
-            pub body-load : loadsInRange (instanceOf s) ≡ false → Refused LoadRange ≡ lowestAmong s bodyRefusals
-            unfolding lowestAmong lowest
+            pub body-load : loadsInRange (instanceOf s) ≡ false → Refused LoadRange ≡ firstAmong s bodyRefusals
+            unfolding firstAmong firstRefusal
             body-load e = rw (prices, convex-applies convex-ok, load-applies e)
 
-            pub body-passed : loadsInRange (instanceOf s) ≡ true → Cost 0 ≡ lowestAmong s bodyRefusals
-            unfolding lowestAmong lowest
+            pub body-passed : loadsInRange (instanceOf s) ≡ true → Cost 0 ≡ firstAmong s bodyRefusals
+            unfolding firstAmong firstRefusal
             body-passed e = rw (prices, convex-applies convex-ok, load-applies e)

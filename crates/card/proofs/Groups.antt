@@ -6,22 +6,22 @@ use native.Mathlib.Omega.{arith}
 use Rattle.model.specs.declared.Refusal.{Refusal}
 use Rattle.model.specs.declared.Answer.{Answer}
 use Rattle.model.specs.declared.Answer.the-variants.{Cost, Refused}
-use Rattle.model.specs.Calls.{checkCard, applies, requestOf, lowest, answer, refusals, successCost, Accepted}
+use Rattle.model.specs.Calls.{checkCard, applies, requestOf, firstRefusal, answer, refusals, successCost, Accepted}
 use Rattle.card.specs.declared.Header.{Header}
 use Rattle.card.specs.declared.Checked.{Checked}
 use Rattle.card.specs.declared.Checked.the-variants.{Valid, Invalid}
 use Rattle.card.specs.Fields.{HeaderOf}
-use Rattle.card.specs.Checking.{lowestAmong, frontRefusals, sizeRefusals, bodyRefusals, headerOf, checkedAs, checkedOf, Ready}
-use Rattle.laws.specs.Lowest.{lowest-refused, lowest-through}
+use Rattle.card.specs.Checking.{firstAmong, frontRefusals, sizeRefusals, bodyRefusals, headerOf, checkedAs, checkedOf, Ready}
+use Rattle.laws.specs.FirstRefusal.{first-refused, first-through}
 use Rattle.laws.specs.Acceptance.{modules-range, top-range, slots-range}
 
 module _ (s : List ℕ) where
   -- The card's answer tests refusals 1 and 2, then 3 to 5, then 6 to 8.
   by-groups :
       answer (checkCard s) ≡
-      lowest (applies (requestOf (checkCard s))) frontRefusals
-      (lowest (applies (requestOf (checkCard s))) sizeRefusals (lowest (applies (requestOf (checkCard s))) bodyRefusals (Cost 0)))
-  unfolding answer refusals successCost lowest
+      firstRefusal (applies (requestOf (checkCard s))) frontRefusals
+      (firstRefusal (applies (requestOf (checkCard s))) sizeRefusals (firstRefusal (applies (requestOf (checkCard s))) bodyRefusals (Cost 0)))
+  unfolding answer refusals successCost firstRefusal
   by-groups = refl
 
   refused : {x : Refusal} → answer (checkCard s) ≡ Refused x → Invalid x ≡ checkedOf s
@@ -29,26 +29,26 @@ module _ (s : List ℕ) where
   refused e = rw e
 
   -- The answers of the code's three checks, one after the other.
-  module _ {front : Answer} (front-is : front ≡ lowestAmong s frontRefusals) where
+  module _ {front : Answer} (front-is : front ≡ firstAmong s frontRefusals) where
     pub front-refused : {x : Refusal} → front ≡ Refused x → Invalid x ≡ checkedOf s
-    unfolding lowestAmong
-    front-refused e = refused (by-groups ∙ lowest-refused _ _ _ refl (sym front-is ∙ e))
+    unfolding firstAmong
+    front-refused e = refused (by-groups ∙ first-refused _ _ _ refl (sym front-is ∙ e))
 
-    module _ {k : ℕ} (front-passed : front ≡ Cost k) {size : Answer} (size-is : size ≡ lowestAmong s sizeRefusals) where
+    module _ {k : ℕ} (front-passed : front ≡ Cost k) {size : Answer} (size-is : size ≡ firstAmong s sizeRefusals) where
       after-front :
           answer (checkCard s) ≡
-          lowest (applies (requestOf (checkCard s))) sizeRefusals (lowest (applies (requestOf (checkCard s))) bodyRefusals (Cost 0))
-      unfolding lowestAmong
-      after-front = by-groups ∙ lowest-through _ _ _ _ (sym front-is ∙ front-passed)
+          firstRefusal (applies (requestOf (checkCard s))) sizeRefusals (firstRefusal (applies (requestOf (checkCard s))) bodyRefusals (Cost 0))
+      unfolding firstAmong
+      after-front = by-groups ∙ first-through _ _ _ _ (sym front-is ∙ front-passed)
 
       pub size-refused : {x : Refusal} → size ≡ Refused x → Invalid x ≡ checkedOf s
-      unfolding lowestAmong
-      size-refused e = refused (after-front ∙ lowest-refused _ _ _ refl (sym size-is ∙ e))
+      unfolding firstAmong
+      size-refused e = refused (after-front ∙ first-refused _ _ _ refl (sym size-is ∙ e))
 
-      module _ {l : ℕ} (size-passed : size ≡ Cost l) {body : Answer} (body-is : body ≡ lowestAmong s bodyRefusals) where
+      module _ {l : ℕ} (size-passed : size ≡ Cost l) {body : Answer} (body-is : body ≡ firstAmong s bodyRefusals) where
         after-size : answer (checkCard s) ≡ body
-        unfolding lowestAmong
-        after-size = after-front ∙ lowest-through _ _ _ _ (sym size-is ∙ size-passed) ∙ sym body-is
+        unfolding firstAmong
+        after-size = after-front ∙ first-through _ _ _ _ (sym size-is ∙ size-passed) ∙ sym body-is
 
         pub body-refused : {x : Refusal} → body ≡ Refused x → Invalid x ≡ checkedOf s
         body-refused e = refused (after-size ∙ e)
@@ -84,7 +84,7 @@ module _ (s : List ℕ) {c : Checked} (is : c ≡ checkedOf s) where
       go :
           (a : Answer) → answer (checkCard s) ≡ a → checkedAs a (headerOf s) ≡ Valid h →
           Accepted s × (headerOf s ≡ h)
-      go (Cost n) g f = (lowest-through _ _ _ _ g, cc)
+      go (Cost n) g f = (first-through _ _ _ _ g, cc)
       go (Refused y) g f = (cc, cc)
 
   pub accepted-answer : {h : Header} → c ≡ Valid h → Accepted s

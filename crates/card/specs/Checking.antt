@@ -6,7 +6,7 @@ use Rattle.model.specs.declared.Refusal.the-variants.{NotACard, Version, RackSi
 use Rattle.model.specs.declared.Answer.{Answer}
 use Rattle.model.specs.declared.Answer.the-variants.{Cost, Refused}
 use Rattle.model.specs.Instance.{instanceOf}
-use Rattle.model.specs.Calls.{checkCard, answer, applies, requestOf, lowest, Accepted}
+use Rattle.model.specs.Calls.{checkCard, answer, applies, requestOf, firstRefusal, Accepted}
 use Rattle.card.specs.declared.Header.{Header}
 use Rattle.card.specs.declared.Checked.{Checked}
 use Rattle.card.specs.declared.Checked.the-variants.{Valid, Invalid}
@@ -32,9 +32,9 @@ headerOf s =
       powerDown = instanceOf s .powerDown;
     }
 
--- The lowest of some refusals that applies to a card, or the cost 0.
-unfoldable pub lowestAmong : List ℕ → List Refusal → Answer
-lowestAmong s xs = lowest (applies (requestOf (checkCard s))) xs (Cost 0)
+-- The first of some refusals that applies to a card, or the cost 0.
+unfoldable pub firstAmong : List ℕ → List Refusal → Answer
+firstAmong s xs = firstRefusal (applies (requestOf (checkCard s))) xs (Cost 0)
 
 -- Refusals 1 and 2, which look at the mark and the version.
 abbrev pub frontRefusals : List Refusal

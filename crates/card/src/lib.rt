@@ -9,7 +9,7 @@ ghost use Rattle.lists.specs.Tests.{allOf};
 ghost use Rattle.model.specs.Instance.{instanceOf, headLength, loadPlace, markOf, cardMark, versionOf, rackNumber};
 ghost use Rattle.model.specs.Instance.{convexAt, convex, neverFalls, tableInRange, loadsInRange};
 ghost use Rattle.card.specs.Fields.{Within, ReadAt, HeaderOf, Sized, PlaceNear, EntryThere, TableEntry, LoadThere, SlotLoad};
-ghost use Rattle.card.specs.Checking.{ConvexThere, rackOf, lowestAmong, frontRefusals, sizeRefusals, bodyRefusals, checkedOf};
+ghost use Rattle.card.specs.Checking.{ConvexThere, rackOf, firstAmong, frontRefusals, sizeRefusals, bodyRefusals, checkedOf};
 
 // The places of a card's fields: the version, the modules, with which the rest of the head begins, and the table, where the head ends.
 const VERSION_PLACE: usize = 3;
@@ -201,7 +201,7 @@ fn rack_in_range(h: Header) -> bool
 
 // Refusals 1 and 2.
 fn check_front(card: &[u8]) -> Answer
-    ensures { λ r. ⌜ r ≡ lowestAmong (now (card .entry)) frontRefusals ⌝ }
+    ensures { λ r. ⌜ r ≡ firstAmong (now (card .entry)) frontRefusals ⌝ }
 {
     if card.len() < HEAD_LENGTH as usize {
         return Answer::Refused(Refusal::NotACard);
@@ -218,7 +218,7 @@ fn check_front(card: &[u8]) -> Answer
 // Refusals 3 to 5.
 fn check_size(card: &[u8], h: Header) -> Answer
     requires { ⌜ HeaderOf (now card) h ⌝ }
-    ensures { λ r. ⌜ r ≡ lowestAmong (now (card .entry)) sizeRefusals ⌝ }
+    ensures { λ r. ⌜ r ≡ firstAmong (now (card .entry)) sizeRefusals ⌝ }
 {
     if !rack_in_range(h) {
         return Answer::Refused(Refusal::RackSize);
@@ -309,7 +309,7 @@ fn loads_in_range(card: &[u8], h: Header) -> bool
 // Refusals 6 to 8.
 fn check_body(card: &[u8], h: Header) -> Answer
     requires { ⌜ Sized (now card) h ⌝ }
-    ensures { λ r. ⌜ r ≡ lowestAmong (now (card .entry)) bodyRefusals ⌝ }
+    ensures { λ r. ⌜ r ≡ firstAmong (now (card .entry)) bodyRefusals ⌝ }
 {
     if 500000000 < h.powerUp {
         return Answer::Refused(Refusal::PriceRange);

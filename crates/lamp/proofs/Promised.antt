@@ -11,14 +11,15 @@ use Rattle.model.specs.Instance.{instanceOf}
 use Rattle.model.specs.Sheets.{serves, sheetCost}
 use Rattle.model.specs.Plans.{sheetOf}
 use Rattle.model.specs.Planners.{Planner, ratioOf, plannedBy, plannedCost}
-use Rattle.model.specs.Calls.{NumbersOf, Gives, Accepted, planShow, makeSheet, markSheet, answer, successCost, planBuffer}
-use Rattle.model.specs.Calls.{planAtExit, workAtExit, sheetAtExit}
-use Rattle.model.specs.Promises.{OwnSheet, AtMostTimes, MarkedAlike, AcceptsExactly}
+use Rattle.model.specs.Calls.{NumbersOf, Gives, Accepted, planShow, makeSheet, markSheet, practiceCard, answer, successCost, planBuffer}
+use Rattle.model.specs.Calls.{planAtExit, workAtExit, sheetAtExit, cardAtExit}
+use Rattle.model.specs.Promises.{OwnSheet, AtMostTimes, MarkedAlike, AcceptsExactly, WritesAccepted, AlwaysEnough}
 use Rattle.laws.specs.Acceptance.{modules-range}
 use Rattle.laws.specs.AnswerNumber.{number-zero}
 use Rattle.theory.specs.CountLists.{planner-counts-ascending}
 use Rattle.theory.specs.Condition3.{accepted-plannable, least-sheet, planner-bound}
 use Rattle.theory.specs.Refusals.{succeeded}
+use Rattle.theory.specs.Practice.{practice-writes, practice-enough}
 use Rattle.theory.specs.Outcomes.{written-taken, mark-number, made-marked, best-fits, plan-at-exit, planner-on, planner-table}
 
 -- What is given of an answer is given of an equal one.
@@ -102,3 +103,22 @@ pub plans :
 plans k c p w (is, (plan-is, work-is)) given =
     let g = gives-as is given in
     (g, (plan-is, (work-is, (own-sheet k c p w g plan-is, at-most k c p w g))))
+
+-- The practice call.
+pub practises :
+    (start : ℕ) (c : List ℕ) {a : Answer} {card : List ℕ} {number cost : ℕ} →
+    (a ≡ answer (practiceCard start c)) × (card ≡ cardAtExit (practiceCard start c)) → NumbersOf a number cost →
+    Gives (practiceCard start c) number cost ×
+    ((card ≡ cardAtExit (practiceCard start c)) × (WritesAccepted card number × AlwaysEnough start c number))
+practises start c {card = card} {number = number} (is, card-is) given =
+    let g = gives-as is given in
+    let written : number ≡ 0 → _ = λ e. practice-writes start c (sym (g .number-is) ∙ e) in (
+      g,
+      (
+        card-is,
+        (
+          rw card-is (record { accepted = λ e. written e .0; planned = λ e. written e .1; at-most = λ e. written e .2 }),
+          λ some long. g .number-is ∙ practice-enough start c some long,
+        ),
+      ),
+    )

@@ -3,9 +3,9 @@ use counts::PlannerKind;
 use model::Answer;
 ghost use mathlib.Core.Path.{_≡_};
 ghost use Rattle.model.specs.Planners.{exact, coarse};
-ghost use Rattle.model.specs.Calls.{NumbersOf, Gives, checkCard, runningCost, planShow, makeSheet, markSheet, roundCount};
-ghost use Rattle.model.specs.Calls.{planAtExit, workAtExit, sheetAtExit};
-ghost use Rattle.model.specs.Promises.{OwnSheet, AtMostTimes, MarkedAlike, AcceptsExactly};
+ghost use Rattle.model.specs.Calls.{NumbersOf, Gives, checkCard, runningCost, planShow, makeSheet, markSheet, roundCount, practiceCard};
+ghost use Rattle.model.specs.Calls.{planAtExit, workAtExit, sheetAtExit, cardAtExit};
+ghost use Rattle.model.specs.Promises.{OwnSheet, AtMostTimes, MarkedAlike, AcceptsExactly, WritesAccepted, AlwaysEnough};
 
 // What every call returns: a refusal's number and cost 0, or number 0 and the cost.
 #[repr(C)]
@@ -92,4 +92,15 @@ pub extern "C" fn lamp_plan_coarse(card: &[u8], plan: &mut [u8], work: &mut [u8]
     ensures twice { λ r. ⌜ AtMostTimes 2 (now (card .entry)) (r .number) (r .cost) ⌝ }
 {
     to_c(planners::plan_show(PlannerKind::Coarse, card, plan, work))
+}
+
+// The practice card of a start (document 02, §1): refusals 14 and 10, in this order.
+#[no_mangle]
+pub extern "C" fn lamp_practice_card(start: u32, card: &mut [u8]) -> LampAnswer
+    ensures outcome { λ r. ⌜ Gives (practiceCard start (now (card .entry))) (r .number) (r .cost) ⌝ }
+    ensures card_bytes { λ r. ⌜ now (card .exit) ≡ cardAtExit (practiceCard start (now (card .entry))) ⌝ }
+    ensures accepted { λ r. ⌜ WritesAccepted (now (card .exit)) (r .number) ⌝ }
+    ensures enough { λ r. ⌜ AlwaysEnough start (now (card .entry)) (r .number) ⌝ }
+{
+    to_c(practice::practice_card(start, card))
 }

@@ -11,7 +11,7 @@ use Rattle.lists.specs.Tests.{every-at, allOf, and-left, and-right}
 use Rattle.model.specs.declared.Refusal.the-variants.{RackSize, SlotCount, CardLength, PriceRange, NotConvex, LoadRange}
 use Rattle.model.specs.Instance.{instanceOf, loadPlace, cardLength, rackNumber, convex, tableInRange, pricesInRange, loadsInRange}
 use Rattle.model.specs.Calls.{checkCard, applies, requestOf, answer, refusals, successCost, Accepted}
-use Rattle.laws.specs.Lowest.{lowest-passed}
+use Rattle.laws.specs.FirstRefusal.{first-passed}
 
 -- No refusal from 3 to 8 applies to a card.
 record Passes (s : List ℕ) : Type 0 where
@@ -25,14 +25,14 @@ record Passes (s : List ℕ) : Type 0 where
 passes : (s : List ℕ) → Accepted s → Passes s
 unfolding answer refusals successCost
 passes s e =
-    let mark = lowest-passed _ _ _ e in
-    let version = lowest-passed _ _ _ (mark .1) in
-    let rack = lowest-passed _ _ _ (version .1) in
-    let slots = lowest-passed _ _ _ (rack .1) in
-    let size = lowest-passed _ _ _ (slots .1) in
-    let prices = lowest-passed _ _ _ (size .1) in
-    let convexity = lowest-passed _ _ _ (prices .1) in
-    let loads = lowest-passed _ _ _ (convexity .1) in
+    let mark = first-passed _ _ _ e in
+    let version = first-passed _ _ _ (mark .1) in
+    let rack = first-passed _ _ _ (version .1) in
+    let slots = first-passed _ _ _ (rack .1) in
+    let size = first-passed _ _ _ (slots .1) in
+    let prices = first-passed _ _ _ (size .1) in
+    let convexity = first-passed _ _ _ (prices .1) in
+    let loads = first-passed _ _ _ (convexity .1) in
     record { rack = rack .0; slots = slots .0; size = size .0; prices = prices .0; convexity = convexity .0; loads = loads .0 }
 
 module _ (s : List ℕ) (given : Accepted s) where

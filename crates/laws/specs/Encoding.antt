@@ -8,14 +8,16 @@ use native.Mathlib.Nat.{mul-le-mul}
 use native.Mathlib.Omega.{arith}
 use lib.Dec.{leb}
 use lib.ListN.{length, take, length-append}
+use lib.Seq.{take-at}
 use borrow.Author.Tests.{leb-true, le-leb, le-ltb, eq-eqb}
 use Rattle.lists.specs.Tests.{allOf, and-left, and-right, and-both, every-at, every-all, every-same}
 use Rattle.lists.specs.Lists.{sameList}
-use Rattle.lists.specs.Bytes.{littleEndian, bytesOf, little-bytes, little-after}
+use Rattle.lists.specs.Bytes.{littleEndian, bytesOf, little-bytes, little-take, little-after}
 use Rattle.lists.specs.Rows.{numbers, length-numbers, little-numbers}
-use Rattle.model.specs.Instance.{Instance, instanceOf, headLength, entryPlace, loadPlace, cardMark, cardVersion, markOf, versionOf}
+use Rattle.model.specs.Instance.{Instance, instanceOf, headLength, topStepPlace, slotsPlace, entryPlace, loadPlace, cardMark, cardVersion, markOf, versionOf}
 use Rattle.model.specs.Instance.{cardLength, cardBytes, inOrder, rackNumber, pricesInRange, tableInRange, convex, convexAt, loadsInRange}
-use Rattle.model.specs.Calls.{Accepted, answer, requestOf, refusals, successCost, applies, lowest}
+use Rattle.model.specs.Calls.{Accepted, answer, requestOf, refusals, successCost, applies, firstRefusal}
+use Rattle.model.specs.Promises.{frontCard}
 use Rattle.laws.specs.Acceptance.{modules-range, top-range, slots-range, up-range, down-range, table-range, table-convex}
 use Rattle.laws.specs.Acceptance.{load-range}
 
@@ -135,7 +137,7 @@ module _ (i : Instance) where
 
   module _ (fit : FieldsFit i) where
     read-accepted : inOrder read ≡ true → Accepted (cardBytes i)
-    unfolding answer requestOf refusals successCost applies lowest allOf inOrder sameList cardLength
+    unfolding answer requestOf refusals successCost applies firstRefusal allOf inOrder sameList cardLength
     read-accepted e =
         let same = card-bytes-show i fit in
         let modules : rackNumber (read .modules) ≡ true = search (and-left, and-right) in
@@ -157,3 +159,18 @@ module _ (i : Instance) where
 -- The card of a show that is in order is accepted.
 pub in-order-accepted : (i : Instance) → inOrder i ≡ true → Accepted (cardBytes i)
 in-order-accepted i e = card-bytes-accepted i (in-order-fits i e) .1 e
+
+-- A show that is in order is read back from the front of any list that begins with its card, and its card is the front of that list.
+pub front-card : (i : Instance) → inOrder i ≡ true → (rest : List ℕ) → frontCard (cardBytes i ++ rest) ≡ cardBytes i
+unfolding cardLength littleEndian instanceOf
+front-card i e rest =
+    let same = card-bytes-show i (in-order-fits i e) in
+    let size = card-bytes-length i in
+    rw (field 1 topStepPlace (omega arith) ∙ same .topStep, field 2 slotsPlace (omega arith) ∙ same .slots)
+    (take-at (cardBytes i) rest (cardLength i) size)
+  where
+    field : (w p : ℕ) → p + w ≤ headLength → littleEndian w (cardBytes i ++ rest) p ≡ littleEndian w (cardBytes i) p
+    field w p h =
+        let long : p + w ≤ length (cardBytes i) = omega (arith, card-bytes-length i) in
+        sym (little-take w (length (cardBytes i)) (cardBytes i ++ rest) p long) ∙
+        ap (λ l. littleEndian w l p) (take-at (cardBytes i) rest _ refl)

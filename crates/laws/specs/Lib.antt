@@ -1,7 +1,8 @@
 -- Laws of model's definitions that code and theorems both cite, a module a subject.
 pub mod AnswerNumber
-pub mod Lowest
+pub mod FirstRefusal
 pub mod Acceptance
 pub mod OnCard
 pub mod Encoding
+pub mod Practice
 pub mod Operating

@@ -9,39 +9,16 @@ ghost use Rattle.model.specs.Listing.{decimal, planLine, slotLine, listing, ref
 ghost use Rattle.listing.specs.Texts.{numberedLine, countText, countTexts, moduleText, moduleTexts, slotNumber, sheetLines};
 ghost use Rattle.listing.specs.Texts.{InRows, Printable, LineRoom};
 
-// Writes a byte.
-fn put(out: &mut [u8], at: usize, byte: u8) -> usize
-    requires { ⌜ Room (byte ∷ []) at (now out) ⌝ }
-    ensures { λ r. ⌜ Written (byte ∷ []) at (now (out .entry)) (now (out .exit)) r ⌝ }
-{
-    out[at] = byte;
-    at + 1
-}
-
-// Writes a word.
-fn put_word(out: &mut [u8], at: usize, word: &[u8]) -> usize
-    requires { ⌜ Room (now word) at (now out) ⌝ }
-    ensures { λ r. ⌜ Written (now (word .entry)) at (now (out .entry)) (now (out .exit)) r ⌝ }
-{
-    let mut place = at;
-    let mut k = 0;
-    while k < word.len() {
-        place = put(out, place, word[k]);
-        k += 1;
-    }
-    place
-}
-
 // Writes a number in decimal.
 fn put_number(out: &mut [u8], at: usize, n: u64) -> usize
     requires { ⌜ Room (decimal n) at (now out) ⌝ }
     ensures { λ r. ⌜ Written (decimal n) at (now (out .entry)) (now (out .exit)) r ⌝ }
 {
     if n < 10 {
-        return put(out, at, (48 + n) as u8);
+        return buffers::put(out, at, (48 + n) as u8);
     }
     let last = put_number(out, at, n / 10);
-    put(out, last, (48 + n % 10) as u8)
+    buffers::put(out, last, (48 + n % 10) as u8)
 }
 
 // Writes a blank and a count.
@@ -49,7 +26,7 @@ fn put_count(out: &mut [u8], at: usize, count: u8) -> usize
     requires { ⌜ Room (countText count) at (now out) ⌝ }
     ensures { λ r. ⌜ Written (countText count) at (now (out .entry)) (now (out .exit)) r ⌝ }
 {
-    let number = put(out, at, b' ');
+    let number = buffers::put(out, at, b' ');
     put_number(out, number, count as u64)
 }
 
@@ -59,7 +36,7 @@ fn put_step(out: &mut [u8], at: usize, step: u8) -> usize
     ensures { λ r. ⌜ Written (moduleText step) at (now (out .entry)) (now (out .exit)) r ⌝ }
 {
     if step == 255 {
-        return put_word(out, at, b" -");
+        return buffers::put_word(out, at, b" -");
     }
     put_count(out, at, step)
 }
@@ -97,9 +74,9 @@ fn put_line(out: &mut [u8], at: usize, word: &[u8], n: u64) -> usize
     requires { ⌜ Room (numberedLine (now word) n) at (now out) ⌝ }
     ensures { λ r. ⌜ Written (numberedLine (now (word .entry)) n) at (now (out .entry)) (now (out .exit)) r ⌝ }
 {
-    let number = put_word(out, at, word);
+    let number = buffers::put_word(out, at, word);
     let end = put_number(out, number, n);
-    put(out, end, b'\n')
+    buffers::put(out, end, b'\n')
 }
 
 // Writes the line of the plan.
@@ -107,9 +84,9 @@ fn put_plan(out: &mut [u8], at: usize, plan: &[u8]) -> usize
     requires { ⌜ Room (planLine (now plan)) at (now out) ⌝ }
     ensures { λ r. ⌜ Written (planLine (now (plan .entry))) at (now (out .entry)) (now (out .exit)) r ⌝ }
 {
-    let counts = put_word(out, at, b"plan");
+    let counts = buffers::put_word(out, at, b"plan");
     let end = put_counts(out, counts, plan);
-    put(out, end, b'\n')
+    buffers::put(out, end, b'\n')
 }
 
 // Writes the word for a slot and its number: slot t (from 0) has the number t + 1.
@@ -118,7 +95,7 @@ fn put_slot_number(out: &mut [u8], at: usize, t: usize) -> usize
     requires { ⌜ Room (slotNumber t) at (now out) ⌝ }
     ensures { λ r. ⌜ Written (slotNumber t) at (now (out .entry)) (now (out .exit)) r ⌝ }
 {
-    let number = put_word(out, at, b"slot ");
+    let number = buffers::put_word(out, at, b"slot ");
     put_number(out, number, t as u64 + 1)
 }
 
@@ -129,9 +106,9 @@ fn put_slot(out: &mut [u8], at: usize, t: usize, row: &[u8]) -> usize
     ensures { λ r. ⌜ Written (slotLine t (now (row .entry))) at (now (out .entry)) (now (out .exit)) r ⌝ }
 {
     let colon = put_slot_number(out, at, t);
-    let steps = put(out, colon, b':');
+    let steps = buffers::put(out, colon, b':');
     let line_end = put_steps(out, steps, row);
-    put(out, line_end, b'\n')
+    buffers::put(out, line_end, b'\n')
 }
 
 // Writes the lines of a sheet in rows of m bytes.

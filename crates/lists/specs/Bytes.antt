@@ -1,8 +1,9 @@
 -- Little-endian numbers over the width: the definition, and one law for every width.
 use Prim.Native.Nat.{ℕ, zero, suc, _+_, _*_, _/_, _%_, _^_, _≤_, _<_}
-use mathlib.Core.Path.{_≡_, refl}
+use mathlib.Core.Path.{_≡_, refl, _∙_}
 use mathlib.Core.List.{List, [], _∷_, _++_}
-use native.Mathlib.Nat.{zero-add, one-mul, suc-add, pow-zero, pow-suc, add-zero, add-assoc, div-add-mod, div-lt-iff-lt-mul}
+use native.Mathlib.Nat.{zero-add, one-mul, suc-add, pow-zero, pow-suc, add-zero, add-assoc, mul-comm, div-one, div-add-mod}
+use native.Mathlib.Nat.{div-lt-iff-lt-mul, div-div-eq-div-mul}
 use native.Mathlib.Omega.{arith}
 use lib.ListN.{length, getD, take}
 use lib.Seq.{getD-take, getD-append-add}
@@ -63,6 +64,14 @@ pub length-bytes : (w n : ℕ) → length (bytesOf w n) ≡ w
 unfolding bytesOf
 length-bytes zero n = refl
 length-bytes (suc w) n = omega (arith, length-bytes w (n / 256))
+
+-- The bytes of a number are its v lowest ones, and then those of what is left of it.
+pub bytes-join : (v w n : ℕ) → bytesOf (v + w) n ≡ bytesOf v n ++ bytesOf w (n / 256 ^ v)
+unfolding bytesOf
+bytes-join zero w n = rw (zero-add w, pow-zero, div-one n)
+bytes-join (suc v) w n =
+    let rest : n / 256 / 256 ^ v ≡ n / 256 ^ suc v = div-div-eq-div-mul n 256 (256 ^ v) ∙ rw (pow-suc, mul-comm 256 (256 ^ v)) in
+    rw (suc-add v w, bytes-join v w (n / 256), rest)
 
 -- A number that fits w bytes is read back from them.
 pub little-bytes : (w n : ℕ) → n < 256 ^ w → littleEndian w (bytesOf w n) 0 ≡ n

@@ -3,10 +3,11 @@ use Prim.Native.Nat.{ℕ}
 use Rattle.model.specs.declared.Refusal.{Refusal}
 use Rattle.model.specs.declared.Refusal.the-variants.{NotACard, Version, RackSize, SlotCount, CardLength, PriceRange, NotConvex}
 use Rattle.model.specs.declared.Refusal.the-variants.{LoadRange, NotMonotone, BufferTooShort, WrongLength, EntryRange, LoadNotServed}
+use Rattle.model.specs.declared.Refusal.the-variants.{ZeroStart}
 use Rattle.model.specs.declared.Answer.{Answer}
 use Rattle.model.specs.declared.Answer.the-variants.{Cost, Refused}
 
--- The number of a refusal: the table's column 'no.'.
+-- The number of a refusal: the table's column 'no.', which 'the numbers of this document join' (02 §1).
 abbrev pub refusalNumber : Refusal → ℕ
 refusalNumber NotACard = 1
 refusalNumber Version = 2
@@ -21,6 +22,7 @@ refusalNumber BufferTooShort = 10
 refusalNumber WrongLength = 11
 refusalNumber EntryRange = 12
 refusalNumber LoadNotServed = 13
+refusalNumber ZeroStart = 14
 
 -- The number of an answer: 'A success gives number 0', a refusal its number.
 abbrev pub numberOf : Answer → ℕ

@@ -1,4 +1,4 @@
--- Every call's whole outcome: its answer, and the bytes of each lent buffer at exit (document 01, 'Refused', 'The plans').
+-- Every call's whole outcome: its answer, and the bytes of each lent buffer at exit (document 01, 'Refused', 'The plans'; 02 §1).
 use Prim.Native.Nat.{ℕ, _*_}
 use mathlib.Core.Path.{_≡_}
 use mathlib.Core.Bool.{Bool, true, false, cond, not, _||_}
@@ -10,15 +10,17 @@ use Rattle.lists.specs.Lists.{sameList, writtenOver}
 use Rattle.model.specs.declared.Refusal.{Refusal}
 use Rattle.model.specs.declared.Refusal.the-variants.{NotACard, Version, RackSize, SlotCount, CardLength, PriceRange, NotConvex}
 use Rattle.model.specs.declared.Refusal.the-variants.{LoadRange, NotMonotone, BufferTooShort, WrongLength, EntryRange, LoadNotServed}
+use Rattle.model.specs.declared.Refusal.the-variants.{ZeroStart}
 use Rattle.model.specs.declared.Answer.{Answer}
 use Rattle.model.specs.declared.Answer.the-variants.{Cost, Refused}
 use Rattle.model.specs.Answers.{numberOf, costOf}
-use Rattle.model.specs.Instance.{Instance, instanceOf, headLength, markOf, cardMark, versionOf, cardVersion, cardLength, rackNumber}
-use Rattle.model.specs.Instance.{convex, neverFalls, pricesInRange, loadsInRange}
+use Rattle.model.specs.Instance.{Instance, instanceOf, headLength, markOf, cardMark, versionOf, cardVersion, cardLength, cardBytes}
+use Rattle.model.specs.Instance.{rackNumber, convex, neverFalls, pricesInRange, loadsInRange}
 use Rattle.model.specs.Counts.{canServe, operatingCost, roundedCount}
 use Rattle.model.specs.Sheets.{sheetLength, sheetEntries, sheetLight, sheetCost}
 use Rattle.model.specs.Plans.{planServes, planCost, sheetOf}
 use Rattle.model.specs.Planners.{Planner, workBytes, plannerRefusals, plannedBy, plannedCost}
+use Rattle.model.specs.Practice.{practiceShow}
 
 -- The calls, each with what it is handed: the bytes of card, plan, work and sheet at entry, and numbers.
 pub data Call : Type 0 where
@@ -28,14 +30,17 @@ pub data Call : Type 0 where
   makeSheet : (card plan sheet : List ℕ) → Call
   markSheet : (card sheet : List ℕ) → Call
   roundCount : (count modules : ℕ) → Call
+  practiceCard : (start : ℕ) (card : List ℕ) → Call
 
--- What a call is asked about: a count and a load, a plan or a sheet, each handed in with a card, or a count in a rack of a given size.
+-- What a call is asked about: a count and a load, a plan or a sheet, each handed in with a card, a count in a rack of a given size, or
+-- the start of a practice show.
 pub data HandedIn : Type 0 where
   nothing : HandedIn
   pair : (count load : ℕ) → HandedIn
   plan : (bytes : List ℕ) → HandedIn
   sheet : (bytes : List ℕ) → HandedIn
   inRack : (count modules : ℕ) → HandedIn
+  fromStart : (start : ℕ) → HandedIn
 
 -- What is handed in has the right length. Refusal 11: 'handed-in plan not T bytes, sheet not m × T'.
 unfoldable pub rightLength : Instance → HandedIn → Bool
@@ -44,6 +49,7 @@ rightLength i (pair n l) = true
 rightLength i (plan p) = eqb (length p) (i .slots)
 rightLength i (sheet s) = sheetLength i s
 rightLength i (inRack n m) = true
+rightLength i (fromStart s) = true
 
 -- The entries of what is handed in are in range. Refusal 12: 'a count above m, or a sheet byte from Q + 1 to 254'.
 unfoldable pub entriesInRange : Instance → HandedIn → Bool
@@ -52,6 +58,7 @@ entriesInRange i (pair n l) = leb n (i .modules)
 entriesInRange i (plan p) = every (i .slots) (λ t. leb (getD p t 0) (i .modules))
 entriesInRange i (sheet s) = sheetEntries i s
 entriesInRange i (inRack n m) = leb n m
+entriesInRange i (fromStart s) = true
 
 -- What is handed in serves the loads. Refusal 13: 'a slot's steps don't sum to its load; or a plan's count, or the count given to
 -- running cost, can't serve its load'.
@@ -61,6 +68,16 @@ loadsServed i (pair n l) = canServe i n l
 loadsServed i (plan p) = planServes i p
 loadsServed i (sheet s) = sheetLight i s
 loadsServed i (inRack n m) = true
+loadsServed i (fromStart s) = true
+
+-- A practice show is asked for by start 0. Refusal 14: 'Start 0 would repeat itself for ever and gets 14' (02 §1).
+unfoldable pub startsAtZero : HandedIn → Bool
+startsAtZero nothing = false
+startsAtZero (pair n l) = false
+startsAtZero (plan p) = false
+startsAtZero (sheet s) = false
+startsAtZero (inRack n m) = false
+startsAtZero (fromStart s) = eqb s 0
 
 -- A lent buffer (01: 'area'): its bytes at entry, how many of them are asked for, and what a success writes from the first byte on.
 pub record Buffer : Type 0 where
@@ -85,6 +102,10 @@ sheetBytes i = i .modules * i .slots
 abbrev pub sheetBuffer : Instance → (plan sheet : List ℕ) → Buffer
 sheetBuffer i p s = record { entry = s; asked = sheetBytes i; writes = sheetOf i p }
 
+-- The card buffer of a practice show: the bytes of its card (02 §1: 'an area shorter than the card is 10').
+abbrev pub cardBuffer : Instance → (card : List ℕ) → Buffer
+cardBuffer i c = record { entry = c; asked = cardLength i; writes = cardBytes i }
+
 -- The buffers lent to a call, in the order of its parameters.
 unfoldable pub buffersOf : Call → List Buffer
 buffersOf (checkCard c) = []
@@ -93,6 +114,7 @@ buffersOf (planShow k c p w) = planBuffer k (instanceOf c) p ∷ workBuffer k (i
 buffersOf (makeSheet c p s) = sheetBuffer (instanceOf c) p s ∷ []
 buffersOf (markSheet c s) = []
 buffersOf (roundCount n m) = []
+buffersOf (practiceCard s c) = cardBuffer (practiceShow s) c ∷ []
 
 -- One of the buffers is too short. Refusal 10: 'a lent area shorter than asked for'.
 unfoldable pub anyShort : List Buffer → Bool
@@ -115,6 +137,10 @@ onCard c bs h =
 abbrev pub onRack : (count modules : ℕ) → Request
 onRack n m = record { card = []; rack = m ∷ []; buffers = []; handed = inRack n m }
 
+-- A request on a start alone, which has no card to read and no rack to judge.
+abbrev pub onStart : (start : ℕ) → List Buffer → Request
+onStart s bs = record { card = []; rack = []; buffers = bs; handed = fromStart s }
+
 -- What the refusals of each call look at.
 unfoldable pub requestOf : Call → Request
 requestOf (checkCard c) = onCard c [] nothing
@@ -123,6 +149,7 @@ requestOf (planShow k c p w) = onCard c (buffersOf (planShow k c p w)) nothing
 requestOf (makeSheet c p s) = onCard c (buffersOf (makeSheet c p s)) (plan p)
 requestOf (markSheet c s) = onCard c [] (sheet s)
 requestOf (roundCount n m) = onRack n m
+requestOf (practiceCard s c) = onStart s (buffersOf (practiceCard s c))
 
 -- The show that a request's card says.
 abbrev pub shown : Request → Instance
@@ -143,13 +170,14 @@ applies r BufferTooShort = anyShort (r .buffers)
 applies r WrongLength = not (rightLength (shown r) (r .handed))
 applies r EntryRange = not (entriesInRange (shown r) (r .handed))
 applies r LoadNotServed = not (loadsServed (shown r) (r .handed))
+applies r ZeroStart = startsAtZero (r .handed)
 
 -- 'All calls on a card check 1 to 8.'
 abbrev pub cardRefusals : List Refusal
 cardRefusals = NotACard ∷ Version ∷ RackSize ∷ SlotCount ∷ CardLength ∷ PriceRange ∷ NotConvex ∷ LoadRange ∷ []
 
--- The refusals of each call, ascending: 'Running cost adds 12 and 13; the sheet adds 10 to 13; marking adds 11 to 13; the two planners
--- add 10, the coarse one also 9.'
+-- The refusals of each call, in the order in which they are tested: 'Running cost adds 12 and 13; the sheet adds 10 to 13; marking adds 11
+-- to 13; the two planners add 10, the coarse one also 9'; a practice card '14, before 10' (02 §1).
 unfoldable pub refusals : Call → List Refusal
 refusals (checkCard c) = cardRefusals
 refusals (runningCost c n l) = cardRefusals ++ (EntryRange ∷ LoadNotServed ∷ [])
@@ -157,11 +185,24 @@ refusals (planShow k c p w) = cardRefusals ++ plannerRefusals k
 refusals (makeSheet c p s) = cardRefusals ++ (BufferTooShort ∷ WrongLength ∷ EntryRange ∷ LoadNotServed ∷ [])
 refusals (markSheet c s) = cardRefusals ++ (WrongLength ∷ EntryRange ∷ LoadNotServed ∷ [])
 refusals (roundCount n m) = RackSize ∷ EntryRange ∷ []
+refusals (practiceCard s c) = ZeroStart ∷ BufferTooShort ∷ []
 
--- 'Of several, the lowest number is given': the first of an ascending list that applies, or else the given answer.
-unfoldable pub lowest : (Refusal → Bool) → List Refusal → Answer → Answer
-lowest test [] success = success
-lowest test (x ∷ xs) success = cond (test x) (Refused x) (lowest test xs success)
+-- The calls for which a paragraph of document 02 sets an order among refusals: 'that order holds instead of the lowest number, in
+-- condition 1 too' (02 §1). The list of every other call ascends.
+unfoldable pub ownOrder : Call → Bool
+ownOrder (checkCard c) = false
+ownOrder (runningCost c n l) = false
+ownOrder (planShow k c p w) = false
+ownOrder (makeSheet c p s) = false
+ownOrder (markSheet c s) = false
+ownOrder (roundCount n m) = false
+ownOrder (practiceCard s c) = true
+
+-- The first refusal of a list that applies, or else the given answer. In an ascending list it is the lowest one: 'Of several, the lowest
+-- number is given.'
+unfoldable pub firstRefusal : (Refusal → Bool) → List Refusal → Answer → Answer
+firstRefusal test [] success = success
+firstRefusal test (x ∷ xs) success = cond (test x) (Refused x) (firstRefusal test xs success)
 
 -- The cost that a success gives: 'the plan's from a planner or the sheet call, the sheet's from marking, the pair's from running cost.
 -- The rounded count gives its count in that place; a call without a cost gives 0.'
@@ -172,10 +213,11 @@ successCost (planShow k c p w) = plannedCost k (instanceOf c)
 successCost (makeSheet c p s) = planCost (instanceOf c) p
 successCost (markSheet c s) = sheetCost (instanceOf c) s
 successCost (roundCount n m) = roundedCount m n
+successCost (practiceCard s c) = 0
 
 -- The answer of a call.
 unfoldable pub answer : Call → Answer
-answer c = lowest (applies (requestOf c)) (refusals c) (Cost (successCost c))
+answer c = firstRefusal (applies (requestOf c)) (refusals c) (Cost (successCost c))
 
 -- 'A show is accepted if none of refusals 1 to 8 applies to its card.'
 abbrev pub Accepted : List ℕ → Type 0
@@ -206,6 +248,10 @@ workAtExit c = getD (buffersAtExit c) 1 []
 -- The sheet buffer of the sheet call at exit, which is the only one lent to it.
 unfoldable pub sheetAtExit : Call → List ℕ
 sheetAtExit c = getD (buffersAtExit c) 0 []
+
+-- The card buffer of a practice card at exit, which is the only one lent to it.
+unfoldable pub cardAtExit : Call → List ℕ
+cardAtExit c = getD (buffersAtExit c) 0 []
 
 -- The whole outcome: number and cost, then each lent buffer in the order of the parameters.
 unfoldable pub outcome : Call → List (List ℕ)

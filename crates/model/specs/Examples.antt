@@ -1,11 +1,11 @@
 -- Document 01's starred examples, A to J: one table, one proof. Beside it tables of further rows by subject, and one of the answers of
 -- wrong programs, which differ.
-use Prim.Native.Nat.{ℕ, _-_}
+use Prim.Native.Nat.{ℕ, _+_, _-_}
 use Prim.Native.String.{String}
 use mathlib.Core.Path.{_≡_, refl, ap, sym, _∙_}
 use mathlib.Core.Bool.{Bool, true, false, not, false≢true}
 use mathlib.Core.List.{List, [], _∷_, _++_, flatMap, headD}
-use lib.ListN.{length, getD, take, set, replicate}
+use lib.ListN.{length, getD, take, drop, set, replicate}
 use native.Mathlib.Omega.{arith}
 use Rattle.lists.specs.Tests.{every, allOf}
 use Rattle.lists.specs.Sums.{sum}
@@ -21,9 +21,10 @@ use Rattle.model.specs.Sheets.{sheetOperatingCost, sheetSwitchingCost, s
 use Rattle.model.specs.Plans.{moduleByte, slotRow, sheetOf, planCost, planServes, plansInOrder, cheapest, cheapestOf, leastPlan}
 use Rattle.model.specs.Planners.{exact, coarse, allowedCounts, workBytes, plannerRefusals, plannedBy}
 use Rattle.model.specs.Listing.{digits, decimal, costLine, planLine, stepText, slotLine, listing, refusedLine, printedFor, printed}
-use Rattle.model.specs.Calls.{Call, checkCard, runningCost, planShow, makeSheet, markSheet, roundCount}
-use Rattle.model.specs.Calls.{rightLength, entriesInRange, loadsServed, buffersOf, anyShort, requestOf, applies, refusals, lowest}
-use Rattle.model.specs.Calls.{successCost, answer, atExit, buffersAtExit, planAtExit, outcome}
+use Rattle.model.specs.Practice.{xorLeft, xorRight, draw, drawn, practiceDifference, practiceEntry, practiceShow}
+use Rattle.model.specs.Calls.{Call, checkCard, runningCost, planShow, makeSheet, markSheet, roundCount, practiceCard}
+use Rattle.model.specs.Calls.{rightLength, entriesInRange, loadsServed, startsAtZero, buffersOf, anyShort, requestOf, applies, refusals, firstRefusal}
+use Rattle.model.specs.Calls.{successCost, answer, atExit, buffersAtExit, planAtExit, cardAtExit, outcome}
 
 -- A show: modules, top step, prices, table, loads.
 abbrev showOf : (m q up down : ℕ) → (table loads : List ℕ) → Instance
@@ -66,6 +67,25 @@ cardUp = cardOf 4 2 1 0 (1 ∷ 1 ∷ 4 ∷ []) (3 ∷ [])
 -- Example D's sheet for card A.
 abbrev sheetD : List ℕ
 sheetD = 2 ∷ 2 ∷ 2 ∷ 255 ∷ 0 ∷ 255 ∷ 2 ∷ 255 ∷ 255 ∷ []
+
+-- The practice cards of start 1,950 (Q 3, T 0), of start 4,294,967,255 (Q 2, T 1) and of start 2,557 (Q 6, T 6), as
+-- `tests/practice.py` writes them.
+abbrev card1950 : List ℕ
+card1950 =
+    0x44 ∷ 0x4C ∷ 0x53 ∷ 0x01 ∷ 0x00 ∷ 0x60 ∷ 0x03 ∷ 0x00 ∷ 0x00 ∷ 0xBE ∷ 0x01 ∷ 0x00 ∷ 0x00 ∷ 0x02 ∷ 0x02 ∷ 0x00 ∷ 0x00 ∷
+    0xAA ∷ 0x01 ∷ 0x00 ∷ 0x00 ∷ 0xAD ∷ 0x01 ∷ 0x00 ∷ 0x00 ∷ 0xB2 ∷ 0x01 ∷ 0x00 ∷ 0x00 ∷ 0xBA ∷ 0x01 ∷ 0x00 ∷ 0x00 ∷ []
+
+abbrev card4294967255 : List ℕ
+card4294967255 =
+    0x44 ∷ 0x4C ∷ 0x53 ∷ 0x01 ∷ 0x00 ∷ 0x76 ∷ 0x02 ∷ 0x01 ∷ 0x00 ∷ 0x17 ∷ 0x00 ∷ 0x00 ∷ 0x00 ∷ 0x7B ∷ 0x02 ∷ 0x00 ∷ 0x00 ∷
+    0xF5 ∷ 0x02 ∷ 0x00 ∷ 0x00 ∷ 0xFA ∷ 0x02 ∷ 0x00 ∷ 0x00 ∷ 0x02 ∷ 0x03 ∷ 0x00 ∷ 0x00 ∷ 0xC5 ∷ 0x00 ∷ []
+
+abbrev card2557 : List ℕ
+card2557 =
+    0x44 ∷ 0x4C ∷ 0x53 ∷ 0x01 ∷ 0x00 ∷ 0xA3 ∷ 0x06 ∷ 0x06 ∷ 0x00 ∷ 0x8E ∷ 0x03 ∷ 0x00 ∷ 0x00 ∷ 0x39 ∷ 0x00 ∷ 0x00 ∷ 0x00 ∷
+    0xFA ∷ 0x02 ∷ 0x00 ∷ 0x00 ∷ 0xFF ∷ 0x02 ∷ 0x00 ∷ 0x00 ∷ 0x06 ∷ 0x03 ∷ 0x00 ∷ 0x00 ∷ 0x10 ∷ 0x03 ∷ 0x00 ∷ 0x00 ∷ 0x1A ∷
+    0x03 ∷ 0x00 ∷ 0x00 ∷ 0x26 ∷ 0x03 ∷ 0x00 ∷ 0x00 ∷ 0x34 ∷ 0x03 ∷ 0x00 ∷ 0x00 ∷ 0x1C ∷ 0x02 ∷ 0xC0 ∷ 0x02 ∷ 0x15 ∷ 0x00 ∷
+    0x21 ∷ 0x02 ∷ 0x45 ∷ 0x00 ∷ 0xD0 ∷ 0x01 ∷ []
 
 -- Card A's listing, as document 01 prints it.
 abbrev listingA : List ℕ
@@ -168,14 +188,28 @@ roundRows =
     row "rounded 202 of 201" (roundCount 202 201) 3 0 [] ∷
     []
 
+-- Practice cards: the first draws of a start, whole cards, the byte after a card, refusals 14 and 10, and 14 before 10.
+practiceRows : List Example
+practiceRows =
+    one "draws from 1" (drawn 1 1 ∷ drawn 1 2 ∷ drawn 1 3 ∷ drawn 1 4 ∷ []) (270369 ∷ 67634689 ∷ 2647435461 ∷ 307599695 ∷ []) ∷
+    row "start 1,950, an area of the card's length" (practiceCard 1950 (sevens 33)) 0 0 (card1950 ∷ []) ∷
+    row "start 4,294,967,255, one byte after the card" (practiceCard 4294967255 (sevens 32)) 0 0 (over 32 card4294967255 ∷ []) ∷
+    row "start 2,557" (practiceCard 2557 (sevens 60)) 0 0 (over 60 card2557 ∷ []) ∷
+    row "start 0" (practiceCard 0 (sevens 33)) 14 0 (sevens 33 ∷ []) ∷
+    row "start 0 before no area" (practiceCard 0 []) 14 0 ([] ∷ []) ∷
+    row "one byte too short" (practiceCard 1950 (sevens 32)) 10 0 (sevens 32 ∷ []) ∷
+    row "a practice card is accepted" (checkCard card2557) 0 0 [] ∷
+    []
+
 -- What is found is what is expected, computed through every definition.
 agrees : Example → Bool
 unfolding sameLists sameList every allOf sum tabulate rows keep littleEndian bytesOf instanceOf cardBytes cardLength convexAt convex
     neverFalls tableInRange pricesInRange loadsInRange canServe operatingCost allCounts powerOfTwo coarseCounts roundedCount stateAt
     sheetLength sheetEntries lightAt sheetLight stepCost changeCost sheetOperatingCost sheetSwitchingCost sheetCost moduleByte
     slotRow sheetOf planCost planServes plansInOrder cheapest cheapestOf leastPlan allowedCounts workBytes plannerRefusals plannedBy
-    rightLength entriesInRange loadsServed buffersOf anyShort requestOf applies refusals lowest successCost answer atExit
-    buffersAtExit planAtExit outcome flatMap headD digits decimal costLine planLine stepText slotLine listing refusedLine
+    xorLeft xorRight draw drawn practiceDifference practiceEntry practiceShow
+    rightLength entriesInRange loadsServed startsAtZero buffersOf anyShort requestOf applies refusals firstRefusal successCost answer atExit
+    buffersAtExit planAtExit cardAtExit outcome flatMap headD digits decimal costLine planLine stepText slotLine listing refusedLine
     printedFor printed
 agrees e = sameLists (e .found) (e .expected)
 
@@ -206,7 +240,13 @@ numbers c = numberOf (answer c) ∷ []
 abbrev costs : Call → List ℕ
 costs c = costOf (answer c) ∷ []
 
--- Wrong programs of document 01's last section, and one of its plausible errors: `expected` is what the program would answer.
+-- Two fields of w bytes of a card, each in the other's place.
+abbrev exchanged : (p q w : ℕ) → List ℕ → List ℕ
+exchanged p q w card =
+    take p card ++ (take w (drop q card) ++ (take (q - p - w) (drop (p + w) card) ++ (take w (drop p card) ++ drop (q + w) card)))
+
+-- Wrong programs of document 01's last section, one of its plausible errors, and wrong practice cards: `expected` is what the program would
+-- answer.
 wrong : List Example
 wrong =
     one "full rack always (A)" (planAtExit (planShow exact cardA (sevens 5) (sevens 14))) (over 5 (3 ∷ 3 ∷ 3 ∷ [])) ∷
@@ -216,6 +256,9 @@ wrong =
     one "10 in every card (A)" (numbers (planShow exact cardA (sevens 5) (sevens 14))) (10 ∷ []) ∷
     one "invented cost: the least (D)" (costs (markSheet cardA sheetD)) (32 ∷ []) ∷
     one "rounding exact counts up" (planAtExit (planShow coarse cardUp (sevens 1) (sevens 10))) (4 ∷ []) ∷
+    one "10 before 14" (numbers (practiceCard 0 [])) (10 ∷ []) ∷
+    one "the cool-down drawn before the warm-up" (cardAtExit (practiceCard 1950 (sevens 33))) (exchanged 9 13 4 card1950) ∷
+    one "what a draw gives is the old s" (drawn 1 1 ∷ []) (1 ∷ []) ∷
     []
 
 -- No row of a table holds.
@@ -252,6 +295,10 @@ sheet-rows-hold = omega arith
 round-rows-hold : AllHold roundRows
 unfolding roundRows agrees
 round-rows-hold = omega arith
+
+practice-rows-hold : AllHold practiceRows
+unfolding practiceRows agrees
+practice-rows-hold = omega arith
 
 wrong-differ : NoneHold wrong
 unfolding wrong agrees

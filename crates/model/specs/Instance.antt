@@ -82,15 +82,25 @@ versionOf card = littleEndian 2 card versionPlace
 unfoldable pub cardLength : Instance → ℕ
 cardLength i = loadPlace (i .topStep) (i .slots)
 
--- The card of a show: its fields one after the other, as the card's table has them. A field too large for its bytes loses its high
--- part.
+-- The bytes of a show's fields, as the card's table has them. A field too large for its bytes loses its high part.
+abbrev pub frontBytes : List ℕ
+frontBytes = cardMark ++ bytesOf 2 cardVersion
+
+abbrev pub rackBytes : Instance → List ℕ
+rackBytes i = bytesOf 1 (i .modules) ++ (bytesOf 1 (i .topStep) ++ bytesOf 2 (i .slots))
+
+abbrev pub priceBytes : Instance → List ℕ
+priceBytes i = bytesOf 4 (i .powerUp) ++ bytesOf 4 (i .powerDown)
+
+abbrev pub tableBytes : Instance → List ℕ
+tableBytes i = rows (i .topStep + 1) (λ k. bytesOf 4 (i .table k))
+
+abbrev pub loadBytes : Instance → List ℕ
+loadBytes i = rows (i .slots) (λ t. bytesOf 2 (i .load t))
+
+-- The card of a show: its fields one after the other.
 unfoldable pub cardBytes : Instance → List ℕ
-cardBytes i =
-    let rack = bytesOf 1 (i .modules) ++ (bytesOf 1 (i .topStep) ++ bytesOf 2 (i .slots)) in
-    let prices = bytesOf 4 (i .powerUp) ++ bytesOf 4 (i .powerDown) in
-    let entries = rows (i .topStep + 1) (λ k. bytesOf 4 (i .table k)) in
-    let loads = rows (i .slots) (λ t. bytesOf 2 (i .load t)) in
-    cardMark ++ (bytesOf 2 cardVersion ++ (rack ++ (prices ++ (entries ++ loads))))
+cardBytes i = frontBytes ++ (rackBytes i ++ (priceBytes i ++ (tableBytes i ++ loadBytes i)))
 
 -- A number that the rack may have: 'modules m, 1 to 200', 'Q, 1 to 200'.
 abbrev pub rackNumber : ℕ → Bool

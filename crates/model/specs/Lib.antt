@@ -1,4 +1,4 @@
--- What a reader must believe: document 01's terms and the outcome of every call, as definitions. No theorem stands here but
+-- What a reader must believe: the terms of documents 01 and 02 and the outcome of every call, as definitions. No theorem stands here but
 -- the examples. Read in this order.
 pub mod Answers
 pub mod Instance
@@ -7,6 +7,7 @@ pub mod Sheets
 pub mod Thesis
 pub mod Plans
 pub mod Planners
+pub mod Practice
 pub mod Calls
 pub mod Promises
 pub mod Listing

@@ -1,15 +1,19 @@
--- What the contracts of the sheet call and the planners promise beyond their outcome: conditions 2 and 3 of the tender, about the
--- call's own number and cost and its own bytes at exit. The sheets are all lists that serve.
+-- What the contracts of the calls promise beyond their outcome, about the call's own number and cost and its own bytes at exit: of the
+-- sheet call, marking and the planners conditions 2 and 3 of the tender, where the sheets are all lists that serve, and of the practice
+-- call what document 02, §1, says of its cards.
 use Prim.Native.Nat.{ℕ, _*_, _≤_}
 use mathlib.Core.Path.{_≡_}
 use mathlib.Core.Bool.{true}
 use mathlib.Core.List.{List}
-use lib.ListN.{take}
+use lib.ListN.{length, take}
 use Rattle.model.specs.declared.Answer.the-variants.{Cost}
-use Rattle.model.specs.Instance.{instanceOf}
+use Rattle.model.specs.Answers.{numberOf}
+use Rattle.model.specs.Instance.{instanceOf, cardLength}
 use Rattle.model.specs.Sheets.{serves, sheetCost}
 use Rattle.model.specs.Plans.{sheetOf}
-use Rattle.model.specs.Calls.{answer, Accepted, markSheet, sheetBytes}
+use Rattle.model.specs.Planners.{Planner, workBytes}
+use Rattle.model.specs.Practice.{longestPractice}
+use Rattle.model.specs.Calls.{answer, Accepted, planShow, markSheet, sheetBytes}
 
 -- The sheet that the first T bytes of a plan buffer make.
 abbrev pub madeSheet : List ℕ → List ℕ → List ℕ
@@ -37,3 +41,24 @@ MarkedAlike card sheet number cost =
 pub record AcceptsExactly (card sheet : List ℕ) (number : ℕ) : Type 0 where
   pub only-serving : number ≡ 0 → Accepted card × (serves (instanceOf card) sheet ≡ true)
   pub every-serving : Accepted card → serves (instanceOf card) sheet ≡ true → number ≡ 0
+
+-- The card that stands at the front of an area: as many bytes as its own Q and T ask for.
+abbrev pub frontCard : List ℕ → List ℕ
+frontCard area = take (cardLength (instanceOf area)) area
+
+-- A planner plans a card with every plan and work buffer that is long enough.
+abbrev pub AlwaysPlanned : Planner → (card : List ℕ) → Type 0
+AlwaysPlanned k card =
+    (plan work : List ℕ) → instanceOf card .slots ≤ length plan → workBytes k (instanceOf card) ≤ length work →
+    numberOf (answer (planShow k card plan work)) ≡ 0
+
+-- 'Every card it writes is accepted, also by the coarse planner' (02 §1): the card at the front of the area at exit is accepted, either
+-- planner plans it, and it is no longer than the longest practice card.
+pub record WritesAccepted (area : List ℕ) (number : ℕ) : Type 0 where
+  pub accepted : number ≡ 0 → Accepted (frontCard area)
+  pub planned : number ≡ 0 → (k : Planner) → AlwaysPlanned k (frontCard area)
+  pub at-most : number ≡ 0 → length (frontCard area) ≤ longestPractice
+
+-- An area as long as the longest practice card is enough for every start from 1 on.
+abbrev pub AlwaysEnough : (start : ℕ) → (area : List ℕ) → (number : ℕ) → Type 0
+AlwaysEnough start area number = 1 ≤ start → longestPractice ≤ length area → number ≡ 0

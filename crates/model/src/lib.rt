@@ -1,6 +1,6 @@
 // What the planner answers: types only. What every call must answer is defined in specs/.
 
-// Document 01, section 'Refused': one variant for each number of the table, 1 to 13, in order.
+// One variant for each number: document 01's table in section 'Refused', 1 to 13, and then the numbers of document 02.
 pub enum Refusal {
     // 1, 'not a card'
     NotACard,
@@ -28,6 +28,8 @@ pub enum Refusal {
     EntryRange,
     // 13, 'light'
     LoadNotServed,
+    // 14, start 0 of a practice show (02 §1)
+    ZeroStart,
 }
 
 // The answer of a call: a cost (the rounded count in its place), or a refusal.

@@ -20,5 +20,6 @@ pub mod Condition3
 pub mod Refusals
 pub mod Outcomes
 pub mod LongInput
+pub mod Practice
 pub mod Counterexamples
 pub mod Applications

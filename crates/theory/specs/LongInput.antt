@@ -18,24 +18,24 @@ use Rattle.model.specs.declared.Answer.the-variants.{Cost, Refused}
 use Rattle.model.specs.Instance.{instanceOf, cardLength, rackNumber}
 use Rattle.model.specs.Instance.{headLength, versionPlace, modulesPlace, topStepPlace, slotsPlace, loadPlace}
 use Rattle.model.specs.Planners.{exact}
-use Rattle.model.specs.Calls.{checkCard, answer, applies, requestOf, cardRefusals, refusals, successCost, lowest}
+use Rattle.model.specs.Calls.{checkCard, answer, applies, requestOf, cardRefusals, refusals, successCost, firstRefusal}
 use Rattle.model.specs.Listing.{printed, printedFor}
-use Rattle.laws.specs.Lowest.{lowest-hit, lowest-skip}
+use Rattle.laws.specs.FirstRefusal.{first-hit, first-skip}
 use Rattle.theory.specs.Outcomes.{planner-refused}
 
 -- One byte more than the longest card has, which is one of top step 200 and 1,024 slots.
 abbrev pub bytesRead : ℕ
 bytesRead = loadPlace 200 1024 + 1
 
--- Of some refusals the lowest is the same one by two tests.
+-- Of some refusals the first that applies is the same one by two tests.
 record SameRefusal (f g : Refusal → Bool) (xs : List Refusal) : Type 0 where
   refusal : Refusal
-  one : lowest f xs (Cost 0) ≡ Refused refusal
-  other : lowest g xs (Cost 0) ≡ Refused refusal
+  one : firstRefusal f xs (Cost 0) ≡ Refused refusal
+  other : firstRefusal g xs (Cost 0) ≡ Refused refusal
 
 module _ {f g : Refusal → Bool} {x : Refusal} {xs : List Refusal} where
   same-here : f x ≡ true → g x ≡ true → SameRefusal f g (x ∷ xs)
-  same-here e d = record { refusal = x; one = lowest-hit f xs (Cost 0) e; other = lowest-hit g xs (Cost 0) d }
+  same-here e d = record { refusal = x; one = first-hit f xs (Cost 0) e; other = first-hit g xs (Cost 0) d }
 
   same-next : g x ≡ f x → (f x ≡ false → SameRefusal f g xs) → SameRefusal f g (x ∷ xs)
   same-next same rest =
@@ -45,8 +45,8 @@ module _ {f g : Refusal → Bool} {x : Refusal} {xs : List Refusal} where
       let r = rest e in
       record {
         refusal = r .refusal;
-        one = lowest-skip f xs (Cost 0) e ∙ r .one;
-        other = lowest-skip g xs (Cost 0) (same ∙ e) ∙ r .other;
+        one = first-skip f xs (Cost 0) e ∙ r .one;
+        other = first-skip g xs (Cost 0) (same ∙ e) ∙ r .other;
       })
       (true-or-false (f x))
 

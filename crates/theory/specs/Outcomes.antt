@@ -20,10 +20,10 @@ use Rattle.model.specs.Plans.{sheetOf, planCost}
 use Rattle.model.specs.Planners.{Planner, exact, coarse, workBytes, plannerRefusals, tableAllowed, plannedBy, plannedCost}
 use Rattle.model.specs.Calls.{checkCard, planShow, makeSheet, markSheet, nothing, plan, sheet, onCard, Request, shown, requestOf}
 use Rattle.model.specs.Calls.{Buffer, planBuffer, workBuffer, sheetBuffer, sheetBytes, buffersOf, anyShort}
-use Rattle.model.specs.Calls.{rightLength, entriesInRange, loadsServed, applies, refusals, lowest, successCost, answer, Accepted}
+use Rattle.model.specs.Calls.{rightLength, entriesInRange, loadsServed, applies, refusals, firstRefusal, successCost, answer, Accepted}
 use Rattle.model.specs.Calls.{atExit, buffersAtExit, planAtExit, workAtExit, sheetAtExit}
 use Rattle.laws.specs.AnswerNumber.{number-zero}
-use Rattle.laws.specs.Lowest.{lowest-passed}
+use Rattle.laws.specs.FirstRefusal.{first-passed}
 use Rattle.laws.specs.OnCard.{on-card-refused, on-card-passed, on-card-accepted}
 use Rattle.laws.specs.Acceptance.{modules-range}
 use Rattle.theory.specs.Hypotheses.{PlanFits}
@@ -49,7 +49,7 @@ module _ (c s : List ℕ) where
     -- On an accepted card the tests that remain are the three of `serves`.
     pub mark-tests :
         answer (markSheet c s) ≡
-        lowest (applies (onCard c [] (sheet s))) (WrongLength ∷ EntryRange ∷ LoadNotServed ∷ []) (Cost (sheetCost (instanceOf c) s))
+        firstRefusal (applies (onCard c [] (sheet s))) (WrongLength ∷ EntryRange ∷ LoadNotServed ∷ []) (Cost (sheetCost (instanceOf c) s))
     unfolding answer requestOf refusals successCost
     mark-tests = on-card-passed c _ _ _ _ given
 
@@ -57,14 +57,14 @@ module _ (c s : List ℕ) where
     marked-serves : {n : ℕ} → answer (markSheet c s) ≡ Cost n → serves (instanceOf c) s ≡ true
     unfolding applies rightLength entriesInRange loadsServed
     marked-serves e =
-        let size = lowest-passed _ _ _ (sym mark-tests ∙ e) in
-        let entries = lowest-passed _ _ _ (size .1) in
-        let light = lowest-passed _ _ _ (entries .1) in
+        let size = first-passed _ _ _ (sym mark-tests ∙ e) in
+        let entries = first-passed _ _ _ (size .1) in
+        let light = first-passed _ _ _ (entries .1) in
         serves-parts (instanceOf c) s .1 (not-false _ (size .0), not-false _ (entries .0), not-false _ (light .0))
 
     -- A sheet that serves is marked with its cost.
     serves-marked : serves (instanceOf c) s ≡ true → answer (markSheet c s) ≡ Cost (sheetCost (instanceOf c) s)
-    unfolding lowest applies rightLength entriesInRange loadsServed
+    unfolding firstRefusal applies rightLength entriesInRange loadsServed
     serves-marked e = let (size, entries, light) = serves-parts (instanceOf c) s .0 e in mark-tests ∙ rw (size, entries, light)
 
     -- Marking on an accepted card gives the sheet's cost exactly if the sheet serves.
@@ -94,7 +94,7 @@ module _ (c p s : List ℕ) where
     -- On an accepted card the refusals that the sheet call adds decide.
     pub make-tests :
         answer (makeSheet c p s) ≡
-        lowest (applies (onCard c (buffersOf (makeSheet c p s)) (plan p)))
+        firstRefusal (applies (onCard c (buffersOf (makeSheet c p s)) (plan p)))
         (BufferTooShort ∷ WrongLength ∷ EntryRange ∷ LoadNotServed ∷ []) (Cost (planCost (instanceOf c) p))
     unfolding answer requestOf refusals successCost
     make-tests = on-card-passed c _ _ _ _ given
@@ -102,16 +102,16 @@ module _ (c p s : List ℕ) where
     -- Where the sheet call answers a cost, its buffer has at least the bytes asked for.
     pub made-room : {n : ℕ} → answer (makeSheet c p s) ≡ Cost n → sheetBytes (instanceOf c) ≤ length s
     unfolding applies buffersOf anyShort
-    made-room e = ltb-false _ _ (or-left _ _ (lowest-passed _ _ _ (sym make-tests ∙ e) .0))
+    made-room e = ltb-false _ _ (or-left _ _ (first-passed _ _ _ (sym make-tests ∙ e) .0))
 
     -- Where the sheet call answers a cost, the plan has a sheet that can be written.
     pub made-fits : {n : ℕ} → answer (makeSheet c p s) ≡ Cost n → PlanFits (instanceOf c) p
     unfolding applies rightLength entriesInRange loadsServed
     made-fits e =
-        let room = lowest-passed _ _ _ (sym make-tests ∙ e) in
-        let size = lowest-passed _ _ _ (room .1) in
-        let entries = lowest-passed _ _ _ (size .1) in
-        let light = lowest-passed _ _ _ (entries .1) in
+        let room = first-passed _ _ _ (sym make-tests ∙ e) in
+        let size = first-passed _ _ _ (room .1) in
+        let entries = first-passed _ _ _ (size .1) in
+        let light = first-passed _ _ _ (entries .1) in
         record {
           steps = accepted-plannable c given .steps;
           slotwise = eqb-true _ _ (not-false _ (size .0));
@@ -122,7 +122,7 @@ module _ (c p s : List ℕ) where
     -- Where the plan has a sheet that can be written and the buffer is long enough, the sheet call answers the plan's cost.
     fits-made :
         PlanFits (instanceOf c) p → sheetBytes (instanceOf c) ≤ length s → answer (makeSheet c p s) ≡ Cost (planCost (instanceOf c) p)
-    unfolding lowest applies rightLength entriesInRange loadsServed buffersOf anyShort
+    unfolding firstRefusal applies rightLength entriesInRange loadsServed buffersOf anyShort
     fits-made fit room =
         let i = instanceOf c in
         let rack = every-all (i .slots) (λ t. leb (getD p t 0) (i .modules)) (λ t h. le-leb _ _ (fit .in-rack t h)) in
@@ -164,36 +164,36 @@ module _ (k : Planner) (c : List ℕ) (given : Accepted c) where
 
 -- Where the refusals that a planner adds give a cost, its table is allowed.
 added-table :
-    (k : Planner) (r : Request) (a : Answer) {n : ℕ} → lowest (applies r) (plannerRefusals k) a ≡ Cost n → tableAllowed k (shown r) ≡ true
+    (k : Planner) (r : Request) (a : Answer) {n : ℕ} → firstRefusal (applies r) (plannerRefusals k) a ≡ Cost n → tableAllowed k (shown r) ≡ true
 unfolding plannerRefusals applies tableAllowed
 added-table exact r a e = refl
-added-table coarse r a e = not-false _ (lowest-passed _ _ _ e .0)
+added-table coarse r a e = not-false _ (first-passed _ _ _ e .0)
 
 -- Where the refusals that a planner adds give a cost, no buffer is too short.
 added-room :
-    (k : Planner) (r : Request) (a : Answer) {n : ℕ} → lowest (applies r) (plannerRefusals k) a ≡ Cost n → anyShort (r .buffers) ≡ false
+    (k : Planner) (r : Request) (a : Answer) {n : ℕ} → firstRefusal (applies r) (plannerRefusals k) a ≡ Cost n → anyShort (r .buffers) ≡ false
 unfolding plannerRefusals applies
-added-room exact r a e = lowest-passed _ _ _ e .0
-added-room coarse r a e = lowest-passed _ _ _ (lowest-passed _ _ _ e .1) .0
+added-room exact r a e = first-passed _ _ _ e .0
+added-room coarse r a e = first-passed _ _ _ (first-passed _ _ _ e .1) .0
 
 -- Where a planner's table is allowed and no buffer is too short, the refusals that the planner adds do not apply.
 added-none : (k : Planner) (r : Request) (a : Answer) → tableAllowed k (shown r) ≡ true → anyShort (r .buffers) ≡ false →
-    lowest (applies r) (plannerRefusals k) a ≡ a
-unfolding plannerRefusals lowest applies tableAllowed
+    firstRefusal (applies r) (plannerRefusals k) a ≡ a
+unfolding plannerRefusals firstRefusal applies tableAllowed
 added-none exact r a allowed room = rw room
 added-none coarse r a allowed room = rw (allowed, room)
 
 -- A table that a planner does not allow is refused by 9.
 added-falls : (k : Planner) (r : Request) (a : Answer) → tableAllowed k (shown r) ≡ false →
-    lowest (applies r) (plannerRefusals k) a ≡ Refused NotMonotone
-unfolding plannerRefusals lowest applies tableAllowed
+    firstRefusal (applies r) (plannerRefusals k) a ≡ Refused NotMonotone
+unfolding plannerRefusals firstRefusal applies tableAllowed
 added-falls exact r a falls = absurd (true≢false falls)
 added-falls coarse r a falls = rw falls
 
 -- Where a planner's table is allowed, a buffer that is too short is refused by 10.
 added-short : (k : Planner) (r : Request) (a : Answer) → tableAllowed k (shown r) ≡ true → anyShort (r .buffers) ≡ true →
-    lowest (applies r) (plannerRefusals k) a ≡ Refused BufferTooShort
-unfolding plannerRefusals lowest applies tableAllowed
+    firstRefusal (applies r) (plannerRefusals k) a ≡ Refused BufferTooShort
+unfolding plannerRefusals firstRefusal applies tableAllowed
 added-short exact r a allowed short = rw short
 added-short coarse r a allowed short = rw (allowed, short)
 
@@ -223,7 +223,7 @@ module _ (k : Planner) (c p w : List ℕ) where
   planner-tests :
       Accepted c →
       answer (planShow k c p w) ≡
-      lowest (applies (onCard c (buffersOf (planShow k c p w)) nothing)) (plannerRefusals k)
+      firstRefusal (applies (onCard c (buffersOf (planShow k c p w)) nothing)) (plannerRefusals k)
       (Cost (plannedCost k (instanceOf c)))
   unfolding answer requestOf refusals successCost
   planner-tests = on-card-passed c _ _ _ _

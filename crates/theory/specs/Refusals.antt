@@ -1,9 +1,11 @@
--- The answer of every call: the lowest refusal that applies, or, where none applies, the cost.
+-- The answer of every call: the first refusal of its list that applies, which is the lowest one where no paragraph of document 02 sets an
+-- order, or, where none applies, the cost.
 use Prim.Native.Nat.{ℕ, _+_, _-_, _≤_, _<_}
 use mathlib.Core.Path.{_≡_, refl, sym, ap, _∙_}
 use mathlib.Core.Bool.{Bool, true, false, true≢false}
-use mathlib.Core.Logic.{⊎-elim}
-use mathlib.Core.List.{List, [], _∷_, map, List·Memᴰ, List·Memᴰ·head, List·Memᴰ·tail, List·Memᴰ·not-nil, List·Memᴰ·cases-cons, Memᴰ·map}
+use mathlib.Core.Logic.{_↔_, ⊎-elim}
+use mathlib.Core.List.{List, [], _∷_, _++_, map, List·Memᴰ, List·Memᴰ·head, List·Memᴰ·tail, List·Memᴰ·not-nil}
+use mathlib.Core.List.{List·Memᴰ·cases-cons, Memᴰ·map}
 use native.Mathlib.Nat.{le-refl, le-of-lt}
 use native.Mathlib.Omega.{arith}
 use lib.ListN.{length, getD}
@@ -17,49 +19,75 @@ use Rattle.model.specs.declared.Answer.{Answer}
 use Rattle.model.specs.declared.Answer.the-variants.{Cost, Refused}
 use Rattle.model.specs.Answers.{refusalNumber, numberOf}
 use Rattle.model.specs.Planners.{exact, coarse, plannerRefusals}
-use Rattle.model.specs.Calls.{Call, checkCard, runningCost, planShow, makeSheet, markSheet, roundCount}
-use Rattle.model.specs.Calls.{requestOf, applies, refusals, lowest, successCost, answer, Buffer, buffersOf, atExit, lent, buffersAtExit}
+use Rattle.model.specs.Calls.{Call, checkCard, runningCost, planShow, makeSheet, markSheet, roundCount, practiceCard, ownOrder}
+use Rattle.model.specs.Calls.{requestOf, applies, refusals, firstRefusal, successCost, answer, Buffer, buffersOf, atExit, lent, buffersAtExit}
 use Rattle.laws.specs.AnswerNumber.{number-zero}
-use Rattle.laws.specs.Lowest.{lowest-hit, lowest-skip, lowest-passed, lowest-through}
+use Rattle.laws.specs.FirstRefusal.{first-hit, first-skip, first-passed, first-through}
 
 -- A list that rises at each place is in order.
 ascends : (l : List ℕ) → every (length l - 1) (λ j. ltb (getD l j 0) (getD l (j + 1) 0)) ≡ true → InOrder _<_ l
 ascends l e = rising-in-order l (λ j h. ltb-true _ _ (every-at (length l - 1) _ e j (omega arith)))
 
--- The refusals of each call stand in the order of their numbers.
-pub refusals-ascend : (c : Call) → InOrder _<_ (map refusalNumber (refusals c))
-unfolding refusals plannerRefusals every
-refusals-ascend (checkCard c) = ascends _ refl
-refusals-ascend (runningCost c n l) = ascends _ refl
-refusals-ascend (planShow exact c p w) = ascends _ refl
-refusals-ascend (planShow coarse c p w) = ascends _ refl
-refusals-ascend (makeSheet c p s) = ascends _ refl
-refusals-ascend (markSheet c s) = ascends _ refl
-refusals-ascend (roundCount n m) = ascends _ refl
+-- No list in order begins with a number above the next one.
+falls : {a b : ℕ} {l : List ℕ} → b ≤ a → InOrder _<_ (a ∷ b ∷ l) → ⊥
+falls h (next above order) = let less = above _ (List·Memᴰ·head refl) in absurd (omega arith)
+
+-- The refusals of a call stand in the order of their numbers exactly if no paragraph of document 02 sets another order for it.
+pub refusals-ascend : (c : Call) → ownOrder c ≡ false ↔ InOrder _<_ (map refusalNumber (refusals c))
+unfolding refusals plannerRefusals every ownOrder
+refusals-ascend (checkCard c) = (λ e. ascends _ refl, λ order. refl)
+refusals-ascend (runningCost c n l) = (λ e. ascends _ refl, λ order. refl)
+refusals-ascend (planShow exact c p w) = (λ e. ascends _ refl, λ order. refl)
+refusals-ascend (planShow coarse c p w) = (λ e. ascends _ refl, λ order. refl)
+refusals-ascend (makeSheet c p s) = (λ e. ascends _ refl, λ order. refl)
+refusals-ascend (markSheet c s) = (λ e. ascends _ refl, λ order. refl)
+refusals-ascend (roundCount n m) = (λ e. ascends _ refl, λ order. refl)
+refusals-ascend (practiceCard s c) = (λ e. absurd (true≢false e), λ order. absurd (falls (omega arith) order))
 
 module _ (test : Refusal → Bool) where
-  -- The lowest refusal applies, and is one of the list.
+  -- The refusal that is found applies, and is one of the list.
   first-applies :
-      (xs : List Refusal) (n : ℕ) {x : Refusal} → lowest test xs (Cost n) ≡ Refused x → (test x ≡ true) × List·Memᴰ x xs
-  unfolding lowest
+      (xs : List Refusal) (n : ℕ) {x : Refusal} → firstRefusal test xs (Cost n) ≡ Refused x → (test x ≡ true) × List·Memᴰ x xs
+  unfolding firstRefusal
   first-applies [] n {x} e = let none : _≡_ {A = ℕ} 0 1 = cc in absurd (omega arith)
   first-applies (y ∷ ys) n {x} e =
       ⊎-elim
-      (λ (t : test y ≡ true). let same : x ≡ y = cc (lowest-hit test ys (Cost n) t) in (ap test same ∙ t, List·Memᴰ·head same))
+      (λ (t : test y ≡ true). let same : x ≡ y = cc (first-hit test ys (Cost n) t) in (ap test same ∙ t, List·Memᴰ·head same))
       (λ (t : test y ≡ false).
-      let (holds, later) = first-applies ys n (sym (lowest-skip test ys (Cost n) t) ∙ e) in
+      let (holds, later) = first-applies ys n (sym (first-skip test ys (Cost n) t) ∙ e) in
       (holds, List·Memᴰ·tail later))
       (true-or-false (test y))
 
-  -- In a list in order no refusal below the lowest one applies.
+  -- The refusal that is found stands behind refusals that do not apply.
+  first-behind :
+      (xs : List Refusal) (n : ℕ) {x : Refusal} → firstRefusal test xs (Cost n) ≡ Refused x →
+      (before : List Refusal) × (after : List Refusal) × (xs ≡ before ++ (x ∷ after)) ×
+      ((y : Refusal) → List·Memᴰ y before → test y ≡ false)
+  unfolding firstRefusal
+  first-behind [] n {x} e = let none : _≡_ {A = ℕ} 0 1 = cc in absurd (omega arith)
+  first-behind (z ∷ zs) n {x} e =
+      ⊎-elim
+      (λ (t : test z ≡ true).
+      let same : z ≡ x = cc (first-hit test zs (Cost n) t) in
+      ([], zs, ap (λ w. w ∷ zs) same, λ y m. absurd (List·Memᴰ·not-nil m)))
+      (λ (t : test z ≡ false).
+      let (before, after, split, none) = first-behind zs n (sym (first-skip test zs (Cost n) t) ∙ e) in (
+        z ∷ before,
+        after,
+        ap (λ l. z ∷ l) split,
+        λ y m. ⊎-elim (λ (here : y ≡ z). ap test here ∙ t) (none y) (List·Memᴰ·cases-cons m),
+      ))
+      (true-or-false (test z))
+
+  -- In a list in order no refusal below the one found applies.
   first-least :
-      (xs : List Refusal) (a : Answer) {x y : Refusal} → InOrder _<_ (map refusalNumber xs) → lowest test xs a ≡ Refused x →
+      (xs : List Refusal) (a : Answer) {x y : Refusal} → InOrder _<_ (map refusalNumber xs) → firstRefusal test xs a ≡ Refused x →
       List·Memᴰ y xs → test y ≡ true → refusalNumber x ≤ refusalNumber y
   first-least [] a order e m h = absurd (List·Memᴰ·not-nil m)
   first-least (z ∷ zs) a {x} {y} (next above order) e m h =
       ⊎-elim
       (λ (t : test z ≡ true).
-      let same : x ≡ z = cc (lowest-hit test zs a t) in
+      let same : x ≡ z = cc (first-hit test zs a t) in
       ⊎-elim
       (λ (first : y ≡ z). rw (same, first) (le-refl (refusalNumber z)))
       (λ (later : List·Memᴰ y zs). rw same (le-of-lt (above _ (Memᴰ·map refusalNumber later))))
@@ -67,35 +95,44 @@ module _ (test : Refusal → Bool) where
       (λ (t : test z ≡ false).
       ⊎-elim
       (λ (first : y ≡ z). absurd (true≢false (sym h ∙ ap test first ∙ t)))
-      (λ (later : List·Memᴰ y zs). first-least zs a order (sym (lowest-skip test zs a t) ∙ e) later h)
+      (λ (later : List·Memᴰ y zs). first-least zs a order (sym (first-skip test zs a t) ∙ e) later h)
       (List·Memᴰ·cases-cons m))
       (true-or-false (test z))
 
   -- Where the answer is a cost, no refusal of the list applies.
   none-applies :
-      (xs : List Refusal) (a : Answer) {n : ℕ} {x : Refusal} → lowest test xs a ≡ Cost n → List·Memᴰ x xs → test x ≡ false
+      (xs : List Refusal) (a : Answer) {n : ℕ} {x : Refusal} → firstRefusal test xs a ≡ Cost n → List·Memᴰ x xs → test x ≡ false
   none-applies [] a e m = absurd (List·Memᴰ·not-nil m)
   none-applies (y ∷ ys) a {x = x} e m =
-      let (first, rest) = lowest-passed test ys a e in
+      let (first, rest) = first-passed test ys a e in
       ⊎-elim (λ (same : x ≡ y). ap test same ∙ first) (none-applies ys a rest) (List·Memᴰ·cases-cons m)
 
 module _ (c : Call) where
   -- A refusal that is answered is one of the call's and applies.
-  pub lowest-applies : {x : Refusal} → answer c ≡ Refused x → (applies (requestOf c) x ≡ true) × List·Memᴰ x (refusals c)
+  pub answered-applies : {x : Refusal} → answer c ≡ Refused x → (applies (requestOf c) x ≡ true) × List·Memᴰ x (refusals c)
   unfolding answer
-  lowest-applies e = first-applies (applies (requestOf c)) (refusals c) (successCost c) e
+  answered-applies e = first-applies (applies (requestOf c)) (refusals c) (successCost c) e
 
-  -- A refusal that is answered is the lowest of the call's that applies.
-  pub lowest-least :
-      {x : Refusal} → answer c ≡ Refused x → (y : Refusal) → List·Memᴰ y (refusals c) → applies (requestOf c) y ≡ true →
-      refusalNumber x ≤ refusalNumber y
+  -- A refusal that is answered is the first of the call's list that applies.
+  pub answered-first :
+      {x : Refusal} → answer c ≡ Refused x →
+      (before : List Refusal) × (after : List Refusal) × (refusals c ≡ before ++ (x ∷ after)) ×
+      ((y : Refusal) → List·Memᴰ y before → applies (requestOf c) y ≡ false)
   unfolding answer
-  lowest-least e y m h = first-least (applies (requestOf c)) (refusals c) (Cost (successCost c)) (refusals-ascend c) e m h
+  answered-first e = first-behind (applies (requestOf c)) (refusals c) (successCost c) e
+
+  -- Where no paragraph of document 02 sets an order, a refusal that is answered is the lowest of the call's that applies.
+  pub lowest-least :
+      ownOrder c ≡ false → {x : Refusal} → answer c ≡ Refused x → (y : Refusal) → List·Memᴰ y (refusals c) →
+      applies (requestOf c) y ≡ true → refusalNumber x ≤ refusalNumber y
+  unfolding answer
+  lowest-least plain e y m h =
+      first-least (applies (requestOf c)) (refusals c) (Cost (successCost c)) (refusals-ascend c .0 plain) e m h
 
   -- An answer with number 0 is the cost of the call.
   pub succeeded : numberOf (answer c) ≡ 0 → answer c ≡ Cost (successCost c)
   unfolding answer
-  succeeded e = lowest-through _ (refusals c) (Cost (successCost c)) _ (number-zero _ e)
+  succeeded e = first-through _ (refusals c) (Cost (successCost c)) _ (number-zero _ e)
 
   -- Where a cost is answered, none of the call's refusals applies, and the cost is that of the call.
   pub accepted-none :

@@ -10,7 +10,7 @@ use borrow.Fn.PlainCycle.{Measures, is, falls, and}
 use Rattle.listing.proofs.put_number.Reads as own
 use Rattle.listing.proofs.put_number.Kinds as kinds
 use Rattle.listing.proofs.+put_number.Lts-put_number as lts
-use Rattle.listing.proofs.put.Reads as put-reads
+use Rattle.buffers.proofs.put.Reads as put-reads
 use Rattle.listing.proofs.+put_number.{statement}
 use Rattle.listing.proofs.+put_number.Tie.{close}
 

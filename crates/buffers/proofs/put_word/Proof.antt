@@ -2,14 +2,14 @@ use Prim.Native.Nat.{_-_}
 use native.Mathlib.Omega.{arith}
 use lib.ListN.{length}
 use Rattle.lists.specs.Writing.{RowsWritten, elementText, whole-room, whole-written, rows-none, rows-room, rows-more, rows-all}
-use Rattle.listing.proofs.put_word.Statement.{statement}
-use Rattle.listing.proofs.put_word.Tie as tie
+use Rattle.buffers.proofs.put_word.Statement.{statement}
+use Rattle.buffers.proofs.put_word.Tie as tie
 
 abbrev Inv-loop : tie.InvT-loop
-Inv-loop out₀ at word place₀ k₀ out place k = RowsWritten (elementText word) (length word) at out₀ k out place
+Inv-loop out₀ at word place₀ j₀ out place j = RowsWritten (elementText word) (length word) at out₀ j out place
 
 abbrev μ-loop : tie.MeasureT-loop
-μ-loop out₀ at word place₀ k₀ out place k = length word - k
+μ-loop out₀ at word place₀ j₀ out place j = length word - j
 
 loop-holds : tie.Need-loop-holds Inv-loop μ-loop
 loop-holds c = search (rows-none, whole-room)

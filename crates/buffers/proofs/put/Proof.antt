@@ -1,8 +1,8 @@
 use native.Mathlib.Omega.{arith}
 use Rattle.lists.specs.Writing.{written-one}
 use borrow.Author.Needs.{needs}
-use Rattle.listing.proofs.put.Statement.{statement}
-use Rattle.listing.proofs.put.Tie as tie
+use Rattle.buffers.proofs.put.Statement.{statement}
+use Rattle.buffers.proofs.put.Tie as tie
 
 returns : tie.Need-returns
 returns c = written-one _ _ _ (omega arith)

@@ -1,0 +1,86 @@
+-- The practice show of a start: the bounds of its fields, and that its card is accepted, also by the coarse planner. All of it holds by the
+-- way the show is made: its differences are never negative and never fall.
+use Prim.Native.Nat.{ℕ, zero, suc, _+_, _*_, _%_, _≤_, _<_}
+use mathlib.Core.Path.{_≡_}
+use mathlib.Core.Bool.{true}
+use native.Mathlib.Nat.{mod-lt}
+use native.Mathlib.Numerals.{add-one}
+use native.Mathlib.Omega.{arith}
+use lib.Dec.{leb}
+use borrow.Author.Tests.{le-leb}
+use Rattle.lists.specs.Tests.{and-both, every-all}
+use Rattle.model.specs.Instance.{cardBytes, cardLength, inOrder, pricesInRange, tableInRange, convex, convexAt, loadsInRange, neverFalls}
+use Rattle.model.specs.Practice.{drawn, practiceDifference, practiceEntry, practiceShow, longestPractice}
+use Rattle.model.specs.Calls.{Accepted}
+use Rattle.laws.specs.Encoding.{in-order-accepted, card-bytes-length}
+
+module _ (start : ℕ) where
+  -- m and Q are from 1 to 200, T is at most 64.
+  pub practice-rack :
+      (1 ≤ practiceShow start .modules) × (practiceShow start .modules ≤ 200) ×
+      (1 ≤ practiceShow start .topStep) × (practiceShow start .topStep ≤ 200) × (practiceShow start .slots ≤ 64)
+  unfolding practiceShow
+  practice-rack = search arith
+
+  -- Difference k is at most 10 + 3k.
+  pub difference-most : (k : ℕ) → practiceDifference start k ≤ 10 + 3 * k
+  unfolding practiceDifference
+  difference-most zero = omega arith
+  difference-most (suc k) = omega (arith, difference-most k)
+
+  -- Up to entry 200 each difference is at most 610.
+  pub entry-most : (k : ℕ) → k ≤ 200 → practiceEntry start k ≤ 1000 + 610 * k
+  unfolding practiceEntry
+  entry-most zero h = omega arith
+  entry-most (suc k) h = omega (arith, entry-most k (omega arith), difference-most k)
+
+  -- The table never falls, since no difference is negative.
+  pub practice-never-falls : neverFalls (practiceShow start .topStep) (practiceShow start .table) ≡ true
+  unfolding neverFalls practiceShow practiceEntry
+  practice-never-falls =
+      every-all _ _ (λ k h. rw (add-one k) (le-leb (practiceEntry start k) (practiceEntry start (suc k)) (omega arith)))
+
+  -- The table is convex, since no difference is below the one before it.
+  practice-convex : convex (practiceShow start .topStep) (practiceShow start .table) ≡ true
+  unfolding convex convexAt practiceShow practiceEntry practiceDifference
+  practice-convex =
+      every-all _ _
+      (λ k h.
+      let next : k + 2 ≡ suc (suc k) = omega arith in
+      rw (add-one k, next)
+      (le-leb (2 * practiceEntry start (suc k)) (practiceEntry start k + practiceEntry start (suc (suc k))) (omega arith)))
+
+  -- Every price, entry and load keeps its bound.
+  practice-prices : pricesInRange (practiceShow start) ≡ true
+  unfolding pricesInRange tableInRange practiceShow
+  practice-prices =
+      let (_, _, _, top, _) = practice-rack in
+      let entries = every-all (practiceShow start .topStep + 1) (λ k. leb (practiceEntry start k) 1000000)
+      (λ k h. le-leb (practiceEntry start k) 1000000 (omega (arith, entry-most k (omega arith)))) in
+      let up = le-leb (practiceShow start .powerUp) 500000000 (omega arith) in
+      let down = le-leb (practiceShow start .powerDown) 500000000 (omega arith) in
+      and-both up (and-both down entries)
+
+  practice-loads : loadsInRange (practiceShow start) ≡ true
+  unfolding loadsInRange practiceShow
+  practice-loads =
+      let bound = practiceShow start .modules * practiceShow start .topStep in
+      every-all _ _
+      (λ t h. le-leb (practiceShow start .load t) bound (omega (arith, mod-lt (drawn start (7 + practiceShow start .topStep + t)) {m = bound + 1} (omega arith))))
+
+  -- A practice show is in order.
+  pub practice-in-order : inOrder (practiceShow start) ≡ true
+  unfolding inOrder
+  practice-in-order =
+      let (some, most, one, top, slots) = practice-rack in
+      and-both (and-both (and-both (le-leb _ _ some) (le-leb _ _ most)) (and-both (le-leb _ _ one) (le-leb _ _ top)))
+      (and-both (le-leb (practiceShow start .slots) 1024 (omega arith)) (and-both practice-prices (and-both practice-convex practice-loads)))
+
+  -- Every practice card is accepted.
+  pub practice-accepted : Accepted (cardBytes (practiceShow start))
+  practice-accepted = in-order-accepted (practiceShow start) practice-in-order
+
+  -- No practice card is longer than the longest one.
+  pub practice-length : cardLength (practiceShow start) ≤ longestPractice
+  unfolding cardLength
+  practice-length = let (_, _, _, top, slots) = practice-rack in omega arith

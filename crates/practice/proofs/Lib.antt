@@ -1,0 +1,5 @@
+pub mod Fields
+pub mod Table
+pub mod Loads
+pub mod Parts
+pub mod Answers

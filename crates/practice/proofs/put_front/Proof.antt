@@ -1,0 +1,13 @@
+use borrow.Author.Needs.{needs}
+use Rattle.lists.specs.Bytes.{bytesOf}
+use Rattle.lists.specs.Writing.{written-more}
+use Rattle.practice.proofs.put_front.Statement.{statement}
+use Rattle.practice.proofs.put_front.Tie as tie
+
+returns : tie.Need-returns
+unfolding bytesOf
+returns c = search written-more
+
+pub put-front-spec : {M : Type 1} → statement M
+put-front-spec =
+    tie.close (tie.spec (λ c. search needs) (λ c κs. search needs) (λ c κs. search needs) (λ c. search needs) returns)

@@ -1,0 +1,160 @@
+-- Practice shows (document 02, §1): the generator never gets stuck and keeps different starts apart, and every card is accepted and planned.
+use Prim.Native.Nat.{ℕ, zero, suc, _+_, _*_, _/_, _%_, _^_, _≤_, _<_}
+use mathlib.Core.Path.{_≡_, refl, sym, ap, _∙_}
+use mathlib.Core.Bool.{true}
+use mathlib.Core.Logic.{⊎-elim}
+use mathlib.Core.List.{List}
+use native.Mathlib.Nat.{mod-lt, mod-eq-of-lt, mul-add-mod-self-left, mul-mod-right, div-add-mod', eq-zero-or-pos}
+use native.Mathlib.Omega.{arith}
+use lib.Bits.{xor-lt}
+use lib.ListN.{length}
+use borrow.Author.Tests.{ne-eqb, le-ltb}
+use Rattle.lists.specs.Tests.{every-same}
+use Rattle.lists.specs.Bits.{xor-none, xor-left-linear, xor-right-linear, linear-injective}
+use Rattle.model.specs.Answers.{numberOf}
+use Rattle.model.specs.Instance.{instanceOf, cardBytes, cardLength, neverFalls}
+use Rattle.model.specs.Planners.{Planner, exact, coarse, tableAllowed}
+use Rattle.model.specs.Practice.{states, low32, xorLeft, xorRight, draw, drawn, practiceShow, longestPractice}
+use Rattle.model.specs.Calls.{practiceCard, startsAtZero, buffersOf, anyShort, requestOf, applies, refusals, firstRefusal, answer, Accepted}
+use Rattle.model.specs.Calls.{atExit, buffersAtExit, cardAtExit}
+use Rattle.model.specs.Promises.{frontCard, AlwaysPlanned}
+use Rattle.laws.specs.Encoding.{in-order-fits, card-bytes-length, card-bytes-show, front-card}
+use Rattle.laws.specs.Practice.{practice-in-order, practice-never-falls, practice-accepted, practice-length}
+use Rattle.theory.specs.Refusals.{succeeded}
+use Rattle.theory.specs.Outcomes.{always-planned}
+
+-- The three steps of a draw keep to 32 bits.
+left-below : (k s : ℕ) → s < states → xorLeft k s < states
+unfolding xorLeft
+left-below k s h = xor-lt 32 s (low32 (s * 2 ^ k)) h (mod-lt (s * 2 ^ k) (omega arith))
+
+right-below : (s : ℕ) → s < states → xorRight 17 s < states
+unfolding xorRight
+right-below s h = xor-lt 32 s (s / 2 ^ 17) h (omega arith)
+
+-- A number below m that a multiple of m brings to another multiple is 0.
+none-below : (m s a b : ℕ) → s < m → m * a + s ≡ m * b → s ≡ 0
+none-below m s a b h e = sym (mod-eq-of-lt h) ∙ sym (mul-add-mod-self-left m a s) ∙ ap (λ (x : ℕ). x % m) e ∙ mul-mod-right m b
+
+-- A step gives 0 for 0 alone. A left shift by 13 that leaves s as it is does so three times over, and a shift by 39 leaves nothing of the
+-- low 32 bits; for a shift by 5 seven times are enough. The large factors are 1 + 2^13 + 2^26 and 1 + 2^5 + .. + 2^30.
+first-none : (s : ℕ) → s < states → xorLeft 13 s ≡ 0 → s ≡ 0
+unfolding xorLeft
+first-none s h e =
+    let q = s * 2 ^ 13 / states in
+    let same : s ≡ low32 (s * 2 ^ 13) = xor-none s (low32 (s * 2 ^ 13)) e in
+    none-below states s (67117057 * q) (2 ^ 7 * s) h (omega (arith, div-add-mod' (s * 2 ^ 13) states))
+
+second-none : (s : ℕ) → s < states → xorRight 17 s ≡ 0 → s ≡ 0
+unfolding xorRight
+second-none s h e = omega (arith, xor-none s (s / 2 ^ 17) e)
+
+third-none : (s : ℕ) → s < states → xorLeft 5 s ≡ 0 → s ≡ 0
+unfolding xorLeft
+third-none s h e =
+    let q = s * 2 ^ 5 / states in
+    let same : s ≡ low32 (s * 2 ^ 5) = xor-none s (low32 (s * 2 ^ 5)) e in
+    none-below states s (1108378657 * q) (2 ^ 3 * s) h (omega (arith, div-add-mod' (s * 2 ^ 5) states))
+
+-- A draw is a number of 32 bits.
+draw-below : (s : ℕ) → s < states → draw s < states
+unfolding draw
+draw-below s h = left-below 5 _ (right-below _ (left-below 13 s h))
+
+-- A draw gives 0 for 0 alone.
+draw-none : (s : ℕ) → s < states → draw s ≡ 0 → s ≡ 0
+unfolding draw
+draw-none s h e =
+    let one = left-below 13 s h in
+    first-none s h (second-none _ one (third-none _ (right-below _ one) e))
+
+-- Every draw of a start is a number of 32 bits.
+pub drawn-below : (start n : ℕ) → start < states → drawn start n < states
+unfolding drawn
+drawn-below start zero h = h
+drawn-below start (suc n) h = draw-below (drawn start n) (drawn-below start n h)
+
+-- No start from 1 on ever draws 0, so the generator never gets stuck: 'Start 0 would repeat itself for ever'.
+pub never-zero : (start n : ℕ) → 1 ≤ start → start < states → 1 ≤ drawn start n
+unfolding drawn
+never-zero start zero some h = some
+never-zero start (suc n) some h =
+    ⊎-elim
+    (λ (none : drawn start (suc n) ≡ 0).
+    let before = draw-none (drawn start n) (drawn-below start n h) none in
+    absurd (omega (arith, never-zero start n some h)))
+    (λ (pos : 0 < drawn start (suc n)). pos)
+    (eq-zero-or-pos (drawn start (suc n)))
+
+-- Start 0 draws 0 for ever.
+pub zero-repeats : (n : ℕ) → drawn 0 n ≡ 0
+unfolding drawn draw xorLeft xorRight
+zero-repeats zero = refl
+zero-repeats (suc n) = rw (zero-repeats n)
+
+-- Different numbers of 32 bits have different draws, since each step is linear in exclusive or and gives 0 for 0 alone.
+draw-apart : (a b : ℕ) → a < states → b < states → draw a ≡ draw b → a ≡ b
+unfolding draw xorLeft xorRight
+draw-apart a b ha hb e =
+    let la = left-below 13 a ha in
+    let lb = left-below 13 b hb in
+    let third = linear-injective 32 (xor-left-linear 5 32) third-none _ _ (right-below _ la) (right-below _ lb) e in
+    let second = linear-injective 32 (xor-right-linear 17) second-none _ _ la lb third in
+    linear-injective 32 (xor-left-linear 13 32) first-none a b ha hb second
+
+-- Different starts are never in one state after the same number of draws.
+pub starts-apart : (a b n : ℕ) → a < states → b < states → drawn a n ≡ drawn b n → a ≡ b
+unfolding drawn
+starts-apart a b zero ha hb e = e
+starts-apart a b (suc n) ha hb e =
+    starts-apart a b n ha hb (draw-apart _ _ (drawn-below a n ha) (drawn-below b n hb) e)
+
+module _ (start : ℕ) where
+  -- The card of the practice show.
+  abbrev practised : List ℕ
+  practised = cardBytes (practiceShow start)
+
+  -- The table that is read from the card never falls either.
+  read-never-falls : neverFalls (instanceOf practised .topStep) (instanceOf practised .table) ≡ true
+  unfolding neverFalls
+  read-never-falls =
+      let same = card-bytes-show (practiceShow start) (in-order-fits _ (practice-in-order start)) in
+      rw (same .topStep)
+      (every-same (practiceShow start .topStep) _ _
+      (λ k h. rw (same .table k (omega arith), same .table (k + 1) (omega arith))) ∙
+      practice-never-falls start)
+
+  -- 'Every card it writes is accepted, also by the coarse planner': with buffers long enough either planner plans it.
+  pub practice-planned : (k : Planner) → AlwaysPlanned k practised
+  unfolding tableAllowed
+  practice-planned exact p w = always-planned exact practised p w (practice-accepted start) refl
+  practice-planned coarse p w = always-planned coarse practised p w (practice-accepted start) read-never-falls
+
+  module _ (area : List ℕ) where
+    -- After number 0 the card is what stands at the front of the area.
+    pub practice-front : numberOf (answer (practiceCard start area)) ≡ 0 → frontCard (cardAtExit (practiceCard start area)) ≡ practised
+    unfolding cardAtExit buffersAtExit buffersOf atExit
+    practice-front e =
+        rw (succeeded (practiceCard start area) e) (front-card (practiceShow start) (practice-in-order start) _)
+
+    -- That card is accepted, planned by either planner, and at most as long as the longest one.
+    pub practice-writes :
+        numberOf (answer (practiceCard start area)) ≡ 0 →
+        Accepted (frontCard (cardAtExit (practiceCard start area))) ×
+        ((k : Planner) → AlwaysPlanned k (frontCard (cardAtExit (practiceCard start area)))) ×
+        (length (frontCard (cardAtExit (practiceCard start area))) ≤ longestPractice)
+    practice-writes e =
+        rw (practice-front e) (
+          practice-accepted start,
+          practice-planned,
+          omega (arith, card-bytes-length (practiceShow start), practice-length start),
+        )
+
+    -- An area as long as the longest card is never refused by 10.
+    pub practice-enough : 1 ≤ start → longestPractice ≤ length area → numberOf (answer (practiceCard start area)) ≡ 0
+    unfolding answer requestOf refusals firstRefusal applies startsAtZero buffersOf anyShort
+    practice-enough some long =
+        let asked = practice-length start in
+        let room : cardLength (practiceShow start) ≤ length area = omega arith in
+        let not-zero : start ≡ 0 → ⊥ = λ e. absurd (omega arith) in
+        rw (ne-eqb start 0 not-zero, le-ltb _ _ room)
