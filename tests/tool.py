@@ -1,14 +1,16 @@
 #!/usr/bin/env python3
-"""The command `lamp`: what it prints, its exit status, and that its output is written whole or the status is 2."""
+"""The command `lamp`: what it prints, the files it writes, its exit status, and that its output is written whole or the status is 2."""
 import os
 import pathlib
 import shutil
 import subprocess
 import sys
 import tempfile
+import time
 import xml.etree.ElementTree as ElementTree
 
 from cards import card
+from practice import practice_card
 
 ROOT = pathlib.Path(__file__).resolve().parent.parent
 LAMP = ROOT / "tool" / "target" / "release" / "lamp"
@@ -216,7 +218,7 @@ def wrong_use(folder):
         expect(f"wrong use {words}", lamp(*words.split()), 2, b"", f"usage: lamp {words.split()[0]} ")
     expect("standard input twice", lamp("mark", "-", "-"), 2, b"", "standard input can be read once only")
     require("help", lamp("--help")[0] == 0 and lamp("help")[1] == lamp("-h")[1] == lamp("--help")[1])
-    for command in ("card", "show", "check", "key", "page", "picture", "mark", "cost", "round"):
+    for command in ("card", "practice", "show", "check", "key", "page", "picture", "mark", "cost", "round"):
         status, out, err = lamp(command, "--help")
         require(f"help of {command}", status == 0 and out.startswith(f"usage: lamp {command} ".encode()) and not err)
         require(f"{command} is in the help", f"\n  lamp {command} ".encode() in lamp("--help")[1])
@@ -292,13 +294,14 @@ def to_closed_pipe(line):
 
 
 COMMANDS = ("card", "show", "check", "key", "page", "picture")
+CARD = '"$1/a.card"'
 
 
 def lost_output(folder):
     """What cannot be written whole has status 2."""
-    for command in (*COMMANDS, "mark", "cost", "round", "--help"):
-        words = {"mark": '"$1/a.card" "$1/d.sheet"', "cost": '"$1/a.card" 3 4', "round": "5 6", "--help": ""}.get(command, '"$1/a.card"')
-        line = f'"$0" {command} {words}'
+    others = {"practice": "1950", "mark": '"$1/a.card" "$1/d.sheet"', "cost": '"$1/a.card" 3 4', "round": "5 6", "--help": ""}
+    for command in (*COMMANDS, *others):
+        line = f'"$0" {command} {others.get(command, CARD)}'
         expect(f"{command} to a full device", shell(f"{line} > /dev/full"), 2, b"", "was not written whole: No space left on device")
         expect(f"{command} to a closed output", shell(f"{line} >&-"), 2, b"", "was not written whole: Bad file descriptor")
         expect(f"{command} to a closed pipe", to_closed_pipe(line), 2, b"", "was not written whole: Broken pipe")
@@ -310,15 +313,190 @@ def lost_output(folder):
 
 
 def small_disk(folder):
-    """A file system of 16 kB: the page of a large card does not fit."""
+    """A file system of 16 kB: the page of a large card does not fit, nor do nine cards."""
     (folder / "large.card").write_bytes(card(m=200, loads=(90,) * 300))
     (folder / "disk").mkdir()
-    line = 'mount -t tmpfs -o size=16k none disk && cd disk && "$0" page ../large.card > key.html; echo "status $?" >&2'
-    found = shell(f"unshare -m sh -c '{line}' \"$0\"", cwd=folder)
-    if b"status" not in found[2] or b"mount" in found[2]:
+    full = "No space left on device"
+    on_disk(folder, '"$0" page ../large.card > key.html', b"key.html\n", f"was not written whole: {full}", "status 2")
+    on_disk(folder, '"$0" practice 1..9 --into .', b"", f"{full}; nothing was written", "status 2")
+    on_disk(folder, '"$0" practice 1..3 --into .', b"1.card\n2.card\n3.card\n", "status 0")
+    line = '"$0" practice 1..2 --into . && mount -o remount,ro . && "$0" practice 1..2 --into . && echo both && "$0" practice 2..3 --into .'
+    on_disk(folder, line, b"both\n1.card\n2.card\n", ".: Read-only file system; nothing was written", "status 2")
+
+
+def on_disk(folder, line, left, *complaints):
+    """Runs a line in a new file system of 16 kB, lists its files, and prints the line's status to standard error."""
+    mounted = f'mount -t tmpfs -o size=16k none disk && cd disk && {{ {line}; echo "status $?" >&2; ls; }}'
+    found = shell(f"unshare -m sh -c '{mounted}' \"$0\"", cwd=folder)
+    if b"status" not in found[2]:
         print(f"tool: skipped, no small file system can be made here: {found[2].decode().strip()}")
         return
-    expect("a full file system", found, 0, b"", "was not written whole: No space left on device", "status 2")
+    expect(f"a small file system: {line}", found, 0, left, *complaints)
+
+
+def practice_cards():
+    """Practice cards for standard output are those of the plain generator."""
+    printed = b"1950: 44 4C 53 01 00 60 03 00 00 BE 01 00 00 02 02 00 00 AA 01 00 00 AD 01 00 00 B2 01 00 00 BA 01 00 00\n"
+    printed += b"4294967255: 44 4C 53 01 00 76 02 01 00 17 00 00 00 7B 02 00 00 F5 02 00 00 FA 02 00 00 02 03 00 00 C5 00\n"
+    plain = subprocess.run([sys.executable, ROOT / "tests" / "practice.py", "1950", "4294967255"], capture_output=True)
+    expect("the plain generator", (plain.returncode, plain.stdout, plain.stderr), 0, printed)
+    for number in (*range(1, 41), 1950, 6548, 4294967255, 4294967295):
+        expect(f"practice card {number}", lamp("practice", str(number)), 0, practice_card(number))
+    accepted = b"accepted: 118 modules, top step 2, 1 slot, warm-up 23, cool-down 635\n"
+    expect("a practice card, checked", shell('"$0" practice 4294967255 | "$0" check -'), 0, accepted)
+    expect("a practice card, coarse", shell('"$0" practice 6548 | "$0" key --coarse - | grep -c "^slot "'), 0, b"64\n")
+
+
+def new_folder(folder, name):
+    made = folder / name
+    made.mkdir()
+    return made
+
+
+def contents(folder):
+    """The bytes of each file of a folder, and None for what is no file."""
+    return {path.name: path.read_bytes() if path.is_file() else None for path in folder.iterdir()}
+
+
+def cards(*numbers):
+    """The files of practice cards."""
+    return {f"{number}.card": practice_card(number) for number in numbers}
+
+
+PRACTICE_USAGE = "usage: lamp practice NUMBER [--into DIR]"
+WRONG_PRACTICE = {
+    (): ("practice: 0 words where it takes NUMBER", PRACTICE_USAGE),
+    ("1", "2"): ("practice: 2 words where it takes NUMBER", PRACTICE_USAGE),
+    ("",): ("NUMBER is empty",),
+    ("x",): ("NUMBER x is not a number",),
+    ("-",): ("NUMBER - is not a number",),
+    ("1,950",): ("NUMBER 1,950 is not a number",),
+    ("1-30", "--into", "into"): ("NUMBER 1-30 is not a number",),
+    ("007",): ("NUMBER 007 begins with a needless 0",),
+    ("4294967296",): ("NUMBER 4294967296 is above 4,294,967,295",),
+    ("1" * 30, "--into", "into"): ("is above 4,294,967,295",),
+    ("-5",): ("practice: no option -5", PRACTICE_USAGE),
+    ("5", "--coarse"): ("practice: no option --coarse", PRACTICE_USAGE),
+    ("1..3",): ("practice: the cards of 1..3 need a folder: --into DIR",),
+    ("5..5",): ("practice: the cards of 5..5 need a folder: --into DIR",),
+    ("4..3", "--into", "into"): ("FIRST 4 is above LAST 3",),
+    ("..3", "--into", "into"): ("FIRST is empty",),
+    ("1..", "--into", "into"): ("LAST is empty",),
+    ("1...3", "--into", "into"): ("LAST .3 is not a number",),
+    ("1..4294967296", "--into", "into"): ("LAST 4294967296 is above 4,294,967,295",),
+    ("1..10001", "--into", "into"): ("1..10001 is 10,001 cards; at most 10,000 are written at a time",),
+    ("0..4294967295", "--into", "into"): ("is 4,294,967,296 cards; at most 10,000",),
+    ("5", "--into"): ("practice: --into names no folder", PRACTICE_USAGE),
+    ("5", "--into", ""): ("practice: --into names no folder", PRACTICE_USAGE),
+    ("5", "--into", "into", "--into", "into"): ("practice: --into names two folders", PRACTICE_USAGE),
+    ("5", "--into", "none"): ("none: no such folder; make it first",),
+    ("5", "--into", "a file"): ("a file: not a folder",),
+    ("5", "--into", "a file/x"): ("a file/x: Not a directory",),
+}
+
+
+def wrong_practice(folder):
+    """What is no number, no range and no folder is told, and nothing is written."""
+    into = new_folder(folder, "into")
+    (folder / "a file").write_bytes(b"")
+    for words, complaints in WRONG_PRACTICE.items():
+        expect(f"practice {words}", lamp("practice", *words, cwd=folder), 2, b"", *complaints)
+    zero = "refused 14: start 0 of a practice card\n  practice cards have the numbers 1 to 4,294,967,295\n"
+    for words in (["0"], ["0", "--into", into], ["0..3", "--into", into], ["0", "--into", "none"]):
+        expect(f"practice {words}", lamp("practice", *words, cwd=folder), 1, b"", zero)
+    require("nothing is written by wrong use", contents(into) == {} and not (folder / "none").exists())
+
+
+def practice_files(folder):
+    into = new_folder(folder, "some cards")
+    expect("a range", lamp("practice", "28..31", "--into", into), 0, b"")
+    require("its cards", contents(into) == cards(28, 29, 30, 31))
+    before = (into / "30.card").stat()
+    expect("a range over it", lamp("practice", "--into", "some cards", "27..32", cwd=folder), 0, b"")
+    require("its cards too", contents(into) == cards(*range(27, 33)))
+    after = (into / "30.card").stat()
+    require("a card that is there is left alone", (before.st_ino, before.st_mtime_ns) == (after.st_ino, after.st_mtime_ns))
+    expect("one number", lamp("practice", "6548", "--into", into), 0, b"")
+    expect("the last number", lamp("practice", "4294967295..4294967295", "--into", f"{into}/"), 0, b"")
+    expect("with all streams closed", shell('"$0" practice 7 --into "some cards" <&- >&- 2>&-', cwd=folder), 0, b"")
+    require("one each", contents(into) == cards(*range(27, 33), 6548, 4294967295, 7))
+    new_folder(folder, "-odd\n")
+    expect("a folder with an odd name", lamp("practice", "5", "--into", "-odd\n", cwd=folder), 0, b"")
+    require("its card", contents(folder / "-odd\n") == cards(5))
+    (folder / "linked").symlink_to(into)
+    (into / "9.card").symlink_to("7.card")
+    (folder / "elsewhere.card").write_bytes(practice_card(10))
+    (into / "10.card").symlink_to(folder / "elsewhere.card")
+    expect("links", lamp("practice", "10..11", "--into", folder / "linked"), 0, b"")
+    require("a link to the card is left alone", (into / "10.card").is_symlink() and (into / "11.card").read_bytes() == practice_card(11))
+    expect("a link to another card", lamp("practice", "8..9", "--into", into), 2, b"", f"{into}/9.card: another file of this name is there")
+
+
+def no_practice_files(folder):
+    """A card whose name is taken is not written, nor is any other, and what was there is as it was."""
+    kinds = {
+        "another file": lambda path: path.write_bytes(b"a teacher's own card"),
+        "a file of the same length": lambda path: path.write_bytes(practice_card(5)[:-1] + b"\xff"),
+        "a longer file": lambda path: path.write_bytes(practice_card(5) + b"\0"),
+        "a folder": lambda path: path.mkdir(),
+        "a pipe": os.mkfifo,
+        "a link to nothing": lambda path: path.symlink_to("nothing"),
+    }
+    for name, make in kinds.items():
+        into = new_folder(folder, name)
+        make(into / "5.card")
+        before = contents(into)
+        for words in ("5", "1..9", "1..10000"):
+            found = lamp("practice", words, "--into", into, timeout=60)
+            expect(f"{name} for {words}", found, 2, b"", f"{into}/5.card: another file of this name is there; nothing was written")
+        require(f"{name} is left alone", contents(into) == before)
+
+
+def failed_practice_files(folder):
+    """Where one card cannot be written whole, or not moved to its place, none is left."""
+    into = new_folder(folder, "no card")
+    limited = shell('ulimit -f 0; "$0" practice 1..3 --into "no card"', cwd=folder)
+    expect("cards too large", limited, 2, b"", "no card/1.card: File too large; nothing was written")
+    expect("a folder of the system", lamp("practice", "1", "--into", "/proc"), 2, b"", "lamp: /proc: ", "; nothing was written")
+    (folder / "rename.c").write_text(THIRD_RENAME)
+    line = 'gcc -shared -fPIC rename.c -o rename.so && LD_PRELOAD="$PWD/rename.so" "$0" practice 1..5 --into "no card"'
+    found = shell(line, cwd=folder)
+    expect("the third card cannot be moved", found, 2, b"", "no card/3.card: No space left on device; nothing was written")
+    require("nothing is left", contents(into) == {})
+
+
+THIRD_RENAME = """
+#include <errno.h>
+#include <fcntl.h>
+#include <stdio.h>
+/* The third file that is moved finds no space. */
+int rename(const char *from, const char *to)
+{
+    static int calls;
+    if (++calls != 3)
+        return renameat(AT_FDCWD, from, AT_FDCWD, to);
+    errno = ENOSPC;
+    return -1;
+}
+"""
+
+
+def many_practice_files(folder):
+    """Runs at the same time, and one that is stopped, leave no card that is not whole."""
+    into = new_folder(folder, "many")
+    new_folder(into, "lamp.0.part")
+    runs = [subprocess.Popen([LAMP, "practice", "1..60", "--into", into]) for _ in range(4)]
+    require("four runs at once", [run.wait() for run in runs] == [0] * 4)
+    require("their cards", contents(into) == {**cards(*range(1, 61)), "lamp.0.part": None})
+    run = subprocess.Popen([LAMP, "practice", "61..9000", "--into", into])
+    for _ in range(600):
+        if (into / "lamp.1.part").exists() or run.poll() is not None:
+            break
+        time.sleep(0.005)
+    run.kill()
+    run.wait()
+    left = {name: data for name, data in contents(into).items() if data is not None}
+    require("a run that was stopped", all(practice_card(int(name.removesuffix(".card"))) == data for name, data in left.items()))
 
 
 def without_references(name, root):
@@ -504,11 +682,14 @@ struct lamp_answer lamp_sheet(const uint8_t *card, size_t card_len, const uint8_
 struct lamp_answer lamp_mark(const uint8_t *card, size_t card_len, const uint8_t *sheet, size_t sheet_len)
 { (void)card, (void)card_len, (void)sheet, (void)sheet_len; return (struct lamp_answer){0, 33}; }
 struct lamp_answer lamp_rounded_count(uint64_t count, uint64_t modules) { (void)count, (void)modules; return (struct lamp_answer){0, 0}; }
+struct lamp_answer lamp_practice_card(uint32_t start, uint8_t *card, size_t card_len)
+{ (void)start, (void)card, (void)card_len; return (struct lamp_answer){0, 0}; }
 """
 
 
 def a_wrong_library(folder):
-    """The tool over a library that contradicts itself prints no key: two costs that differ, an unknown number, a refusal with a cost."""
+    """The tool over a library that contradicts itself prints no key: two costs that differ, an unknown number, a refusal with a cost, a
+    card that is none."""
     shutil.copytree(ROOT / "tool", folder / "tool", ignore=shutil.ignore_patterns("target"))
     (folder / "target" / "staticlib").mkdir(parents=True)
     (folder / "wrong.c").write_text(WRONG)
@@ -516,11 +697,13 @@ def a_wrong_library(folder):
     build += "cargo build --release --offline --quiet --manifest-path tool/Cargo.toml"
     subprocess.run(["sh", "-c", build, "sh", ROOT], cwd=folder, check=True)
     wrong = folder / "tool" / "target" / "release" / "lamp"
-    a = SAMPLES / "a.card"
-    for words in (["key", a], ["mark", a, SAMPLES / "d.sheet"], ["key", "--coarse", a], ["cost", a, "1", "1"]):
+    a, into = SAMPLES / "a.card", new_folder(folder, "no cards")
+    practices = ["practice", "1"], ["practice", "1..3", "--into", into]
+    for words in (["key", a], ["mark", a, SAMPLES / "d.sheet"], ["key", "--coarse", a], ["cost", a, "1", "1"], *practices):
         ended = subprocess.run([wrong, *words], capture_output=True)
         found = ended.returncode, ended.stdout, ended.stderr
         expect(f"{words[0]} over a wrong library", found, 2, b"", "a fault of the tool; nothing was written")
+    require("no card of a wrong library", contents(into) == {})
 
 
 with tempfile.TemporaryDirectory() as place:
@@ -533,6 +716,12 @@ with tempfile.TemporaryDirectory() as place:
     numbers()
     wrong_use(pathlib.Path(place))
     other_kinds(pathlib.Path(place))
+    practice_cards()
+    wrong_practice(pathlib.Path(place))
+    practice_files(pathlib.Path(place))
+    no_practice_files(pathlib.Path(place))
+    failed_practice_files(pathlib.Path(place))
+    many_practice_files(pathlib.Path(place))
     lost_output(pathlib.Path(place))
     pictures(pathlib.Path(place))
     a_wrong_library(pathlib.Path(place))

@@ -67,6 +67,12 @@ pub fn mark(card: &[u8], sheet: &[u8]) -> Answer {
     calls::mark(card, sheet).into()
 }
 
+pub fn practice_card(start: u32, area: &[u8]) -> Outcome {
+    let mut lent = area.to_vec();
+    let answer = calls::practice_card(start, &mut lent).into();
+    Outcome { answer, buffers: vec![lent] }
+}
+
 pub fn sheet(card: &[u8], plan: &[u8], sheet: &[u8]) -> Outcome {
     let mut lent = sheet.to_vec();
     let answer = calls::sheet(card, plan, &mut lent).into();

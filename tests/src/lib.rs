@@ -1,8 +1,9 @@
 //! Tests of the lamp library through its C boundary. Nothing here shares text with the Rattle sources: `plain` is written from
-//! document 01 alone.
+//! document 01 alone, and `practice` from document 02.
 pub mod boundary;
 pub mod cards;
 pub mod classes;
 pub mod plain;
+pub mod practice;
 pub mod random;
 pub mod shows;

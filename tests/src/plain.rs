@@ -245,7 +245,7 @@ pub fn mark(card: &[u8], sheet: &[u8]) -> Answer {
 }
 
 /// The bytes asked for hold the answer, all further bytes are as they were.
-fn written(answer: &[u8], entry: &[u8]) -> Vec<u8> {
+pub fn written(answer: &[u8], entry: &[u8]) -> Vec<u8> {
     [answer, &entry[answer.len()..]].concat()
 }
 

@@ -1,5 +1,6 @@
 //! What include/lamp.h says beside what the tool and the documents say.
 use lamp::input;
+use lamp::practice;
 use lamp::refusal::Refusal;
 use std::fs;
 use std::path::Path;
@@ -39,8 +40,9 @@ fn refusals_have_the_headers_names_and_numbers() {
 
 /// A parameter of C as Rust writes it.
 fn parameter(text: &str) -> String {
-    let kinds = [("const uint8_t *", "*const u8"), ("uint8_t *", "*mut u8"), ("size_t ", "usize"), ("uint64_t ", "u64")];
-    let found = kinds.iter().find_map(|(c, rust)| text.strip_prefix(c).map(|name| format!("{name}: {rust}")));
+    let pointers = [("const uint8_t *", "*const u8"), ("uint8_t *", "*mut u8")];
+    let numbers = [("size_t ", "usize"), ("uint32_t ", "u32"), ("uint64_t ", "u64")];
+    let found = pointers.iter().chain(&numbers).find_map(|(c, rust)| text.strip_prefix(c).map(|name| format!("{name}: {rust}")));
     found.unwrap_or_else(|| panic!("no type for {text}"))
 }
 
@@ -55,7 +57,7 @@ fn every_call_is_bound() {
     let (header, binding) = (read("include/lamp.h"), read("tool/src/calls.rs"));
     let declared = on_a_line(&binding).replace("( ", "(").replace(", )", ")");
     let calls: Vec<&str> = header.split("\nstruct lamp_answer lamp_").skip(1).collect();
-    assert_eq!(calls.len(), 7);
+    assert_eq!(calls.len(), 8);
     for call in calls {
         let (name, rest) = call.split_once('(').unwrap();
         let parameters: Vec<String> = on_a_line(rest.split(')').next().unwrap()).split(", ").map(parameter).collect();
@@ -74,6 +76,7 @@ fn release_and_limits() {
     assert_eq!(newest.and_then(|line| line.split(',').next().map(str::to_string)), Some(release));
     assert_eq!(defined(&header, "LAMP_MAX_SHEET"), input::MOST_SHEET.to_string());
     assert!(defined(&header, "LAMP_MAX_CARD").parse::<usize>().unwrap() < input::MOST_CARD);
+    assert_eq!(defined(&header, "LAMP_MAX_PRACTICE"), practice::LONGEST.to_string());
     assert_eq!(defined(&header, "LAMP_CARD_VERSION"), lamp::show::VERSION.to_string());
     assert_eq!(defined(&header, "LAMP_OFF"), lamp::show::OFF.to_string());
 }

@@ -41,6 +41,7 @@ extern "C" {
     ) -> LampAnswer;
     fn lamp_mark(card: *const u8, card_len: usize, sheet: *const u8, sheet_len: usize) -> LampAnswer;
     fn lamp_rounded_count(count: u64, modules: u64) -> LampAnswer;
+    fn lamp_practice_card(start: u32, card: *mut u8, card_len: usize) -> LampAnswer;
 }
 
 /// The library's contract says that a number is 0 or one of the refusals, and that a refusal has cost 0.
@@ -85,4 +86,9 @@ pub fn mark(card: &[u8], sheet: &[u8]) -> Answer {
 /// The smallest allowed count not below `count` in a rack of `modules`.
 pub fn rounded_count(count: u64, modules: u64) -> Answer {
     answer(unsafe { lamp_rounded_count(count, modules) })
+}
+
+/// The practice card of a start at the front of `card`, at cost 0. Start 0 is refused by 14, and then a short area by 10.
+pub fn practice_card(start: u32, card: &mut [u8]) -> Answer {
+    answer(unsafe { lamp_practice_card(start, card.as_mut_ptr(), card.len()) })
 }

@@ -1,5 +1,5 @@
 //! The commands. Each answers what goes to standard output, what to standard error, and the exit status: 0 done, 1 refused by a
-//! number, 2 wrong use or a file that cannot be read or written whole.
+//! number, 2 wrong use or a file that cannot be read or written whole. Files for a folder are written before the answer.
 use crate::calls;
 use crate::faults::{self, SheetFault};
 use crate::input::{self, Card};
@@ -9,8 +9,10 @@ use crate::sheet_text::{self, SheetText};
 use crate::show::Show;
 use crate::typed::{self, NoNumber};
 use crate::words::{grouped, several};
-use crate::{help, listing, page, picture, show_text};
+use crate::{folder, help, listing, page, picture, practice, show_text};
 use std::ffi::{OsStr, OsString};
+use std::ops::RangeInclusive;
+use std::path::Path;
 
 /// What a command ends with.
 #[derive(Clone, Debug, PartialEq, Eq)]
@@ -43,19 +45,32 @@ impl Outcome {
 /// A command's outcome, or the sentence of an error.
 pub type Ended = Result<Outcome, String>;
 
-/// The words of a command line after the command: its options and what is left.
+/// The words of a command line after the command: its options, the folder that one of them names, and what is left.
 pub struct Words<'a> {
     plain: Vec<&'a OsStr>,
-    options: Vec<&'a str>,
+    options: Vec<&'static str>,
+    into: Option<&'a Path>,
 }
 
-impl Words<'_> {
+impl<'a> Words<'a> {
     fn planner(&self) -> Planner {
         if self.options.contains(&"--coarse") {
             Planner::Coarse
         } else {
             Planner::Exact
         }
+    }
+
+    /// Takes an option, and for a folder the word after it.
+    fn take(&mut self, option: &'static str, rest: &mut impl Iterator<Item = &'a OsString>) -> Result<(), &'static str> {
+        if option == help::INTO {
+            let named = rest.next().filter(|word| !word.is_empty()).ok_or("--into names no folder")?;
+            if self.into.replace(Path::new(named)).is_some() {
+                return Err("--into names two folders");
+            }
+        }
+        self.options.push(option);
+        Ok(())
     }
 }
 
@@ -79,16 +94,18 @@ pub fn run(words: &[OsString]) -> Outcome {
 
 /// Tells options from other words. `-` is standard input, and after `--` no word is an option.
 fn split<'a>(command: &help::Command, words: &'a [OsString]) -> Result<Words<'a>, String> {
-    let end = words.iter().position(|word| word == "--").unwrap_or(words.len());
-    let mut out = Words { plain: Vec::new(), options: Vec::new() };
-    for (at, word) in words.iter().enumerate().filter(|(at, _)| *at != end) {
-        if at > end || word == "-" || !word.to_string_lossy().starts_with('-') {
+    let mut out = Words { plain: Vec::new(), options: Vec::new(), into: None };
+    let mut rest = words.iter();
+    while let Some(word) = rest.next() {
+        if word == "--" {
+            out.plain.extend(rest.by_ref().map(OsString::as_os_str));
+        } else if word == "-" || !word.to_string_lossy().starts_with('-') {
             out.plain.push(word);
-            continue;
-        }
-        match word.to_str().filter(|word| command.options.contains(word)) {
-            Some(option) => out.options.push(option),
-            None => return Err(format!("{}: no option {}\n{}", command.name, input::printable(word), command.usage())),
+        } else {
+            let Some(option) = command.option(word) else {
+                return Err(format!("{}: no option {}\n{}", command.name, input::printable(word), command.usage()));
+            };
+            out.take(option, &mut rest).map_err(|message| format!("{}: {message}\n{}", command.name, command.usage()))?;
         }
     }
     if out.plain.len() != command.takes.len() {
@@ -136,6 +153,44 @@ pub fn card(words: &Words) -> Ended {
         Ok(_) => Outcome::done(card.bytes),
         Err(refusal) => refused_card(&card, refusal),
     })
+}
+
+/// The number of a practice card.
+fn card_number(name: &str, word: &str) -> Result<u32, String> {
+    number(name, word, u32::MAX.into()).map(|number| u32::try_from(number).expect("it is at most the largest"))
+}
+
+/// How many practice cards are written at a time.
+const MOST_CARDS: u64 = 10_000;
+
+/// The numbers of practice cards, as NUMBER or as FIRST..LAST.
+fn card_numbers(word: &str) -> Result<RangeInclusive<u32>, String> {
+    let Some((first, last)) = word.split_once("..") else {
+        return card_number("NUMBER", word).map(|number| number..=number);
+    };
+    let (first, last) = (card_number("FIRST", first)?, card_number("LAST", last)?);
+    match (u64::from(last) + 1).saturating_sub(first.into()) {
+        0 => Err(format!("FIRST {first} is above LAST {last}")),
+        1..=MOST_CARDS => Ok(first..=last),
+        cards => Err(format!("{word} is {}; at most {} are written at a time", several(cards, "card"), grouped(MOST_CARDS))),
+    }
+}
+
+/// A card for standard output, or cards for a folder. All are made before the first is written.
+pub fn practice(words: &Words) -> Ended {
+    let word = input::printable(words.plain[0]);
+    let numbers = card_numbers(&word)?;
+    if words.into.is_none() && word.contains("..") {
+        return Err(format!("practice: the cards of {word} need a folder: --into DIR"));
+    }
+    let cards = match practice::cards(numbers) {
+        Ok(cards) => cards,
+        Err(refusal) => return Ok(Outcome::refused(&lines(refusal, &[practice::numbering()]))),
+    };
+    match words.into {
+        Some(into) => folder::write(into, &cards).map(|()| Outcome::done("")),
+        None => Ok(Outcome::done(cards.into_iter().flat_map(|file| file.bytes).collect::<Vec<_>>())),
+    }
 }
 
 /// A refused card is read back too, as far as its fields can be told apart, so that the fault can be looked at.
@@ -240,17 +295,22 @@ fn length_fault(show: &Show, sheet: &HandedIn) -> String {
 }
 
 /// A number of the command line.
-fn number(words: &Words, at: usize, name: &str) -> Result<u64, String> {
-    let word = input::printable(words.plain[at]);
-    typed::number(&word, u64::MAX).map_err(|fault| match fault {
+fn number(name: &str, word: &str, most: u64) -> Result<u64, String> {
+    typed::number(word, most).map_err(|fault| match fault {
+        NoNumber::NotDigits if word.is_empty() => format!("{name} is empty"),
         NoNumber::NotDigits => format!("{name} {word} is not a number"),
         NoNumber::NeedlessZero => format!("{name} {word} {}", typed::NEEDLESS_ZERO),
-        NoNumber::TooLarge => format!("{name} {word} is above {}", grouped(u64::MAX)),
+        NoNumber::TooLarge => format!("{name} {word} is above {}", grouped(most)),
     })
 }
 
+/// A number by its place among the words.
+fn number_at(words: &Words, at: usize, name: &str) -> Result<u64, String> {
+    number(name, &input::printable(words.plain[at]), u64::MAX)
+}
+
 pub fn cost(words: &Words) -> Ended {
-    let (count, load) = (number(words, 1, "COUNT")?, number(words, 2, "LOAD")?);
+    let (count, load) = (number_at(words, 1, "COUNT")?, number_at(words, 2, "LOAD")?);
     let card = input::card(words.plain[0])?;
     let refusal = match calls::running_cost(&card.bytes, count, load) {
         Ok(cost) => return Ok(Outcome::done(format!("{cost}\n"))),
@@ -272,7 +332,7 @@ fn above_rack(count: u64, modules: u64) -> String {
 }
 
 pub fn round(words: &Words) -> Ended {
-    let (count, modules) = (number(words, 0, "COUNT")?, number(words, 1, "MODULES")?);
+    let (count, modules) = (number_at(words, 0, "COUNT")?, number_at(words, 1, "MODULES")?);
     Ok(match calls::rounded_count(count, modules) {
         Ok(rounded) => Outcome::done(format!("{rounded}\n")),
         Err(refusal) => Outcome::refused(&lines(refusal, &[above_rack(count, modules)])),

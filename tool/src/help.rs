@@ -1,7 +1,8 @@
 //! What the commands are called, what they take and what their `--help` says.
 use crate::commands::{self, Ended, Words};
+use std::ffi::OsStr;
 
-/// A command with the words that it takes and its options.
+/// A command with the words that it takes and its options. An option that takes a word has the word's name after a blank.
 pub struct Command {
     pub name: &'static str,
     pub takes: &'static [&'static str],
@@ -14,6 +15,9 @@ pub struct Command {
 pub const USAGE: &str = "usage: lamp COMMAND ..; lamp --help lists the commands";
 
 const PLANNER: &[&str] = &["--coarse"];
+
+/// The option that names the folder for a command's files.
+pub const INTO: &str = "--into DIR";
 
 const A_CARD: &str = "\
 CARD is a card's bytes or a show's text, as 'lamp show' writes it; - is standard input.";
@@ -29,6 +33,13 @@ SHOW is a text with one field a line, in any order; - is standard input:
     table 1 2 4     # F(0) to F(top), each at most 1,000,000; may go on over several lines
     loads 6 0 2     # one a slot, at most 1,024; may go on over several lines
 A show that the library refuses is refused in words, with the place, and no card is written.";
+
+const PRACTICE: &str = "\
+NUMBER is 1 to 4,294,967,295, and a number has the same card on every machine. Every practice card is
+accepted, and can be planned by either planner. It is written to standard output.
+--into DIR  writes it as the file NUMBER.card into the folder DIR, which has to be there. NUMBER may then be
+    a range, as 1..30, for the cards 1.card to 30.card; at most 10,000 at a time. All are written or none,
+    and no file is overwritten: one that holds the same card is left alone, any other is an error.";
 
 const SHEET_TEXT: &str = "\
 SHEET has a line a slot, with a step or - (off) for each module, as '2 2 -'. A line may begin with
@@ -49,8 +60,9 @@ const fn command(
 }
 
 /// All commands, in the order of an examiner's day.
-pub const COMMANDS: [Command; 9] = [
+pub const COMMANDS: [Command; 10] = [
     command("card", &["SHOW"], &[], commands::card, "makes a card of a show typed as text", SHOW_TEXT),
+    command("practice", &["NUMBER"], &[INTO], commands::practice, "makes practice cards by their numbers", PRACTICE),
     command("show", &["CARD"], &[], commands::show, "reads a card back as text", A_CARD),
     command("check", &["CARD"], &[], commands::check, "says whether the card is accepted, or where it is at fault", A_CARD),
     command("key", &["CARD"], PLANNER, commands::key, "prints the show, the least cost, the plan and the sheet", A_CARD),
@@ -67,6 +79,11 @@ impl Command {
     fn form(&self) -> String {
         let options: String = self.options.iter().map(|option| format!(" [{option}]")).collect();
         format!("lamp {} {}{options}", self.name, self.takes.join(" "))
+    }
+
+    /// The option that a word is.
+    pub fn option(&self, word: &OsStr) -> Option<&'static str> {
+        self.options.iter().copied().find(|option| option.split(' ').next().is_some_and(|name| word == name))
     }
 
     pub fn usage(&self) -> String {

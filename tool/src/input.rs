@@ -63,7 +63,8 @@ pub fn read(path: &OsStr, most: usize) -> Result<Vec<u8>, String> {
     Ok(bytes)
 }
 
-fn reason(error: &io::Error) -> String {
+/// Why a file could not be read or written.
+pub fn reason(error: &io::Error) -> String {
     const CLOSED: i32 = 9;
     if error.kind() == io::ErrorKind::IsADirectory {
         return "a directory, not a file".to_string();

@@ -5,6 +5,7 @@
 pub mod calls;
 pub mod commands;
 pub mod faults;
+pub mod folder;
 pub mod help;
 pub mod input;
 pub mod listing;
@@ -13,6 +14,7 @@ pub mod output;
 pub mod page;
 pub mod picture;
 pub mod planning;
+pub mod practice;
 pub mod refusal;
 pub mod sheet_text;
 pub mod show;

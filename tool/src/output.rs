@@ -27,13 +27,17 @@ pub fn stream(number: i32) -> ManuallyDrop<File> {
     ManuallyDrop::new(unsafe { File::from_raw_fd(number) })
 }
 
-/// Writes all bytes to standard output. A file is also brought to its disk, since some file systems tell only then that they are
-/// full; one that has no such request is not asked.
+/// Writes all bytes to standard output.
 pub fn write_whole(bytes: &[u8]) -> io::Result<()> {
     if bytes.is_empty() {
         return Ok(());
     }
-    let mut out = stream(1);
+    write_to(&mut stream(1), bytes)
+}
+
+/// Writes all bytes. A file is also brought to its disk, since some file systems tell only then that they are full; one that has no
+/// such request is not asked.
+pub fn write_to(out: &mut File, bytes: &[u8]) -> io::Result<()> {
     out.write_all(bytes)?;
     if !out.metadata()?.is_file() {
         return Ok(());

@@ -1,4 +1,4 @@
-//! The numbered refusals of document 01.
+//! The numbered refusals of documents 01 and 02.
 use std::fmt;
 
 /// A refusal, under the name that include/lamp.h gives it.
@@ -17,13 +17,14 @@ pub enum Refusal {
     WrongLength = 11,
     EntryRange = 12,
     LoadNotServed = 13,
+    ZeroStart = 14,
 }
 
 use Refusal::*;
 
 impl Refusal {
     /// All refusals, in the order of their numbers.
-    pub const ALL: [Refusal; 13] = [
+    pub const ALL: [Refusal; 14] = [
         NotACard,
         WrongVersion,
         RackSize,
@@ -37,6 +38,7 @@ impl Refusal {
         WrongLength,
         EntryRange,
         LoadNotServed,
+        ZeroStart,
     ];
 
     pub fn number(self) -> u64 {
@@ -63,6 +65,7 @@ impl Refusal {
             WrongLength => "a handed-in plan or sheet of another length than the show has",
             EntryRange => "a count above the modules, or a step above the top step",
             LoadNotServed => "a slot's steps do not sum to its load, or a count cannot serve its load",
+            ZeroStart => "start 0 of a practice card",
         }
     }
 }
