@@ -10,9 +10,10 @@
 #include "lamp.h"
 #include "plain.h"
 
-enum { ROUNDS = 60 };
+enum { ROUNDS = 60, STARTS = 10000, PRACTICE = 4 };
 
 static uint8_t card[LAMP_MAX_CARD], plan[LAMP_MAX_PLAN], work[LAMP_MAX_EXACT_WORK], sheet[LAMP_MAX_SHEET];
+static uint8_t practice[LAMP_MAX_PRACTICE], practice_of_c[LAMP_MAX_PRACTICE];
 static size_t card_len;
 
 static void put(size_t at, uint64_t value, size_t bytes)
@@ -46,6 +47,32 @@ static double now(void)
 typedef struct lamp_answer (*planner)(const uint8_t *, size_t, uint8_t *, size_t, uint8_t *, size_t);
 static size_t slots, modules;
 
+typedef struct lamp_answer (*maker)(uint32_t, uint8_t *, size_t);
+
+/* Makes the cards of starts 1 to STARTS, each over the one before it. The number is 0 if none was refused. */
+static struct lamp_answer make_practice(maker make)
+{
+    struct lamp_answer all = {0, 0};
+    for (uint32_t start = 1; start <= STARTS; start++)
+        all.number |= make(start, practice, sizeof practice).number;
+    return all;
+}
+
+/* The library and C make the same cards, and leave the same bytes after each. */
+static void compare_practice(void)
+{
+    for (uint32_t start = 1; start <= STARTS; start++) {
+        memset(practice, 0xA5, sizeof practice);
+        memset(practice_of_c, 0xA5, sizeof practice_of_c);
+        struct lamp_answer first = lamp_practice_card(start, practice, sizeof practice);
+        struct lamp_answer second = plain_practice(start, practice_of_c, sizeof practice_of_c);
+        if (first.number != second.number || first.cost != second.cost || memcmp(practice, practice_of_c, sizeof practice)) {
+            printf("the two disagree: start %" PRIu32 "\n", start);
+            exit(1);
+        }
+    }
+}
+
 static struct lamp_answer run(int which, int plain)
 {
     planner planners[2][2] = {{lamp_plan_exact, plain_exact}, {lamp_plan_coarse, plain_coarse}};
@@ -55,8 +82,10 @@ static struct lamp_answer run(int which, int plain)
         return planners[which][plain](card, card_len, plan, slots, work, which ? 10 * slots : (modules + 1) * slots);
     case 2:
         return (plain ? plain_sheet : lamp_sheet)(card, card_len, plan, slots, sheet, modules * slots);
-    default:
+    case 3:
         return (plain ? plain_mark : lamp_mark)(card, card_len, sheet, modules * slots);
+    default:
+        return make_practice(plain ? plain_practice : lamp_practice_card);
     }
 }
 
@@ -81,6 +110,11 @@ static void measure(int which, double best[2])
         }
 }
 
+static void print_line(const char *name, const double best[2])
+{
+    printf("%-8s %10.1f %10.1f %8.2f\n", name, best[0], best[1], best[0] / best[1]);
+}
+
 int main(void)
 {
     static const char *names[] = {"exact", "coarse", "sheet", "marking"};
@@ -96,8 +130,12 @@ int main(void)
         measure(which, best);
         if (which == 0)
             whole = best[0];
-        printf("%-8s %10.1f %10.1f %8.2f\n", names[which], best[0], best[1], best[0] / best[1]);
+        print_line(names[which], best);
     }
+    compare_practice();
+    measure(PRACTICE, best);
+    printf("the cards of starts 1 to 10,000\n");
+    print_line("practice", best);
     make_card(modules, 200, slots = 512);
     measure(0, best);
     printf("exact, T 512 to 1,024: %.2f times the time\n", whole / best[0]);

@@ -201,3 +201,57 @@ struct lamp_answer plain_mark(const uint8_t *card, size_t card_len, const uint8_
             cost += i.down;
     return (struct lamp_answer){0, cost};
 }
+
+static uint32_t draw(uint32_t *s)
+{
+    *s ^= *s << 13;
+    *s ^= *s >> 17;
+    return *s ^= *s << 5;
+}
+
+/* On x86-64 the bytes of a number in memory are those of a card's field. Each gives the place after the field. */
+static uint8_t *put_two(uint8_t *at, uint16_t value)
+{
+    memcpy(at, &value, 2);
+    return at + 2;
+}
+
+static uint8_t *put_four(uint8_t *at, uint32_t value)
+{
+    memcpy(at, &value, 4);
+    return at + 4;
+}
+
+/* F(1) to F(Q), after F(0). Each difference but the first is larger than the one before it by a draw. */
+static uint8_t *put_table(uint8_t *at, uint32_t *s, uint32_t entry, uint32_t top)
+{
+    uint32_t difference = draw(s) % 11;
+    at = put_four(at, entry += difference);
+    for (uint32_t k = 1; k < top; k++) {
+        difference += draw(s) % 4;
+        at = put_four(at, entry += difference);
+    }
+    return at;
+}
+
+struct lamp_answer plain_practice(uint32_t start, uint8_t *card, size_t card_len)
+{
+    uint32_t s = start;
+    if (start == 0)
+        return refused(14);
+    uint32_t m = 1 + draw(&s) % 200, q = 1 + draw(&s) % 200, t = draw(&s) % 65;
+    if (card_len < 17 + 4 * (q + 1) + 2 * t)
+        return refused(10);
+    memcpy(card, "DLS\1", 5);
+    card[5] = (uint8_t)m;
+    card[6] = (uint8_t)q;
+    uint8_t *at = put_two(card + 7, (uint16_t)t);
+    at = put_four(at, draw(&s) % 1001);
+    at = put_four(at, draw(&s) % 1001);
+    uint32_t entry = draw(&s) % 1001;
+    at = put_four(at, entry);
+    at = put_table(at, &s, entry, q);
+    for (uint32_t slot = 0; slot < t; slot++)
+        at = put_two(at, (uint16_t)(draw(&s) % (m * q + 1)));
+    return (struct lamp_answer){0, 0};
+}

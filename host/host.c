@@ -57,6 +57,8 @@ static const char *words(enum lamp_refusal refusal)
         return "a count above m, or a sheet byte from Q + 1 to 254";
     case LAMP_LOAD_NOT_SERVED:
         return "a slot's steps do not sum to its load, or a count cannot serve its load";
+    case LAMP_ZERO_START:
+        return "start 0 of a practice card";
     }
     return "a refusal that this host does not know";
 }

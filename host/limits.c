@@ -1,6 +1,6 @@
-/* Compares the limits that lamp.h names with the rules of document 01 and with the library, and measures the stack that
- * each call uses. Prints a line for each call, each fault, and how many comparisons were made; fails if there is a
- * fault. host/build builds it.
+/* Compares the limits that lamp.h names with the rules of documents 01 and 02 and with the library, and measures the
+ * stack that each call uses. Prints a line for each call, each fault, and how many comparisons were made; fails if
+ * there is a fault. host/build builds it.
  */
 #define _XOPEN_SOURCE 700
 #include <inttypes.h>
@@ -13,20 +13,22 @@
 
 /* The names of lamp.h can be used by the preprocessor. */
 #if LAMP_CARD_VERSION < 1 || LAMP_MAX_CARD < 1 || LAMP_MAX_PLAN < 1 || LAMP_MAX_EXACT_WORK < 1 || \
-    LAMP_MAX_COARSE_WORK < 1 || LAMP_MAX_SHEET < 1 || LAMP_MAX_STACK < 1 || LAMP_OFF < 1
+    LAMP_MAX_COARSE_WORK < 1 || LAMP_MAX_SHEET < 1 || LAMP_MAX_PRACTICE < 1 || LAMP_MAX_STACK < 1 || LAMP_OFF < 1
 #error "a limit of lamp.h is not a positive number"
 #endif
 
-/* The bounds of document 01. They stand here and nowhere else in this file. */
-enum { MODULES = 200, TOP_STEP = 200, SLOTS = 1024, PRICE = 500000000, ENTRY = 1000000 };
+/* The bounds of document 01, and the most slots of a practice card (02, section 1). They stand here and nowhere else in
+ * this file. */
+enum { MODULES = 200, TOP_STEP = 200, SLOTS = 1024, PRICE = 500000000, ENTRY = 1000000, PRACTICE_SLOTS = 64 };
 
-/* The sizes that document 01's rules give for these bounds, and the places of a card's fields. */
+/* The sizes that the documents' rules give for these bounds, and the places of a card's fields. */
 enum {
     CARD_BYTES = 17 + 4 * (TOP_STEP + 1) + 2 * SLOTS,
     PLAN_BYTES = SLOTS,
     EXACT_BYTES = (MODULES + 1) * SLOTS,
     COARSE_BYTES = 10 * SLOTS,
     SHEET_BYTES = MODULES * SLOTS,
+    PRACTICE_BYTES = 17 + 4 * (TOP_STEP + 1) + 2 * PRACTICE_SLOTS,
     TABLE_AT = 17,
     LOADS_AT = TABLE_AT + 4 * (TOP_STEP + 1)
 };
@@ -34,7 +36,10 @@ enum {
 /* The stack on which a call is measured, and the bytes that a function of known size writes on it. */
 enum { STACK_BYTES = 1 << 20, KNOWN_BYTES = 4096, KNOWN_FRAME = 64 };
 
-static uint8_t card[CARD_BYTES], plan[PLAN_BYTES], work[EXACT_BYTES], sheet[SHEET_BYTES];
+/* A start whose practice card is as long as one can be, and how many practice cards are looked at in a row. */
+enum { LONGEST_START = 6548, STARTS = 100000 };
+
+static uint8_t card[CARD_BYTES], plan[PLAN_BYTES], work[EXACT_BYTES], sheet[SHEET_BYTES], practice[PRACTICE_BYTES];
 static unsigned compared, faults;
 
 /* Counts a comparison, and a fault if it does not hold. */
@@ -87,6 +92,7 @@ static void compare_sizes(void)
     compare("LAMP_MAX_EXACT_WORK", "bytes", LAMP_MAX_EXACT_WORK, EXACT_BYTES);
     compare("LAMP_MAX_COARSE_WORK", "bytes", LAMP_MAX_COARSE_WORK, COARSE_BYTES);
     compare("LAMP_MAX_SHEET", "bytes", LAMP_MAX_SHEET, SHEET_BYTES);
+    compare("LAMP_MAX_PRACTICE", "bytes", LAMP_MAX_PRACTICE, PRACTICE_BYTES);
 }
 
 /* Writes one field of the largest card, and puts back what was there once the card has been checked. */
@@ -117,7 +123,7 @@ static void compare_bounds(void)
 
 /* What the measured calls are given, and what they answer. */
 static struct {
-    uint64_t card_len, plan_len, work_len, sheet_len, count, load, modules;
+    uint64_t card_len, plan_len, work_len, sheet_len, practice_len, count, load, modules;
 } given;
 static struct lamp_answer answer;
 
@@ -154,6 +160,11 @@ static void mark(void)
 static void rounded_count(void)
 {
     answer = lamp_rounded_count(given.count, given.modules);
+}
+
+static void practice_card(void)
+{
+    answer = lamp_practice_card(LONGEST_START, practice, given.practice_len);
 }
 
 static void nothing(void)
@@ -222,6 +233,7 @@ static const struct call {
     {"lamp_plan_exact", plan_exact, LAMP_MAX_EXACT_WORK, &given.work_len, LAMP_BUFFER_TOO_SHORT},
     {"lamp_sheet", make_sheet, 0, &given.sheet_len, LAMP_BUFFER_TOO_SHORT},
     {"lamp_mark", mark, 0, &given.sheet_len, LAMP_WRONG_LENGTH},
+    {"lamp_practice_card", practice_card, 0, &given.practice_len, LAMP_BUFFER_TOO_SHORT},
 };
 
 /* Gives the calls the largest show, with buffers of just the header's sizes. */
@@ -231,6 +243,7 @@ static void give_largest(size_t work_len)
     given.plan_len = LAMP_MAX_PLAN;
     given.work_len = work_len;
     given.sheet_len = LAMP_MAX_SHEET;
+    given.practice_len = LAMP_MAX_PRACTICE;
     given.count = MODULES;
     given.load = MODULES * TOP_STEP;
     given.modules = MODULES;
@@ -278,7 +291,7 @@ static void compare_plan_length(void)
     compare("lamp_plan_exact", "number for a short plan", answer.number, LAMP_BUFFER_TOO_SHORT);
 }
 
-/* Buffers of length 0 may be NULL: no card at all, and a show without slots. */
+/* Buffers of length 0 may be NULL: no card at all, a show without slots, and no room for a practice card. */
 static void compare_empty(void)
 {
     put(7, 0, 2);
@@ -288,6 +301,35 @@ static void compare_empty(void)
     compare("sheet of an empty plan", "number", lamp_sheet(card, LOADS_AT, NULL, 0, NULL, 0).number, 0);
     compare("empty sheet", "number", lamp_mark(card, LOADS_AT, NULL, 0).number, 0);
     put(7, SLOTS, 2);
+    compare("no room for a card", "number", lamp_practice_card(1, NULL, 0).number, LAMP_BUFFER_TOO_SHORT);
+    compare("no room and start 0", "number", lamp_practice_card(0, NULL, 0).number, LAMP_ZERO_START);
+}
+
+/* The length of a practice card, which its fields tell. It is 0 if the card is not made in the header's size, or not
+ * accepted. */
+static size_t practice_length(uint32_t start)
+{
+    size_t length;
+
+    if (lamp_practice_card(start, practice, LAMP_MAX_PRACTICE).number != 0)
+        return 0;
+    length = 17 + 4 * (practice[6] + (size_t)1) + 2 * (practice[7] + (size_t)256 * practice[8]);
+    return length <= LAMP_MAX_PRACTICE && lamp_check_card(practice, length).number == 0 ? length : 0;
+}
+
+/* The header's size is enough for the starts `stride`, 2 * `stride` and so on, and one of their cards needs it. */
+static void compare_practice(const char *starts, uint32_t stride)
+{
+    size_t made = 0, longest = 0;
+
+    for (uint32_t k = 1; k <= STARTS; k++) {
+        size_t length = practice_length(k * stride);
+
+        made += length != 0;
+        longest = length > longest ? length : longest;
+    }
+    compare(starts, "practice cards made and accepted", made, STARTS);
+    compare(starts, "bytes of the longest practice card", longest, LAMP_MAX_PRACTICE);
 }
 
 /* The dearest sheet: every entry and price is at its bound, and each module starts as often as it can and is active as
@@ -320,6 +362,9 @@ static void compare_with_library(void)
         measure(&calls[k]);
     compare_plan_length();
     compare_empty();
+    compare("the longest start", "bytes of the practice card", practice_length(LONGEST_START), LAMP_MAX_PRACTICE);
+    compare_practice("starts 1 to 100,000", 1);
+    compare_practice("starts over all 32 bits", UINT32_MAX / STARTS);
     compare_dearest();
 }
 

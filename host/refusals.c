@@ -1,10 +1,12 @@
-/* Provokes each refusal through the public calls and compares its number with the name that lamp.h gives it. Prints
- * each fault and how many answers were compared; fails if there is a fault.
+/* Provokes each refusal through the public calls and compares its number with the name that lamp.h gives it. Makes
+ * practice cards too, and compares every byte of their buffers. Prints each fault and how many answers and buffers were
+ * compared; fails if there is a fault.
  *
  *   gcc -std=c11 -Wall -Wextra -Werror -Iinclude host/refusals.c target/staticlib/liblamp.a -o target/host/refusals
  */
 #include <inttypes.h>
 #include <stdio.h>
+#include <string.h>
 
 #include "lamp.h"
 
@@ -34,7 +36,38 @@ static const struct {
     {LAMP_LOAD_RANGE, LENGTH_A, 29, 7},        /* load 7 on 3 modules */
 };
 
-static unsigned compared, faults;
+/* The practice cards of starts 1,950 and 4,294,967,255, as lamp.h has them. */
+static const uint8_t card_1950[] = {0x44, 0x4C, 0x53, 0x01, 0x00, 0x60, 0x03, 0x00, 0x00, 0xBE, 0x01,
+                                    0x00, 0x00, 0x02, 0x02, 0x00, 0x00, 0xAA, 0x01, 0x00, 0x00, 0xAD,
+                                    0x01, 0x00, 0x00, 0xB2, 0x01, 0x00, 0x00, 0xBA, 0x01, 0x00, 0x00};
+static const uint8_t card_4294967255[] = {0x44, 0x4C, 0x53, 0x01, 0x00, 0x76, 0x02, 0x01, 0x00, 0x17, 0x00,
+                                          0x00, 0x00, 0x7B, 0x02, 0x00, 0x00, 0xF5, 0x02, 0x00, 0x00, 0xFA,
+                                          0x02, 0x00, 0x00, 0x02, 0x03, 0x00, 0x00, 0xC5, 0x00};
+
+/* A practice card that is asked for, and what is then written. The start has 64 bits, of which C gives the call the low
+ * 32; the others must not count. */
+struct practice {
+    enum lamp_refusal wanted; /* or 0 */
+    uint64_t start;
+    size_t length;
+    const uint8_t *made;
+    size_t written;
+};
+static const struct practice practices[] = {
+    {0, 1950, 33, card_1950, 33},                                          /* just the card's length */
+    {0, 1950, 34, card_1950, 33},                                          /* one byte more */
+    {0, 1950, LAMP_MAX_PRACTICE, card_1950, 33},                           /* enough for every start */
+    {0, UINT64_C(0xFFFFFFFF00000000) + 1950, 33, card_1950, 33},           /* bits above the low 32 */
+    {0, 4294967255, 31, card_4294967255, 31},                              /* a card with a load */
+    {LAMP_BUFFER_TOO_SHORT, 1950, 32, card_1950, 0},                       /* one byte less */
+    {LAMP_BUFFER_TOO_SHORT, 1950, 0, card_1950, 0},                        /* no byte at all */
+    {LAMP_BUFFER_TOO_SHORT, 6548, LAMP_MAX_PRACTICE - 1, card_1950, 0},    /* a longest card, one byte less */
+    {LAMP_ZERO_START, 0, LAMP_MAX_PRACTICE, card_1950, 0},                 /* enough for every start */
+    {LAMP_ZERO_START, 0, 0, card_1950, 0},                                 /* 14 is tested before 10 */
+    {LAMP_ZERO_START, UINT64_C(1) << 32, LAMP_MAX_PRACTICE, card_1950, 0}, /* bits above the low 32, and no other */
+};
+
+static unsigned compared, looked, faults;
 static uint8_t card[LENGTH_A] = {CARD_A}, plan[3] = {3, 1, 1};
 static uint8_t sheet[9] = {2, 2, 2, 0, LAMP_OFF, LAMP_OFF, 2, LAMP_OFF, LAMP_OFF};
 static uint8_t area[9], work[30];
@@ -95,6 +128,54 @@ static void refuse_handed_in(void)
     expect("lamp_mark", lamp_mark(card, LENGTH_A, sheet, 9), LAMP_LOAD_NOT_SERVED);
 }
 
+static struct lamp_answer low_half(uint64_t start, uint8_t *bytes, size_t length)
+{
+    return lamp_practice_card((uint32_t)start, bytes, length);
+}
+
+/* The compiler cannot tell which function this is. So all 64 bits are handed to low_half, which may leave the high half
+ * in the register in which it hands on the start. */
+static struct lamp_answer (*volatile any_half)(uint64_t, uint8_t *, size_t) = low_half;
+
+/* Makes a card over bytes that hold `paint`. Then the first are those of the card, and all others are as they were,
+ * also those beyond the length. */
+static void expect_practice(const struct practice *practice, int paint)
+{
+    uint8_t found[LAMP_MAX_PRACTICE + 1], left[LAMP_MAX_PRACTICE + 1];
+
+    memset(found, paint, sizeof found);
+    memset(left, paint, sizeof left);
+    memcpy(left, practice->made, practice->written);
+    expect("lamp_practice_card", any_half(practice->start, found, practice->length), practice->wanted);
+    looked++;
+    if (memcmp(found, left, sizeof found) == 0)
+        return;
+    faults++;
+    printf("lamp_practice_card: start %" PRIu64 " with %zu bytes does not leave the bytes that lamp.h says\n",
+           practice->start, practice->length);
+}
+
+/* A byte that is written with the value it had is not seen, so each card is made over two values. */
+static void make_practice(void)
+{
+    for (size_t k = 0; k < sizeof practices / sizeof practices[0]; k++) {
+        expect_practice(&practices[k], 0x5A);
+        expect_practice(&practices[k], 0xA5);
+    }
+}
+
+/* A longest card is made in a buffer of just the header's size, and it is accepted with that length. */
+static void make_longest(void)
+{
+    uint8_t made[LAMP_MAX_PRACTICE];
+    struct practice longest = {0, 6548, sizeof made, made, sizeof made};
+
+    expect("lamp_practice_card", lamp_practice_card(6548, made, sizeof made), 0);
+    expect("lamp_check_card", lamp_check_card(made, sizeof made), 0);
+    expect_practice(&longest, 0x5A);
+    expect_practice(&longest, 0xA5);
+}
+
 int main(void)
 {
     for (size_t k = 0; k < sizeof damages / sizeof damages[0]; k++) {
@@ -106,6 +187,8 @@ int main(void)
     }
     refuse_planning();
     refuse_handed_in();
-    printf("refusals: %u answers compared with lamp.h, %u faults\n", compared, faults);
+    make_practice();
+    make_longest();
+    printf("refusals: %u answers and %u buffers compared with lamp.h, %u faults\n", compared, looked, faults);
     return faults != 0;
 }

@@ -11,7 +11,8 @@
  * step from 0 to Q. Each slot has a load, and the steps of its active modules must sum to that load
  * exactly. An active module costs points in each slot, and switching a module on or off costs points too.
  * The library finds how many modules should be active in each slot, and at which steps, so that the whole
- * show costs the least. It also gives the cost of any other choice.
+ * show costs the least. It also gives the cost of any other choice, and it makes practice cards, each
+ * from a number.
  *
  *
  * HOW TO LINK IT
@@ -123,12 +124,67 @@
  * T; among those the one with the smallest count in slot T - 1; and so on back to slot 1.
  *
  *
+ * PRACTICE CARDS
+ *
+ * lamp_practice_card makes a card from a number, its start, which is from 1 to 4,294,967,295. A start
+ * always gives the same card, so a teacher names a show by naming its start.
+ *
+ * The card is made of draws. They work on a number s of 32 bits, which is the start at first. A draw does
+ * these three lines of C one after the other, where s is a uint32_t:
+ *     s = s ^ (s << 13);
+ *     s = s ^ (s >> 17);
+ *     s = s ^ (s << 5);
+ * What the draw gives is the new s, and the next draw works on this s. For a calculation by hand: s << 13
+ * is the remainder of s * 8,192 divided by 4,294,967,296, s << 5 is the remainder of s * 32 divided by
+ * the same number, s >> 17 is s / 131,072 without its remainder, and ^ is the exclusive or of the bits.
+ *
+ * A card takes 6 + Q + T draws, in the order of its fields. Here x is what the draw of that number gives,
+ * and % is the remainder:
+ *
+ *   draw        field                value
+ *   1           m                    1 + x % 200
+ *   2           Q                    1 + x % 200
+ *   3           T                    x % 65
+ *   4           warm-up price        x % 1,001
+ *   5           cool-down price      x % 1,001
+ *   6           F(0)                 x % 1,001
+ *   7           F(1)                 F(0) + d(1), where the first difference d(1) is x % 11
+ *   6 + k       F(k), 2 <= k <= Q    F(k - 1) + d(k), where the difference d(k) is d(k - 1) + x % 4
+ *   6 + Q + t   the load of slot t   x % (m * Q + 1), for 1 <= t <= T
+ *
+ * The mark and the version, which is 1, take no draw.
+ *
+ * An example is start 1,950. The three lines of its first draw give
+ *     15976350 15976423 512441095
+ * and the nine draws of its card give
+ *     512441095 1150753202 1400915490 868309888 245083352 454212184 3345617652 598662574 4218901955
+ * So m = 96, Q = 3, T = 0, warm-up price 446, cool-down price 514, F = 426 429 434 442, and there are no
+ * loads. The differences are 3 5 8. The card, in hex:
+ *     44 4C 53 01 00 60 03 00 00 BE 01 00 00 02 02 00 00 AA 01 00 00 AD 01 00 00 B2 01 00 00 BA 01 00 00
+ * Start 4,294,967,255 gives a card with a load: m = 118, Q = 2, T = 1, warm-up price 23, cool-down price
+ * 635, F = 757 762 770, load 197.
+ *
+ * The call does not give the card's length, because the card tells it. After a success its Q is card[6]
+ * and its T is card[7] (card[8] is 0), so it has 17 + 4 * (card[6] + 1) + 2 * card[7] bytes. The other
+ * calls are given the card with this length, even if it lies in a longer array.
+ *
+ * It is proved that every practice card is accepted and that its table never falls. So both planners plan
+ * it, with buffers long enough. It is proved that no practice card is longer than LAMP_MAX_PRACTICE, that
+ * no draw from a start above 0 gives 0, and that two different starts never give the same number in draws
+ * of the same place. From start 0 every draw would give 0, so start 0 is refused, by 14.
+ *
+ * If a host gives a number of more than 32 bits as the start, C takes its low 32 bits, and 4,294,967,296
+ * becomes 0. So a host that reads a start from its user compares it with UINT32_MAX first.
+ *
+ *
  * ANSWERS AND REFUSALS
  *
  * Every call answers every input. A success gives number 0 and a cost. A refusal gives its number and
  * cost 0. If several refusals apply, the call gives the lowest number, wherever in the input each of them
  * lies. For example, a count above m in the last slot (12) is given before a count in slot 1 that cannot
- * serve (13). No call sets errno.
+ * serve (13). Only lamp_practice_card has an order of its own: it tests 14 before 10, so start 0 gives 14
+ * with every buffer, also with one of length 0. The comment at each call below has its refusals in the
+ * order in which they are tested. No call sets errno.
  *
  *
  * BUFFERS
@@ -138,24 +194,28 @@
  * call may overlap: these two rules the library cannot check. A buffer of length 0 may come with any
  * pointer, also NULL.
  *
- * Buffers that are read (card, a plan given to lamp_sheet, a sheet given to lamp_mark) have exactly the
- * length of what they hold. So a plan is given to lamp_sheet with length T, even if it lies in a longer
- * array. A host that reads a card from a file needs LAMP_MAX_CARD + 1 bytes for it and may leave the rest
- * of the file unread: a card of that length is refused like any longer one.
+ * Buffers that are read (card of every call but lamp_practice_card, a plan given to lamp_sheet, a sheet
+ * given to lamp_mark) have exactly the length of what they hold. So a plan is given to lamp_sheet with
+ * length T, even if it lies in a longer array. A host that reads a card from a file needs
+ * LAMP_MAX_CARD + 1 bytes for it and may leave the rest of the file unread: a card of that length is
+ * refused like any longer one.
  *
- * Buffers that are written (plan and work of a planner, sheet of lamp_sheet) have at least the length
- * that the call asks for. They may be longer, and may hold anything at entry: they need no clearing, and
- * nothing in them changes the answer. After a success the bytes asked for hold the answer, in a work
- * buffer zeros, and all further bytes are as they were. After a refusal all bytes are as they were.
+ * Buffers that are written (plan and work of a planner, sheet of lamp_sheet, card of lamp_practice_card)
+ * have at least the length that the call asks for. They may be longer, and may hold anything at entry:
+ * they need no clearing, and nothing in them changes the answer. After a success the bytes asked for hold
+ * the answer, in a work buffer zeros, and all further bytes are as they were. After a refusal all bytes
+ * are as they were.
  *
- *   buffer                     bytes asked for
- *   plan                       T
- *   work of lamp_plan_exact    (m + 1) * T
- *   work of lamp_plan_coarse   10 * T, for every m
- *   sheet                      m * T
+ *   buffer                       bytes asked for
+ *   plan                         T
+ *   work of lamp_plan_exact      (m + 1) * T
+ *   work of lamp_plan_coarse     10 * T, for every m
+ *   sheet                        m * T
+ *   card of lamp_practice_card   17 + 4(Q + 1) + 2T of the practice card, at most LAMP_MAX_PRACTICE
  *
  * Once lamp_check_card has accepted a card, its m is card[5] and its T is card[7] + 256 * card[8], and a
- * host may make its buffers that long. Or it takes the sizes LAMP_MAX_.. below, enough for every card.
+ * host may make its buffers that long. Or it takes the sizes LAMP_MAX_.. below, enough for every card. Q
+ * and T of a practice card are known only after the call, so its buffer has LAMP_MAX_PRACTICE bytes.
  *
  * The separate program `plan` has buffers of fixed size. It therefore plans only shows with (m + 1) * T
  * at most 65,536, and gives refusal 10 for other accepted cards. The library has no such limit.
@@ -190,20 +250,22 @@ extern "C" {
 #endif
 
 /* The release of this library. */
-#define LAMP_RELEASE "1.0.0"
+#define LAMP_RELEASE "1.1.0"
 
-/* The version of the cards that this library accepts. */
+/* The version of the cards that this library accepts, and of those that it makes. */
 #define LAMP_CARD_VERSION 1
 
 /* The byte of a sheet for a module that is off. */
 #define LAMP_OFF 255
 
-/* The sizes that are enough for every card, in bytes. A host whose buffers have these sizes never gets refusal 10. */
+/* The sizes that are enough for every card and for every start, in bytes. A host whose buffers have these sizes never
+ * gets refusal 10. */
 #define LAMP_MAX_CARD 2869         /* a card of Q 200 and T 1,024: 17 + 4 * (200 + 1) + 2 * 1,024 */
 #define LAMP_MAX_PLAN 1024         /* a plan of T 1,024 */
 #define LAMP_MAX_EXACT_WORK 205824 /* work of lamp_plan_exact for m 200 and T 1,024: (200 + 1) * 1,024 */
 #define LAMP_MAX_COARSE_WORK 10240 /* work of lamp_plan_coarse for T 1,024 and any m: 10 * 1,024 */
 #define LAMP_MAX_SHEET 204800      /* a sheet of m 200 and T 1,024: 200 * 1,024 */
+#define LAMP_MAX_PRACTICE 949      /* a practice card of Q 200 and T 64 (start 6,548): 17 + 4 * (200 + 1) + 2 * 64 */
 
 /* The stack that a call uses, in bytes: the largest figure that the test host/limits.c measures, rounded up to a
  * multiple of 256. It counts the call's return address and the memset of the GNU C library. A dynamically
@@ -218,7 +280,8 @@ struct lamp_answer {
     uint64_t cost;   /* in points; 0 with a refusal */
 };
 
-/* The refusals. The word before the colon is that of the papers which define the planner. */
+/* The refusals. The word before the colon is that of the papers which define the planner. They have no word for 14, and
+ * `start` is taken from what they say of it. */
 enum lamp_refusal {
     LAMP_NOT_A_CARD = 1,        /* not a card: under 17 bytes, or wrong mark */
     LAMP_WRONG_VERSION = 2,     /* version: the card's version is not 1 */
@@ -232,7 +295,8 @@ enum lamp_refusal {
     LAMP_BUFFER_TOO_SHORT = 10, /* desk: a buffer shorter than asked for */
     LAMP_WRONG_LENGTH = 11,     /* roll: a handed-in plan is not T bytes, or a sheet not m * T */
     LAMP_ENTRY_RANGE = 12,      /* entry: a count above m, or a sheet byte from Q + 1 to 254 */
-    LAMP_LOAD_NOT_SERVED = 13   /* light: a slot's steps do not sum to its load, or a count cannot serve its load */
+    LAMP_LOAD_NOT_SERVED = 13,  /* light: a slot's steps do not sum to its load, or a count cannot serve its load */
+    LAMP_ZERO_START = 14        /* start: start 0 of a practice card */
 };
 
 /* Checks a card.
@@ -240,7 +304,7 @@ enum lamp_refusal {
  * Reads:     card.
  * Writes:    nothing.
  * Success:   the card is accepted; cost 0.
- * Refusals:  1 to 8. Every other call that takes a card makes these checks too. */
+ * Refusals:  1 to 8. Every other call that reads a card makes these checks too. */
 struct lamp_answer lamp_check_card(const uint8_t *card, size_t card_len);
 
 /* The running cost of one slot: what `count` active modules cost in a slot with load `load`, without any
@@ -310,6 +374,19 @@ struct lamp_answer lamp_mark(const uint8_t *card, size_t card_len, const uint8_t
  * Success:   the rounded count, in the place of the cost.
  * Refusals:  3 if modules is outside 1 to 200; 12 if count is above modules. */
 struct lamp_answer lamp_rounded_count(uint64_t count, uint64_t modules);
+
+/* Makes the practice card of a start, by the draws that PRACTICE CARDS above describes.
+ *
+ * Reads:     nothing.
+ * Writes:    card.
+ * Asks for:  17 + 4(Q + 1) + 2T bytes of card, with Q and T of the practice card. This is at most
+ *            LAMP_MAX_PRACTICE.
+ * Success:   cost 0. The first 17 + 4(Q + 1) + 2T bytes of card hold the practice card, and all further
+ *            bytes are as they were. A start above 0 with LAMP_MAX_PRACTICE bytes of card is never
+ *            refused.
+ * Refusals:  14 if start is 0; then 10 if card_len is less than asked for. All bytes of card are as they
+ *            were. */
+struct lamp_answer lamp_practice_card(uint32_t start, uint8_t *card, size_t card_len);
 
 #ifdef __cplusplus
 }
