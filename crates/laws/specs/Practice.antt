@@ -1,6 +1,6 @@
 -- The practice show of a start: the bounds of its fields, and that its card is accepted, also by the coarse planner. All of it holds by the
 -- way the show is made: its differences are never negative and never fall.
-use Prim.Native.Nat.{ℕ, zero, suc, _+_, _*_, _%_, _≤_, _<_}
+use Prim.Native.Nat.{ℕ, zero, suc, _+_, _*_, _≤_}
 use mathlib.Core.Path.{_≡_}
 use mathlib.Core.Bool.{true}
 use native.Mathlib.Nat.{mod-lt}
@@ -12,7 +12,7 @@ use Rattle.lists.specs.Tests.{and-both, every-all}
 use Rattle.model.specs.Instance.{cardBytes, cardLength, inOrder, pricesInRange, tableInRange, convex, convexAt, loadsInRange, neverFalls}
 use Rattle.model.specs.Practice.{drawn, practiceDifference, practiceEntry, practiceShow, longestPractice}
 use Rattle.model.specs.Calls.{Accepted}
-use Rattle.laws.specs.Encoding.{in-order-accepted, card-bytes-length}
+use Rattle.laws.specs.Encoding.{in-order-accepted}
 
 module _ (start : ℕ) where
   -- m and Q are from 1 to 200, T is at most 64.

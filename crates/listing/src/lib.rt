@@ -1,7 +1,6 @@
 // The program's text: each function writes a part of it into a lent area from a place on, and returns the place after it.
 ghost use mathlib.Core.Path.{_≡_};
 ghost use Prim.Native.Nat.{_<_};
-ghost use mathlib.Core.List.{[], _∷_};
 ghost use lib.ListN.{length};
 ghost use Rattle.lists.specs.Lists.{writtenOver};
 ghost use Rattle.lists.specs.Writing.{Room, Written};

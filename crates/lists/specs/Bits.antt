@@ -1,8 +1,7 @@
 -- Exclusive or, beyond the toolchain's laws on it, and functions that it passes through.
 use Prim.Native.Nat.{ℕ, zero, suc, _+_, _*_, _/_, _%_, _^_, _<_}
 use mathlib.Core.Path.{_≡_, refl, sym, ap, ap₂, _∙_}
-use mathlib.Core.Logic.{⊎-elim}
-use native.Mathlib.Nat.{add-zero, mod-lt, div-add-mod', eq-zero-or-pos}
+use native.Mathlib.Nat.{add-zero, mod-lt, div-add-mod'}
 use native.Mathlib.Omega.{arith}
 use lib.Arith.{bin-ind}
 use lib.Pow.{pow-pos}

@@ -1,19 +1,18 @@
 -- The answer of the practice call, by the start and the length of its area, and the area at exit.
 use Prim.Native.Nat.{ℕ, _≤_, _<_}
-use mathlib.Core.Path.{_≡_, refl, sym, _∙_}
+use mathlib.Core.Path.{_≡_, sym, _∙_}
 use mathlib.Core.List.{List}
 use native.Mathlib.Omega.{arith}
 use lib.ListN.{length}
-use lib.Dec.{eqb}
 use borrow.Author.Tests.{eq-eqb, ne-eqb, lt-ltb, le-ltb}
-use Rattle.lists.specs.Writing.{Room, Written, written-start}
+use Rattle.lists.specs.Writing.{Written, written-start}
 use Rattle.model.specs.declared.Refusal.the-variants.{ZeroStart, BufferTooShort}
 use Rattle.model.specs.declared.Answer.{Answer}
 use Rattle.model.specs.declared.Answer.the-variants.{Cost, Refused}
 use Rattle.model.specs.Instance.{cardBytes, cardLength, loadPlace}
 use Rattle.model.specs.Practice.{practiceShow}
 use Rattle.model.specs.Calls.{practiceCard, startsAtZero, buffersOf, anyShort, requestOf, applies, refusals, firstRefusal, successCost, answer}
-use Rattle.model.specs.Calls.{Buffer, cardBuffer, atExit, buffersAtExit, cardAtExit}
+use Rattle.model.specs.Calls.{cardBuffer, atExit, buffersAtExit, cardAtExit}
 use Rattle.laws.specs.Encoding.{card-bytes-length}
 use Rattle.practice.specs.declared.Head.{Head}
 use Rattle.practice.specs.Drawing.{DrawnHead, DrawnRoom}

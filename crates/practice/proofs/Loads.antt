@@ -11,7 +11,7 @@ use Rattle.model.specs.Practice.{draw, drawn, practiceShow}
 use Rattle.laws.specs.Practice.{practice-rack}
 use Rattle.practice.specs.declared.Head.{Head}
 use Rattle.practice.specs.declared.AfterTable.{AfterTable}
-use Rattle.practice.specs.Drawing.{DrawnHead, DrawnRoom, LoadsRoom}
+use Rattle.practice.specs.Drawing.{DrawnHead, LoadsRoom}
 
 -- Loads so far: those of the first t slots are written.
 pub record LoadsSoFar (h : Head) (bound p : ℕ) (old : List ℕ) (t : ℕ) (new : List ℕ) (place state : ℕ) : Type 0 where
