@@ -10,6 +10,8 @@ import sys
 import tempfile
 import time
 
+from practice import practice_card
+
 ROOT = pathlib.Path(__file__).resolve().parent.parent
 SYSTEM = "/usr/bin:/bin"
 A = b"cost 32\nplan 3 1 1\nslot 1: 2 2 2\nslot 2: 0 - -\nslot 3: 2 - -\n"
@@ -38,12 +40,18 @@ def commands(readme, section):
 
 
 def run_lines(name, lines, folder, environment):
-    """Runs each line by itself; together they print the listing of example A and the marks of example D."""
+    """Runs each line by itself, and gives what they print."""
     printed = b""
     for line in lines:
         found = run(["sh", "-c", line], folder, env=environment)
         expect(f"{name}: {line}", found, 0)
         printed += found[1]
+    return printed
+
+
+def run_day(name, lines, folder, environment):
+    """The lines of an examiner's day together print the listing of example A and the marks of example D."""
+    printed = run_lines(name, lines, folder, environment)
     for part in (b"accepted: 3 modules", A, b"cost 37\nleast 32\nabove 5\n"):
         if part not in printed:
             sys.exit(f"{name}: its lines do not print {part!r}")
@@ -129,7 +137,8 @@ def release(folder):
     (moved / "target").mkdir()
     use(moved, bare)
     (moved / "target").rmdir()
-    run_lines("the release's README", commands("release/README.md", "# Lamp planner, a release"), moved, bare)
+    run_day("the release's README", commands("release/README.md", "# Lamp planner, a release"), moved, bare)
+    expect_cards(moved, [1950])
 
 
 def use(folder, bare):
@@ -148,6 +157,13 @@ def use(folder, bare):
     (folder / "host").unlink()
 
 
+def expect_cards(folder, starts):
+    """The folder has these practice cards."""
+    for start in starts:
+        if (folder / f"{start}.card").read_bytes() != practice_card(start):
+            sys.exit(f"{start}.card is not the practice card of its number")
+
+
 def version():
     header = (ROOT / "include" / "lamp.h").read_text(encoding="utf-8")
     return f"lamp {re.search(r'LAMP_RELEASE .([0-9.]+).', header)[1]}\n".encode()
@@ -160,7 +176,10 @@ def readme(folder):
     lines = commands("README.md", "## The examiner's day")
     if [command for command in DAY if not any(f"bin/lamp {command} " in line for line in lines)] or len(lines) > 6:
         sys.exit(f"README's day is not six lines with {DAY}")
-    run_lines("README", lines, folder, None)
+    run_day("README", lines, folder, None)
+    run_lines("README", commands("README.md", "## Practice shows"), folder, None)
+    expect_cards(folder, [1950])
+    expect_cards(folder / "cards", range(1, 31))
     expect("README's first command", run(["sh", "-c", commands("README.md", "# Lamp planner")[0]], folder), 0, A)
 
 
