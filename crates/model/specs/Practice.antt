@@ -3,11 +3,11 @@ use Prim.Native.Nat.{ℕ, zero, suc, _+_, _*_, _/_, _%_, _^_}
 use lib.Bits.{bitXor}
 use Rattle.model.specs.Instance.{Instance}
 
--- The numbers that a state of the generator may be: 'a 32-bit start'.
+-- How many states the generator has: all numbers of 32 bits, as 'a 32-bit start'.
 abbrev pub states : ℕ
 states = 2 ^ 32
 
--- The bits of a number that are kept: 'low 32 bits', and 'low 32 bits again'.
+-- What is kept of a number that was shifted left: 'low 32 bits', and 'low 32 bits again'.
 abbrev pub low32 : ℕ → ℕ
 low32 n = n % states
 
@@ -22,7 +22,7 @@ xorRight bits s = bitXor s (s / 2 ^ bits)
 unfoldable pub draw : ℕ → ℕ
 draw s = xorLeft 5 (xorRight 17 (xorLeft 13 s))
 
--- Draw number n of a start, counted from 1 on: n times the new s.
+-- Draw number n of a start, where the first draw has number 1: each works on what the one before it gave, and the first on the start.
 unfoldable pub drawn : (start n : ℕ) → ℕ
 drawn start zero = start
 drawn start (suc n) = draw (drawn start n)

@@ -7,15 +7,10 @@ put-front-requires : tie.Need-put-front-requires
 put-front-requires c κs = search front-room
 
 put-rack-requires : tie.Need-put-rack-requires
-put-rack-requires c κs =
-    let front = c .before .before .before in
-    rack-there (front .before .before .before .pre) (front .put-front .ensures)
+put-rack-requires c κs = search rack-there
 
 put-prices-requires : tie.Need-put-prices-requires
-put-prices-requires c κs =
-    let rack = c .before .before .before in
-    let front = rack .before .before .before .before in
-    prices-there (front .before .before .before .pre) (front .put-front .ensures) (rack .put-rack .ensures)
+put-prices-requires c κs = search prices-there
 
 put-table-requires : tie.Need-put-table-requires
 put-table-requires c κs =
@@ -34,14 +29,7 @@ put-loads-requires c κs =
     (table .put-table .result) (table .put-table .ensures .0) (table .put-table .ensures .1)
 
 returns : tie.Need-returns
-returns c =
-    let loads = c .before .before in
-    let table = loads .before .before .before .before in
-    let prices = table .before .before .before .before in
-    let rack = prices .before .before .before .before in
-    let front = rack .before .before .before .before in
-    card-written (front .before .before .before .pre) (front .put-front .ensures) (rack .put-rack .ensures) (prices .put-prices .ensures)
-    (table .put-table .ensures .0) (loads .put-loads .ensures)
+returns c = search card-written
 
 pub put-card-spec : {M : Type 1} → statement M
 put-card-spec =
