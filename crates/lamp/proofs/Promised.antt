@@ -19,7 +19,7 @@ use Rattle.laws.specs.AnswerNumber.{number-zero}
 use Rattle.theory.specs.CountLists.{planner-counts-ascending}
 use Rattle.theory.specs.Condition3.{accepted-plannable, least-sheet, planner-bound}
 use Rattle.theory.specs.Refusals.{succeeded}
-use Rattle.theory.specs.Practice.{practice-writes, practice-enough}
+use Rattle.theory.specs.PracticeCards.{practice-writes, practice-enough}
 use Rattle.theory.specs.Outcomes.{written-taken, mark-number, made-marked, best-fits, plan-at-exit, planner-on, planner-table}
 
 -- What is given of an answer is given of an equal one.

@@ -4,5 +4,5 @@ pub mod FirstRefusal
 pub mod Acceptance
 pub mod OnCard
 pub mod Encoding
-pub mod Practice
+pub mod PracticeAccepted
 pub mod Operating

@@ -10,7 +10,7 @@ pub mod Lists
 pub mod Text
 pub mod Members
 pub mod Bytes
-pub mod Bits
+pub mod ExclusiveOr
 pub mod Filling
 pub mod Prefixes
 pub mod Searching

@@ -1,5 +1,5 @@
-pub mod Fields
-pub mod Table
-pub mod Loads
-pub mod Parts
-pub mod Answers
+pub mod DrawnFields
+pub mod TableLoop
+pub mod LoadsLoop
+pub mod CardParts
+pub mod PracticeAnswers

@@ -1,6 +1,6 @@
 -- The theorems, a module a subject. Every statement is over instances and lists of any size. The end theorems are in SheetLaws,
--- Enumeration, Average, CountLists, Condition3, Refusals, Outcomes and LongInput, and the other modules lead to them. Counterexamples
--- shows that their hypotheses are needed, and Applications that they can be met.
+-- Enumeration, Average, CountLists, Condition3, Refusals, Outcomes, LongInput, Generator and PracticeCards, and the other modules lead to
+-- them. Counterexamples shows that their hypotheses are needed, and Applications that they can be met.
 pub mod Hypotheses
 pub mod Tables
 pub mod RowCosts
@@ -20,6 +20,7 @@ pub mod Condition3
 pub mod Refusals
 pub mod Outcomes
 pub mod LongInput
-pub mod Practice
+pub mod Generator
+pub mod PracticeCards
 pub mod Counterexamples
 pub mod Applications

@@ -1,5 +1,5 @@
 use borrow.Author.Needs.{needs}
-use Rattle.practice.proofs.Fields.{head-drawn}
+use Rattle.practice.proofs.DrawnFields.{head-drawn}
 use Rattle.practice.proofs.draw_head.Statement.{statement}
 use Rattle.practice.proofs.draw_head.Tie as tie
 

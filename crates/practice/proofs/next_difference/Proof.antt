@@ -1,5 +1,5 @@
 use borrow.Author.Needs.{needs}
-use Rattle.practice.proofs.Fields.{first-difference, later-difference}
+use Rattle.practice.proofs.DrawnFields.{first-difference, later-difference}
 use Rattle.practice.proofs.next_difference.Statement.{statement}
 use Rattle.practice.proofs.next_difference.Tie as tie
 

@@ -1,5 +1,5 @@
 use borrow.Author.Needs.{needs}
-use Rattle.practice.proofs.Parts.{front-room, rack-there, prices-there, table-there, loads-there, card-written}
+use Rattle.practice.proofs.CardParts.{front-room, rack-there, prices-there, table-there, loads-there, card-written}
 use Rattle.practice.proofs.put_card.Statement.{statement}
 use Rattle.practice.proofs.put_card.Tie as tie
 

@@ -1,7 +1,7 @@
 use Prim.Native.Nat.{_-_}
 use native.Mathlib.Omega.{arith}
 use borrow.Author.Needs.{needs}
-use Rattle.practice.proofs.Loads.{LoadsSoFar, full-range, loads-start, load-room, loads-turn, loads-end}
+use Rattle.practice.proofs.LoadsLoop.{LoadsSoFar, full-range, loads-start, load-room, loads-turn, loads-end}
 use Rattle.practice.proofs.put_loads.Statement.{statement}
 use Rattle.practice.proofs.put_loads.Tie as tie
 

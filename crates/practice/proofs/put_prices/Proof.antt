@@ -1,6 +1,6 @@
 use borrow.Author.Needs.{needs}
 use Rattle.lists.specs.Writing.{room-first, room-rest, written-more}
-use Rattle.practice.proofs.Fields.{price-room, price-written}
+use Rattle.practice.proofs.DrawnFields.{price-room, price-written}
 use Rattle.practice.proofs.put_prices.Statement.{statement}
 use Rattle.practice.proofs.put_prices.Tie as tie
 

@@ -1,6 +1,6 @@
 use borrow.Author.Needs.{needs}
 use Rattle.lists.specs.Writing.{room-first, room-rest, written-more}
-use Rattle.practice.proofs.Fields.{rack-room, rack-written}
+use Rattle.practice.proofs.DrawnFields.{rack-room, rack-written}
 use Rattle.practice.proofs.put_rack.Statement.{statement}
 use Rattle.practice.proofs.put_rack.Tie as tie
 

@@ -1,7 +1,7 @@
 use Prim.Native.Nat.{_-_}
 use native.Mathlib.Omega.{arith}
 use borrow.Author.Needs.{needs}
-use Rattle.practice.proofs.Table.{TableSoFar, entry-room, difference-small, next-small, table-starts, table-turns, table-ends}
+use Rattle.practice.proofs.TableLoop.{TableSoFar, entry-room, difference-small, next-small, table-starts, table-turns, table-ends}
 use Rattle.practice.proofs.put_table.Statement.{statement}
 use Rattle.practice.proofs.put_table.Tie as tie
 

@@ -8,7 +8,7 @@ use Rattle.lists.specs.Bytes.{bytesOf}
 use Rattle.lists.specs.Writing.{Room, Written, RowsWritten, rows-none, rows-room, rows-more, rows-all}
 use Rattle.model.specs.Instance.{tableBytes}
 use Rattle.model.specs.Practice.{draw, drawn, practiceDifference, practiceEntry, practiceShow}
-use Rattle.laws.specs.Practice.{practice-rack, difference-most, entry-most}
+use Rattle.laws.specs.PracticeAccepted.{practice-rack, difference-most, entry-most}
 use Rattle.practice.specs.declared.Head.{Head}
 use Rattle.practice.specs.Drawing.{DrawnHead, DrawnRoom, SmallDifference, nextDifference}
 

@@ -8,7 +8,7 @@ use Rattle.lists.specs.Bytes.{bytesOf}
 use Rattle.lists.specs.Writing.{Room, Written, RowsWritten, rows-none, rows-room, rows-more, rows-all}
 use Rattle.model.specs.Instance.{loadBytes}
 use Rattle.model.specs.Practice.{draw, drawn, practiceShow}
-use Rattle.laws.specs.Practice.{practice-rack}
+use Rattle.laws.specs.PracticeAccepted.{practice-rack}
 use Rattle.practice.specs.declared.Head.{Head}
 use Rattle.practice.specs.declared.AfterTable.{AfterTable}
 use Rattle.practice.specs.Drawing.{DrawnHead, LoadsRoom}

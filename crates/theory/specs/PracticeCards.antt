@@ -1,0 +1,70 @@
+-- The cards of practice shows (document 02, §1): every one that is written is accepted and planned by both planners.
+use Prim.Native.Nat.{ℕ, _+_, _≤_}
+use mathlib.Core.Path.{_≡_, refl, _∙_}
+use mathlib.Core.Bool.{true}
+use mathlib.Core.List.{List}
+use native.Mathlib.Omega.{arith}
+use lib.ListN.{length}
+use borrow.Author.Tests.{ne-eqb, le-ltb}
+use Rattle.lists.specs.Tests.{every-same}
+use Rattle.model.specs.Answers.{numberOf}
+use Rattle.model.specs.Instance.{instanceOf, cardBytes, cardLength, neverFalls}
+use Rattle.model.specs.Planners.{Planner, exact, coarse, tableAllowed}
+use Rattle.model.specs.Practice.{practiceShow, longestPractice}
+use Rattle.model.specs.Calls.{practiceCard, startsAtZero, buffersOf, anyShort, requestOf, applies, refusals, firstRefusal, answer, Accepted}
+use Rattle.model.specs.Calls.{atExit, buffersAtExit, cardAtExit}
+use Rattle.model.specs.Promises.{frontCard, AlwaysPlanned}
+use Rattle.laws.specs.Encoding.{in-order-fits, card-bytes-length, card-bytes-show, front-card}
+use Rattle.laws.specs.PracticeAccepted.{practice-in-order, practice-never-falls, practice-accepted, practice-length}
+use Rattle.theory.specs.Refusals.{succeeded}
+use Rattle.theory.specs.Outcomes.{always-planned}
+
+module _ (start : ℕ) where
+  -- The card of the practice show.
+  abbrev practised : List ℕ
+  practised = cardBytes (practiceShow start)
+
+  -- The table that is read from the card never falls either.
+  read-never-falls : neverFalls (instanceOf practised .topStep) (instanceOf practised .table) ≡ true
+  unfolding neverFalls
+  read-never-falls =
+      let same = card-bytes-show (practiceShow start) (in-order-fits _ (practice-in-order start)) in
+      rw (same .topStep)
+      (every-same (practiceShow start .topStep) _ _
+      (λ k h. rw (same .table k (omega arith), same .table (k + 1) (omega arith))) ∙
+      practice-never-falls start)
+
+  -- 'Every card it writes is accepted, also by the coarse planner': with buffers long enough either planner plans it.
+  pub practice-planned : (k : Planner) → AlwaysPlanned k practised
+  unfolding tableAllowed
+  practice-planned exact p w = always-planned exact practised p w (practice-accepted start) refl
+  practice-planned coarse p w = always-planned coarse practised p w (practice-accepted start) read-never-falls
+
+  module _ (area : List ℕ) where
+    -- After number 0 the card is what stands at the front of the area.
+    pub practice-front : numberOf (answer (practiceCard start area)) ≡ 0 → frontCard (cardAtExit (practiceCard start area)) ≡ practised
+    unfolding cardAtExit buffersAtExit buffersOf atExit
+    practice-front e =
+        rw (succeeded (practiceCard start area) e) (front-card (practiceShow start) (practice-in-order start) _)
+
+    -- That card is accepted, planned by either planner, and at most as long as the longest one.
+    pub practice-writes :
+        numberOf (answer (practiceCard start area)) ≡ 0 →
+        Accepted (frontCard (cardAtExit (practiceCard start area))) ×
+        ((k : Planner) → AlwaysPlanned k (frontCard (cardAtExit (practiceCard start area)))) ×
+        (length (frontCard (cardAtExit (practiceCard start area))) ≤ longestPractice)
+    practice-writes e =
+        rw (practice-front e) (
+          practice-accepted start,
+          practice-planned,
+          omega (arith, card-bytes-length (practiceShow start), practice-length start),
+        )
+
+    -- An area as long as the longest card is never refused by 10.
+    pub practice-enough : 1 ≤ start → longestPractice ≤ length area → numberOf (answer (practiceCard start area)) ≡ 0
+    unfolding answer requestOf refusals firstRefusal applies startsAtZero buffersOf anyShort
+    practice-enough some long =
+        let asked = practice-length start in
+        let room : cardLength (practiceShow start) ≤ length area = omega arith in
+        let not-zero : start ≡ 0 → ⊥ = λ e. absurd (omega arith) in
+        rw (ne-eqb start 0 not-zero, le-ltb _ _ room)
