@@ -173,8 +173,9 @@
  * no draw from a start above 0 gives 0, and that two different starts never give the same number in draws
  * of the same place. From start 0 every draw would give 0, so start 0 is refused, by 14.
  *
- * If a host gives a number of more than 32 bits as the start, C takes its low 32 bits, and 4,294,967,296
- * becomes 0. So a host that reads a start from its user compares it with UINT32_MAX first.
+ * If a host gives a number of more than 32 bits as the start, C takes its low 32 bits: 4,294,967,296
+ * becomes 0, and -5 becomes 4,294,967,291. So a host that reads a start from its user first looks whether
+ * it is at least 0 and at most UINT32_MAX.
  *
  *
  * ANSWERS AND REFUSALS
