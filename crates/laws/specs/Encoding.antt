@@ -12,10 +12,10 @@ use lib.Seq.{take-at}
 use borrow.Author.Tests.{leb-true, le-leb, le-ltb, eq-eqb}
 use Rattle.lists.specs.Tests.{allOf, and-left, and-right, and-both, every-at, every-all, every-same}
 use Rattle.lists.specs.Lists.{sameList}
-use Rattle.lists.specs.Bytes.{littleEndian, bytesOf, little-bytes, little-take, little-after}
-use Rattle.lists.specs.Rows.{numbers, length-numbers, little-numbers}
-use Rattle.model.specs.Instance.{Instance, instanceOf, headLength, topStepPlace, slotsPlace, entryPlace, loadPlace, cardMark, cardVersion, markOf, versionOf}
-use Rattle.model.specs.Instance.{cardLength, cardBytes, inOrder, rackNumber, pricesInRange, tableInRange, convex, convexAt, loadsInRange}
+use Rattle.lists.specs.Bytes.{littleEndian, bytesOf, little-bytes, little-after}
+use Rattle.lists.specs.Rows.{length-numbers, little-numbers}
+use Rattle.model.specs.Instance.{Instance, instanceOf, headLength, entryPlace, loadPlace, cardMark, cardVersion, markOf, versionOf}
+use Rattle.model.specs.Instance.{cardLength, tableBytes, loadBytes, cardBytes, inOrder, rackNumber, pricesInRange, tableInRange, convex, convexAt, loadsInRange}
 use Rattle.model.specs.Calls.{Accepted, answer, requestOf, refusals, successCost, applies, firstRefusal}
 use Rattle.model.specs.Promises.{frontCard}
 use Rattle.laws.specs.Acceptance.{modules-range, top-range, slots-range, up-range, down-range, table-range, table-convex}
@@ -42,36 +42,29 @@ pub record SameShow (i j : Instance) : Type 0 where
   pub load : (t : ℕ) → t < i .slots → j .load t ≡ i .load t
 
 module _ (i : Instance) where
-  -- Behind the head of the card of a show stand the entries of the table, and then the loads.
-  abbrev entries : List ℕ
-  entries = numbers 4 (i .topStep + 1) (i .table)
-
-  abbrev loads : List ℕ
-  loads = numbers 2 (i .slots) (i .load)
-
-  entries-length : length entries ≡ (i .topStep + 1) * 4
+  entries-length : length (tableBytes i) ≡ (i .topStep + 1) * 4
   entries-length = length-numbers 4 (i .topStep + 1) (i .table)
 
   -- The card of a show has the length that the show asks for.
   pub card-bytes-length : length (cardBytes i) ≡ cardLength i
   unfolding cardBytes cardLength bytesOf
-  card-bytes-length = omega (arith, length-append entries loads, entries-length, length-numbers 2 (i .slots) (i .load))
+  card-bytes-length = omega (arith, length-append (tableBytes i) (loadBytes i), entries-length, length-numbers 2 (i .slots) (i .load))
 
   -- A number behind the head is one of what follows the head.
-  behind-head : (w p q : ℕ) → p ≡ headLength + q → littleEndian w (cardBytes i) p ≡ littleEndian w (entries ++ loads) q
+  behind-head : (w p q : ℕ) → p ≡ headLength + q → littleEndian w (cardBytes i) p ≡ littleEndian w (tableBytes i ++ loadBytes i) q
   unfolding cardBytes bytesOf
-  behind-head w p q place = little-after w (take headLength (cardBytes i)) (entries ++ loads) q place
+  behind-head w p q place = little-after w (take headLength (cardBytes i)) (tableBytes i ++ loadBytes i) q place
 
   module _ (fit : FieldsFit i) where
     entry-read : (k : ℕ) → k ≤ i .topStep → littleEndian 4 (cardBytes i) (entryPlace k) ≡ i .table k
     entry-read k h =
         behind-head 4 (entryPlace k) (k * 4) (omega arith) ∙
-        little-numbers 4 (i .topStep + 1) (i .table) loads (omega arith) (fit .table k h)
+        little-numbers 4 (i .topStep + 1) (i .table) (loadBytes i) (omega arith) (fit .table k h)
 
     load-read : (t : ℕ) → t < i .slots → littleEndian 2 (cardBytes i) (loadPlace (i .topStep) t) ≡ i .load t
     load-read t h =
         behind-head 2 (loadPlace (i .topStep) t) ((i .topStep + 1) * 4 + t * 2) (omega arith) ∙
-        little-after 2 entries loads (t * 2) (omega (arith, entries-length)) ∙
+        little-after 2 (tableBytes i) (loadBytes i) (t * 2) (omega (arith, entries-length)) ∙
         (rw append-nil at (little-numbers 2 (i .slots) (i .load) [] h (fit .load t h)))
 
     -- A show whose fields fit is read back from its card.
@@ -160,17 +153,10 @@ module _ (i : Instance) where
 pub in-order-accepted : (i : Instance) → inOrder i ≡ true → Accepted (cardBytes i)
 in-order-accepted i e = card-bytes-accepted i (in-order-fits i e) .1 e
 
--- A show that is in order is read back from the front of any list that begins with its card, and its card is the front of that list.
+-- The card of a show that is in order is the card at the front of any list that begins with it.
 pub front-card : (i : Instance) → inOrder i ≡ true → (rest : List ℕ) → frontCard (cardBytes i ++ rest) ≡ cardBytes i
-unfolding cardLength littleEndian instanceOf
+unfolding cardBytes cardLength bytesOf littleEndian instanceOf
 front-card i e rest =
-    let same = card-bytes-show i (in-order-fits i e) in
-    let size = card-bytes-length i in
-    rw (field 1 topStepPlace (omega arith) ∙ same .topStep, field 2 slotsPlace (omega arith) ∙ same .slots)
-    (take-at (cardBytes i) rest (cardLength i) size)
-  where
-    field : (w p : ℕ) → p + w ≤ headLength → littleEndian w (cardBytes i ++ rest) p ≡ littleEndian w (cardBytes i) p
-    field w p h =
-        let long : p + w ≤ length (cardBytes i) = omega (arith, card-bytes-length i) in
-        sym (little-take w (length (cardBytes i)) (cardBytes i ++ rest) p long) ∙
-        ap (λ l. littleEndian w l p) (take-at (cardBytes i) rest _ refl)
+    let fit = in-order-fits i e in
+    rw (little-bytes 1 (i .topStep) (fit .topStep), little-bytes 2 (i .slots) (fit .slots))
+    (take-at (cardBytes i) rest (cardLength i) (card-bytes-length i))

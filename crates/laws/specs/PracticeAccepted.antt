@@ -3,15 +3,18 @@
 use Prim.Native.Nat.{ℕ, zero, suc, _+_, _*_, _≤_}
 use mathlib.Core.Path.{_≡_}
 use mathlib.Core.Bool.{true}
+use mathlib.Core.List.{List}
 use native.Mathlib.Nat.{mod-lt}
 use native.Mathlib.Numerals.{add-one}
 use native.Mathlib.Omega.{arith}
 use lib.Dec.{leb}
-use borrow.Author.Tests.{le-leb}
+use lib.ListN.{length}
+use borrow.Author.Tests.{le-leb, ne-eqb, le-ltb}
 use Rattle.lists.specs.Tests.{and-both, every-all}
+use Rattle.model.specs.declared.Answer.the-variants.{Cost}
 use Rattle.model.specs.Instance.{cardBytes, cardLength, inOrder, pricesInRange, tableInRange, convex, convexAt, loadsInRange, neverFalls}
 use Rattle.model.specs.Practice.{drawn, practiceDifference, practiceEntry, practiceShow, longestPractice}
-use Rattle.model.specs.Calls.{Accepted}
+use Rattle.model.specs.Calls.{Accepted, practiceCard, answer, requestOf, refusals, firstRefusal, applies, startsAtZero, buffersOf, anyShort, successCost}
 use Rattle.laws.specs.Encoding.{in-order-accepted}
 
 module _ (start : ℕ) where
@@ -79,6 +82,12 @@ module _ (start : ℕ) where
   -- Every practice card is accepted.
   pub practice-accepted : Accepted (cardBytes (practiceShow start))
   practice-accepted = in-order-accepted (practiceShow start) practice-in-order
+
+  -- A start other than 0 with an area that is long enough for its card is answered by cost 0.
+  pub practice-given :
+      (area : List ℕ) → (start ≡ 0 → ⊥) → cardLength (practiceShow start) ≤ length area → answer (practiceCard start area) ≡ Cost 0
+  unfolding answer requestOf refusals firstRefusal applies startsAtZero buffersOf anyShort successCost
+  practice-given area some room = rw (ne-eqb start 0 some, le-ltb _ _ room)
 
   -- No practice card is longer than the longest one.
   pub practice-length : cardLength (practiceShow start) ≤ longestPractice

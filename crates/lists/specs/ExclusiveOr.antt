@@ -5,23 +5,11 @@ use native.Mathlib.Nat.{add-zero, mod-lt, div-add-mod'}
 use native.Mathlib.Omega.{arith}
 use lib.Arith.{bin-ind}
 use lib.Pow.{pow-pos}
-use lib.Bits.{bitXor, differ, xor-step, xor-comm, xor-self, xor-block, xor-mod, xor-shr, xor-lt}
-
--- Two binary digits that do not differ are equal.
-digits-equal : (x y : ℕ) → differ x y ≡ 0 → x ≡ y
-digits-equal zero y e = sym e
-digits-equal (suc x) zero e = e
-digits-equal (suc x) (suc y) e = ap suc (digits-equal x y e)
+use lib.Bits.{bitXor, differ, xor-step, xor-comm, xor-self, xor-block, xor-mod, xor-shr, xor-lt, xor-add-and, and-le-l, and-le-r}
 
 -- Two numbers whose exclusive or is 0 are equal.
 pub xor-none : (a b : ℕ) → bitXor a b ≡ 0 → a ≡ b
-xor-none =
-    bin-ind (λ (n : ℕ). (b : ℕ) → bitXor n b ≡ 0 → n ≡ b) (λ b e. sym e)
-    (λ n below b e.
-    let parts : bitXor (n / 2) (b / 2) * 2 + differ (n % 2) (b % 2) ≡ 0 = sym (xor-step n b) ∙ e in
-    let high = below (b / 2) (omega arith) in
-    let low = digits-equal (n % 2) (b % 2) (omega arith) in
-    omega (arith, div-add-mod' n 2, div-add-mod' b 2))
+xor-none a b e = omega (arith, xor-add-and a b, and-le-l a b, and-le-r a b)
 
 -- Three binary digits differ alike in both groupings.
 differ-group : (x y z : ℕ) → x < 2 → y < 2 → z < 2 → differ (differ x y) z ≡ differ x (differ y z)

@@ -21,7 +21,7 @@ use Rattle.model.specs.Sheets.{sheetOperatingCost, sheetSwitchingCost, s
 use Rattle.model.specs.Plans.{moduleByte, slotRow, sheetOf, planCost, planServes, plansInOrder, cheapest, cheapestOf, leastPlan}
 use Rattle.model.specs.Planners.{exact, coarse, allowedCounts, workBytes, plannerRefusals, plannedBy}
 use Rattle.model.specs.Listing.{digits, decimal, costLine, planLine, stepText, slotLine, listing, refusedLine, printedFor, printed}
-use Rattle.model.specs.Practice.{xorLeft, xorRight, draw, drawn, practiceDifference, practiceEntry, practiceShow}
+use Rattle.model.specs.Practice.{xorLeft, xorRight, draw, drawn, practiceDifference, practiceEntry, practiceShow, longestPractice}
 use Rattle.model.specs.Calls.{Call, checkCard, runningCost, planShow, makeSheet, markSheet, roundCount, practiceCard}
 use Rattle.model.specs.Calls.{rightLength, entriesInRange, loadsServed, startsAtZero, buffersOf, anyShort, requestOf, applies, refusals, firstRefusal}
 use Rattle.model.specs.Calls.{successCost, answer, atExit, buffersAtExit, planAtExit, cardAtExit, outcome}
@@ -199,6 +199,7 @@ practiceRows =
     row "start 0 before no area" (practiceCard 0 []) 14 0 ([] ∷ []) ∷
     row "one byte too short" (practiceCard 1950 (sevens 32)) 10 0 (sevens 32 ∷ []) ∷
     row "a practice card is accepted" (checkCard card2557) 0 0 [] ∷
+    one "start 6,548 has a longest card" (cardLength (practiceShow 6548) ∷ []) (longestPractice ∷ []) ∷
     []
 
 -- What is found is what is expected, computed through every definition.

@@ -20,13 +20,11 @@ pub record LoadsSoFar (h : Head) (bound p : ℕ) (old : List ℕ) (t : ℕ) (new
   pub written : RowsWritten (λ j. bytesOf 2 (practiceShow (h .start) .load j)) (practiceShow (h .start) .slots) p old t new place
   pub state-is : state ≡ drawn (h .start) (6 + h .topStep + t)
 
--- m × Q is a small number and not 0.
-pub full-range : {h : Head} → DrawnHead h → (1 ≤ h .modules * h .topStep) × (h .modules * h .topStep ≤ 40000)
+-- m × Q is a small number.
+pub full-range : {h : Head} → DrawnHead h → h .modules * h .topStep ≤ 40000
 full-range {h} is =
-    let (some, most, one, top, _) = practice-rack (h .start) in
-    let m : (1 ≤ h .modules) × (h .modules ≤ 200) = rw (is .modules-is) (some, most) in
-    let q : (1 ≤ h .topStep) × (h .topStep ≤ 200) = rw (is .top-is) (one, top) in
-    (mul-le-mul (m .0) (q .0), mul-le-mul (m .1) (q .1))
+    let (_, most, _, top, _) = practice-rack (h .start) in
+    rw (is .modules-is, is .top-is) (mul-le-mul most top)
 
 -- Before the first turn nothing is written.
 pub loads-start :

@@ -4,16 +4,17 @@ use mathlib.Core.Path.{_≡_, sym, _∙_}
 use mathlib.Core.List.{List}
 use native.Mathlib.Omega.{arith}
 use lib.ListN.{length}
-use borrow.Author.Tests.{eq-eqb, ne-eqb, lt-ltb, le-ltb}
+use borrow.Author.Tests.{eq-eqb, ne-eqb, lt-ltb}
 use Rattle.lists.specs.Writing.{Written, written-start}
 use Rattle.model.specs.declared.Refusal.the-variants.{ZeroStart, BufferTooShort}
 use Rattle.model.specs.declared.Answer.{Answer}
 use Rattle.model.specs.declared.Answer.the-variants.{Cost, Refused}
 use Rattle.model.specs.Instance.{cardBytes, cardLength, loadPlace}
 use Rattle.model.specs.Practice.{practiceShow}
-use Rattle.model.specs.Calls.{practiceCard, startsAtZero, buffersOf, anyShort, requestOf, applies, refusals, firstRefusal, successCost, answer}
+use Rattle.model.specs.Calls.{practiceCard, startsAtZero, buffersOf, anyShort, requestOf, applies, refusals, firstRefusal, answer}
 use Rattle.model.specs.Calls.{cardBuffer, atExit, buffersAtExit, cardAtExit}
 use Rattle.laws.specs.Encoding.{card-bytes-length}
+use Rattle.laws.specs.PracticeAccepted.{practice-given}
 use Rattle.practice.specs.declared.Head.{Head}
 use Rattle.practice.specs.Drawing.{DrawnHead, DrawnRoom}
 
@@ -44,9 +45,9 @@ module _ (start : ℕ) (card : List ℕ) where
     pub card-given :
         cardLength (practiceShow start) ≤ length card → {new : List ℕ} {r : ℕ} → Written (cardBytes (practiceShow start)) 0 card new r →
         (Cost 0 ≡ answer (practiceCard start card)) × (new ≡ cardAtExit (practiceCard start card))
-    unfolding answer refusals firstRefusal applies requestOf startsAtZero buffersOf anyShort successCost atExit
+    unfolding atExit
     card-given h w =
-        let given : answer (practiceCard start card) ≡ Cost 0 = rw (ne-eqb start 0 some, le-ltb _ _ h) in
+        let given = practice-given start card some h in
         (sym given, written-start w .1 ∙ exit-by given)
 
 module _ {h : Head} (is : DrawnHead h) {start : ℕ} (from : h .start ≡ start) where

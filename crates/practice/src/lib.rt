@@ -10,21 +10,21 @@ ghost use Rattle.model.specs.Calls.{answer, practiceCard, cardAtExit};
 ghost use Rattle.practice.specs.Drawing.{DrawnHead, SmallDifference, nextDifference, DrawnRoom, LoadsRoom};
 
 // What the first six draws of a start give, with the start and the state of the generator after them.
-pub struct Head {
-    pub start: u32,
-    pub modules: u32,
-    pub topStep: u32,
-    pub slots: u32,
-    pub powerUp: u32,
-    pub powerDown: u32,
-    pub firstEntry: u32,
-    pub state: u32,
+struct Head {
+    start: u32,
+    modules: u32,
+    topStep: u32,
+    slots: u32,
+    powerUp: u32,
+    powerDown: u32,
+    firstEntry: u32,
+    state: u32,
 }
 
 // The place after the table, and the state of the generator after its draws.
-pub struct AfterTable {
-    pub place: usize,
-    pub state: u32,
+struct AfterTable {
+    place: usize,
+    state: u32,
 }
 
 // One draw: the new state of the generator.

@@ -21,55 +21,39 @@ right-below s h = xor-lt 32 s (s / 2 ^ 17) h (omega arith)
 none-below : (m s a b : ℕ) → s < m → m * a + s ≡ m * b → s ≡ 0
 none-below m s a b h e = sym (mod-eq-of-lt h) ∙ sym (mul-add-mod-self-left m a s) ∙ ap (λ (x : ℕ). x % m) e ∙ mul-mod-right m b
 
--- A step gives 0 for 0 alone. A left shift by 13 that leaves s as it is does so three times over, and a shift by 39 leaves nothing of the
--- low 32 bits; for a shift by 5 seven times are enough. The large factors are 1 + 2^13 + 2^26 and 1 + 2^5 + .. + 2^30.
-first-none : (s : ℕ) → s < states → xorLeft 13 s ≡ 0 → s ≡ 0
+-- A step gives 0 for 0 alone. A left shift that leaves s as it is does so any number of times over, and shifts that are by 32 bits or more
+-- together leave nothing of the low 32 bits.
+left-none :
+    (k f c : ℕ) → ((s q : ℕ) → q * states + s ≡ s * 2 ^ k → states * (f * q) + s ≡ states * (c * s)) →
+    (s : ℕ) → s < states → xorLeft k s ≡ 0 → s ≡ 0
 unfolding xorLeft
-first-none s h e =
-    let q = s * 2 ^ 13 / states in
-    let same : s ≡ low32 (s * 2 ^ 13) = xor-none s (low32 (s * 2 ^ 13)) e in
-    none-below states s (67117057 * q) (2 ^ 7 * s) h (omega (arith, div-add-mod' (s * 2 ^ 13) states))
+left-none k f c over s h e =
+    let q = s * 2 ^ k / states in
+    let same : s ≡ low32 (s * 2 ^ k) = xor-none s (low32 (s * 2 ^ k)) e in
+    none-below states s (f * q) (c * s) h (over s q (omega (arith, div-add-mod' (s * 2 ^ k) states)))
+
+-- Three shifts by 13, where f is 1 + 2^13 + 2^26.
+first-none : (s : ℕ) → s < states → xorLeft 13 s ≡ 0 → s ≡ 0
+first-none = left-none 13 67117057 (2 ^ 7) (λ s q e. omega arith)
 
 second-none : (s : ℕ) → s < states → xorRight 17 s ≡ 0 → s ≡ 0
 unfolding xorRight
 second-none s h e = omega (arith, xor-none s (s / 2 ^ 17) e)
 
+-- Seven shifts by 5, where f is 1 + 2^5 + .. + 2^30.
 third-none : (s : ℕ) → s < states → xorLeft 5 s ≡ 0 → s ≡ 0
-unfolding xorLeft
-third-none s h e =
-    let q = s * 2 ^ 5 / states in
-    let same : s ≡ low32 (s * 2 ^ 5) = xor-none s (low32 (s * 2 ^ 5)) e in
-    none-below states s (1108378657 * q) (2 ^ 3 * s) h (omega (arith, div-add-mod' (s * 2 ^ 5) states))
+third-none = left-none 5 1108378657 (2 ^ 3) (λ s q e. omega arith)
 
 -- A draw is a number of 32 bits.
 draw-below : (s : ℕ) → s < states → draw s < states
 unfolding draw
 draw-below s h = left-below 5 _ (right-below _ (left-below 13 s h))
 
--- A draw gives 0 for 0 alone.
-draw-none : (s : ℕ) → s < states → draw s ≡ 0 → s ≡ 0
-unfolding draw
-draw-none s h e =
-    let one = left-below 13 s h in
-    first-none s h (second-none _ one (third-none _ (right-below _ one) e))
-
 -- Every draw of a start is a number of 32 bits.
 pub drawn-below : (start n : ℕ) → start < states → drawn start n < states
 unfolding drawn
 drawn-below start zero h = h
 drawn-below start (suc n) h = draw-below (drawn start n) (drawn-below start n h)
-
--- No start from 1 on ever draws 0, so the generator never gets stuck: 'Start 0 would repeat itself for ever'.
-pub never-zero : (start n : ℕ) → 1 ≤ start → start < states → 1 ≤ drawn start n
-unfolding drawn
-never-zero start zero some h = some
-never-zero start (suc n) some h =
-    ⊎-elim
-    (λ (none : drawn start (suc n) ≡ 0).
-    let before = draw-none (drawn start n) (drawn-below start n h) none in
-    absurd (omega (arith, never-zero start n some h)))
-    (λ (pos : 0 < drawn start (suc n)). pos)
-    (eq-zero-or-pos (drawn start (suc n)))
 
 -- Start 0 draws 0 for ever.
 pub zero-repeats : (n : ℕ) → drawn 0 n ≡ 0
@@ -93,3 +77,13 @@ unfolding drawn
 starts-apart a b zero ha hb e = e
 starts-apart a b (suc n) ha hb e =
     starts-apart a b n ha hb (draw-apart _ _ (drawn-below a n ha) (drawn-below b n hb) e)
+
+-- No start from 1 on ever draws 0, since start 0 always does: the generator never gets stuck.
+pub never-zero : (start n : ℕ) → 1 ≤ start → start < states → 1 ≤ drawn start n
+never-zero start n some h =
+    ⊎-elim
+    (λ (none : drawn start n ≡ 0).
+    let start-zero = starts-apart start 0 n h (omega arith) (none ∙ sym (zero-repeats n)) in
+    absurd (omega arith))
+    (λ (pos : 0 < drawn start n). pos)
+    (eq-zero-or-pos (drawn start n))

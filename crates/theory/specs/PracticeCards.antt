@@ -1,21 +1,20 @@
 -- The cards of practice shows (document 02, §1): every one that is written is accepted and planned by both planners.
 use Prim.Native.Nat.{ℕ, _+_, _≤_}
-use mathlib.Core.Path.{_≡_, refl, _∙_}
+use mathlib.Core.Path.{_≡_, refl, ap, _∙_}
 use mathlib.Core.Bool.{true}
 use mathlib.Core.List.{List}
 use native.Mathlib.Omega.{arith}
 use lib.ListN.{length}
-use borrow.Author.Tests.{ne-eqb, le-ltb}
 use Rattle.lists.specs.Tests.{every-same}
 use Rattle.model.specs.Answers.{numberOf}
-use Rattle.model.specs.Instance.{instanceOf, cardBytes, cardLength, neverFalls}
+use Rattle.model.specs.Instance.{instanceOf, cardBytes, neverFalls}
 use Rattle.model.specs.Planners.{Planner, exact, coarse, tableAllowed}
 use Rattle.model.specs.Practice.{practiceShow, longestPractice}
-use Rattle.model.specs.Calls.{practiceCard, startsAtZero, buffersOf, anyShort, requestOf, applies, refusals, firstRefusal, answer, Accepted}
+use Rattle.model.specs.Calls.{practiceCard, buffersOf, answer, Accepted}
 use Rattle.model.specs.Calls.{atExit, buffersAtExit, cardAtExit}
 use Rattle.model.specs.Promises.{frontCard, AlwaysPlanned}
 use Rattle.laws.specs.Encoding.{in-order-fits, card-bytes-length, card-bytes-show, front-card}
-use Rattle.laws.specs.PracticeAccepted.{practice-in-order, practice-never-falls, practice-accepted, practice-length}
+use Rattle.laws.specs.PracticeAccepted.{practice-in-order, practice-never-falls, practice-accepted, practice-given, practice-length}
 use Rattle.theory.specs.Refusals.{succeeded}
 use Rattle.theory.specs.Outcomes.{always-planned}
 
@@ -62,9 +61,5 @@ module _ (start : ℕ) where
 
     -- An area as long as the longest card is never refused by 10.
     pub practice-enough : 1 ≤ start → longestPractice ≤ length area → numberOf (answer (practiceCard start area)) ≡ 0
-    unfolding answer requestOf refusals firstRefusal applies startsAtZero buffersOf anyShort
     practice-enough some long =
-        let asked = practice-length start in
-        let room : cardLength (practiceShow start) ≤ length area = omega arith in
-        let not-zero : start ≡ 0 → ⊥ = λ e. absurd (omega arith) in
-        rw (ne-eqb start 0 not-zero, le-ltb _ _ room)
+        ap numberOf (practice-given start area (λ e. absurd (omega arith)) (omega (arith, practice-length start)))

@@ -4,7 +4,7 @@ use Prim.Native.Nat.{ℕ, _+_, _-_, _≤_, _<_}
 use mathlib.Core.Path.{_≡_, refl, sym, ap, _∙_}
 use mathlib.Core.Bool.{Bool, true, false, true≢false}
 use mathlib.Core.Logic.{_↔_, ⊎-elim}
-use mathlib.Core.List.{List, [], _∷_, _++_, map, List·Memᴰ, List·Memᴰ·head, List·Memᴰ·tail, List·Memᴰ·not-nil}
+use mathlib.Core.List.{List, [], _∷_, _++_, map, List·Memᴰ, List·Memᴰ·head, List·Memᴰ·not-nil}
 use mathlib.Core.List.{List·Memᴰ·cases-cons, Memᴰ·map}
 use native.Mathlib.Nat.{le-refl, le-of-lt}
 use native.Mathlib.Omega.{arith}
@@ -28,7 +28,7 @@ use Rattle.laws.specs.FirstRefusal.{first-hit, first-skip, first-passed, first-
 ascends : (l : List ℕ) → every (length l - 1) (λ j. ltb (getD l j 0) (getD l (j + 1) 0)) ≡ true → InOrder _<_ l
 ascends l e = rising-in-order l (λ j h. ltb-true _ _ (every-at (length l - 1) _ e j (omega arith)))
 
--- No list in order begins with a number above the next one.
+-- No list in order begins with a number that is not below the next one.
 falls : {a b : ℕ} {l : List ℕ} → b ≤ a → InOrder _<_ (a ∷ b ∷ l) → ⊥
 falls h (next above order) = let less = above _ (List·Memᴰ·head refl) in absurd (omega arith)
 
@@ -45,36 +45,24 @@ refusals-ascend (roundCount n m) = (λ e. ascends _ refl, λ order. refl)
 refusals-ascend (practiceCard s c) = (λ e. absurd (true≢false e), λ order. absurd (falls (omega arith) order))
 
 module _ (test : Refusal → Bool) where
-  -- The refusal that is found applies, and is one of the list.
-  first-applies :
-      (xs : List Refusal) (n : ℕ) {x : Refusal} → firstRefusal test xs (Cost n) ≡ Refused x → (test x ≡ true) × List·Memᴰ x xs
-  unfolding firstRefusal
-  first-applies [] n {x} e = let none : _≡_ {A = ℕ} 0 1 = cc in absurd (omega arith)
-  first-applies (y ∷ ys) n {x} e =
-      ⊎-elim
-      (λ (t : test y ≡ true). let same : x ≡ y = cc (first-hit test ys (Cost n) t) in (ap test same ∙ t, List·Memᴰ·head same))
-      (λ (t : test y ≡ false).
-      let (holds, later) = first-applies ys n (sym (first-skip test ys (Cost n) t) ∙ e) in
-      (holds, List·Memᴰ·tail later))
-      (true-or-false (test y))
-
-  -- The refusal that is found stands behind refusals that do not apply.
-  first-behind :
+  -- The refusal that is found applies, and stands in the list behind refusals that do not.
+  first-found :
       (xs : List Refusal) (n : ℕ) {x : Refusal} → firstRefusal test xs (Cost n) ≡ Refused x →
-      (before : List Refusal) × (after : List Refusal) × (xs ≡ before ++ (x ∷ after)) ×
+      (before : List Refusal) × (after : List Refusal) × (xs ≡ before ++ (x ∷ after)) × (test x ≡ true) ×
       ((y : Refusal) → List·Memᴰ y before → test y ≡ false)
   unfolding firstRefusal
-  first-behind [] n {x} e = let none : _≡_ {A = ℕ} 0 1 = cc in absurd (omega arith)
-  first-behind (z ∷ zs) n {x} e =
+  first-found [] n {x} e = let none : _≡_ {A = ℕ} 0 1 = cc in absurd (omega arith)
+  first-found (z ∷ zs) n {x} e =
       ⊎-elim
       (λ (t : test z ≡ true).
       let same : z ≡ x = cc (first-hit test zs (Cost n) t) in
-      ([], zs, ap (λ w. w ∷ zs) same, λ y m. absurd (List·Memᴰ·not-nil m)))
+      ([], zs, ap (λ w. w ∷ zs) same, ap test (sym same) ∙ t, λ y m. absurd (List·Memᴰ·not-nil m)))
       (λ (t : test z ≡ false).
-      let (before, after, split, none) = first-behind zs n (sym (first-skip test zs (Cost n) t) ∙ e) in (
+      let (before, after, split, holds, none) = first-found zs n (sym (first-skip test zs (Cost n) t) ∙ e) in (
         z ∷ before,
         after,
         ap (λ l. z ∷ l) split,
+        holds,
         λ y m. ⊎-elim (λ (here : y ≡ z). ap test here ∙ t) (none y) (List·Memᴰ·cases-cons m),
       ))
       (true-or-false (test z))
@@ -108,18 +96,13 @@ module _ (test : Refusal → Bool) where
       ⊎-elim (λ (same : x ≡ y). ap test same ∙ first) (none-applies ys a rest) (List·Memᴰ·cases-cons m)
 
 module _ (c : Call) where
-  -- A refusal that is answered is one of the call's and applies.
-  pub answered-applies : {x : Refusal} → answer c ≡ Refused x → (applies (requestOf c) x ≡ true) × List·Memᴰ x (refusals c)
-  unfolding answer
-  answered-applies e = first-applies (applies (requestOf c)) (refusals c) (successCost c) e
-
-  -- A refusal that is answered is the first of the call's list that applies.
+  -- A refusal that is answered applies, and is the first of the call's list that does.
   pub answered-first :
       {x : Refusal} → answer c ≡ Refused x →
-      (before : List Refusal) × (after : List Refusal) × (refusals c ≡ before ++ (x ∷ after)) ×
+      (before : List Refusal) × (after : List Refusal) × (refusals c ≡ before ++ (x ∷ after)) × (applies (requestOf c) x ≡ true) ×
       ((y : Refusal) → List·Memᴰ y before → applies (requestOf c) y ≡ false)
   unfolding answer
-  answered-first e = first-behind (applies (requestOf c)) (refusals c) (successCost c) e
+  answered-first e = first-found (applies (requestOf c)) (refusals c) (successCost c) e
 
   -- Where no paragraph of document 02 sets an order, a refusal that is answered is the lowest of the call's that applies.
   pub lowest-least :

@@ -21,9 +21,7 @@ loop-holds : tie.Need-loop-holds Inv-loop μ-loop
 loop-holds c = search loads-start
 
 rem-put-two : tie.Need-rem-put-two Inv-loop μ-loop
-rem-put-two c =
-    let loop = c .before .before .before .before in
-    omega (arith, full-range (loop .loop .inv .head))
+rem-put-two c = omega (arith, c .before .before .before .before .loop .inv .bound-is)
 
 put-two-requires : tie.Need-put-two-requires Inv-loop μ-loop
 put-two-requires c κs =
