@@ -1,8 +1,11 @@
 #!/usr/bin/env python3
 """The command `lamp`: what it prints, the files it writes, its exit status, and that its output is written whole or the status is 2."""
+import fcntl
+import itertools
 import os
 import pathlib
 import shutil
+import signal
 import subprocess
 import sys
 import tempfile
@@ -202,6 +205,9 @@ def numbers():
     expect("a load that is a dash", lamp("cost", a, "3", "-"), 2, b"", "LOAD - is not a number")
     expect("a needless zero", lamp("cost", a, "03", "4"), 2, b"", "COUNT 03 begins with a needless 0")
     expect("a count of 21 digits", lamp("cost", a, "1" * 21, "0"), 2, b"", f"COUNT {'1' * 21} is above 18,446,744,073,709,551,615")
+    expect("a count with a comma", lamp("cost", a, "1,000", "4"), 2, b"", f"COUNT 1,000 {COMMAS}")
+    expect("a count with a blank", lamp("round", "5 ", "6"), 2, b"", "COUNT '5 ' is not a number\n")
+    expect("a count that looks like a range", lamp("round", "1-3", "6"), 2, b"", "COUNT 1-3 is not a number\n")
     expect("round", lamp("round", "5", "6"), 0, b"6\n")
     expect("round above the rack", lamp("round", "7", "6"), 1, b"", "refused 12", "count 7 in a rack of 6 modules")
     expect("round, rack", lamp("round", "7", "201"), 1, b"", "refused 3")
@@ -222,6 +228,9 @@ def wrong_use(folder):
         status, out, err = lamp(command, "--help")
         require(f"help of {command}", status == 0 and out.startswith(f"usage: lamp {command} ".encode()) and not err)
         require(f"{command} is in the help", f"\n  lamp {command} ".encode() in lamp("--help")[1])
+    require("the practice forms", lamp("practice", "--help")[1].startswith(PRACTICE_USAGE.encode()))
+    require("a practice example", b"\n    lamp practice 1950 > 1950.card " in lamp("practice", "--help")[1])
+    require("the practice forms in the help", b"\n  lamp practice FIRST..LAST --into DIR " in lamp("--help")[1])
     expect("a file called --help", lamp("check", "--", "--help", cwd=folder), 2, b"", "--help: No such file or directory")
     expect("no such file", lamp("check", folder / "none"), 2, b"", "none: No such file or directory")
     expect("a directory", lamp("check", folder), 2, b"", "a directory, not a file")
@@ -278,9 +287,9 @@ def other_kinds(folder):
     expect("input without end", endless, 2, b"", "more than 65,536 bytes")
 
 
-def shell(command, cwd=None):
+def shell(command, **more):
     """Runs a line of sh; `$0` is the tool and `$1` the folder of samples."""
-    ended = subprocess.run(["sh", "-c", command, LAMP, SAMPLES], capture_output=True, cwd=cwd)
+    ended = subprocess.run(["sh", "-c", command, LAMP, SAMPLES], capture_output=True, **more)
     return ended.returncode, ended.stdout, ended.stderr
 
 
@@ -363,16 +372,33 @@ def cards(*numbers):
     return {f"{number}.card": practice_card(number) for number in numbers}
 
 
-PRACTICE_USAGE = "usage: lamp practice NUMBER [--into DIR]"
+PRACTICE_USAGE = "usage: lamp practice NUMBER [--into DIR]\n       lamp practice FIRST..LAST --into DIR\n"
+COMMAS = "is not a number; digits alone, without commas\n"
+A_RANGE = "is not a number; a range is written 1..30\n"
 WRONG_PRACTICE = {
     (): ("practice: 0 words where it takes NUMBER", PRACTICE_USAGE),
     ("1", "2"): ("practice: 2 words where it takes NUMBER", PRACTICE_USAGE),
     ("",): ("NUMBER is empty",),
-    ("x",): ("NUMBER x is not a number",),
-    ("-",): ("NUMBER - is not a number",),
-    ("1,950",): ("NUMBER 1,950 is not a number",),
-    ("1-30", "--into", "into"): ("NUMBER 1-30 is not a number",),
-    ("007",): ("NUMBER 007 begins with a needless 0",),
+    ("x",): ("NUMBER x is not a number\n",),
+    ("-",): ("NUMBER - is not a number\n",),
+    ("1,950",): (f"NUMBER 1,950 {COMMAS}",),
+    ("4,294,967,295",): (f"NUMBER 4,294,967,295 {COMMAS}",),
+    ("1,000..2,000", "--into", "into"): (f"FIRST 1,000 {COMMAS}",),
+    ("1..2,000", "--into", "into"): (f"LAST 2,000 {COMMAS}",),
+    ("1,",): ("NUMBER 1, is not a number\n",),
+    ("1.950",): ("NUMBER 1.950 is not a number\n",),
+    ("1-30", "--into", "into"): (f"NUMBER 1-30 {A_RANGE}",),
+    ("1:3",): (f"NUMBER 1:3 {A_RANGE}",),
+    ("1\u20133",): (f"NUMBER 1\u20133 {A_RANGE}",),
+    ("1\u20263",): (f"NUMBER 1\u20263 {A_RANGE}",),
+    ("1...30", "--into", "into"): (f"NUMBER 1...30 {A_RANGE}",),
+    ("1 .. 30", "--into", "into"): (f"NUMBER '1 .. 30' {A_RANGE}",),
+    (" 5",): ("NUMBER ' 5' is not a number\n",),
+    ("5\u00a0",): ("NUMBER '5\u00a0' is not a number\n",),
+    ("5 6",): ("NUMBER '5 6' is not a number\n",),
+    ("5 ..6", "--into", "into"): (f"NUMBER '5 ..6' {A_RANGE}",),
+    ("5.. ", "--into", "into"): ("LAST ' ' is not a number\n",),
+    ("007",): ("NUMBER 007 begins with a needless 0\n",),
     ("4294967296",): ("NUMBER 4294967296 is above 4,294,967,295",),
     ("1" * 30, "--into", "into"): ("is above 4,294,967,295",),
     ("-5",): ("practice: no option -5", PRACTICE_USAGE),
@@ -382,10 +408,11 @@ WRONG_PRACTICE = {
     ("4..3", "--into", "into"): ("FIRST 4 is above LAST 3",),
     ("..3", "--into", "into"): ("FIRST is empty",),
     ("1..", "--into", "into"): ("LAST is empty",),
-    ("1...3", "--into", "into"): ("LAST .3 is not a number",),
+    ("1..3..5", "--into", "into"): ("LAST 3..5 is not a number\n",),
     ("1..4294967296", "--into", "into"): ("LAST 4294967296 is above 4,294,967,295",),
-    ("1..10001", "--into", "into"): ("1..10001 is 10,001 cards; at most 10,000 are written at a time",),
-    ("0..4294967295", "--into", "into"): ("is 4,294,967,296 cards; at most 10,000",),
+    ("1..10001", "--into", "into"): ("1..10001 has 10,001 numbers; at most 10,000 cards are written at a time\n",),
+    ("0..10000", "--into", "into"): ("0..10000 has 10,001 numbers; at most 10,000 cards are written",),
+    ("0..4294967295", "--into", "into"): ("has 4,294,967,296 numbers; at most 10,000 cards are written",),
     ("5", "--into"): ("practice: --into names no folder", PRACTICE_USAGE),
     ("5", "--into", ""): ("practice: --into names no folder", PRACTICE_USAGE),
     ("5", "--into", "into", "--into", "into"): ("practice: --into names two folders", PRACTICE_USAGE),
@@ -453,50 +480,251 @@ def no_practice_files(folder):
 
 
 def failed_practice_files(folder):
-    """Where one card cannot be written whole, or not moved to its place, none is left."""
+    """Where one card cannot be written whole, or not moved to its place, none is left, or it is said what is."""
     into = new_folder(folder, "no card")
     limited = shell('ulimit -f 0; "$0" practice 1..3 --into "no card"', cwd=folder)
     expect("cards too large", limited, 2, b"", "no card/1.card: File too large; nothing was written")
     expect("a folder of the system", lamp("practice", "1", "--into", "/proc"), 2, b"", "lamp: /proc: ", "; nothing was written")
-    (folder / "rename.c").write_text(THIRD_RENAME)
-    line = 'gcc -shared -fPIC rename.c -o rename.so && LD_PRELOAD="$PWD/rename.so" "$0" practice 1..5 --into "no card"'
-    found = shell(line, cwd=folder)
-    expect("the third card cannot be moved", found, 2, b"", "no card/3.card: No space left on device; nothing was written")
-    require("nothing is left", contents(into) == {})
+    full = "lamp: no card/3.card: No space left on device; "
+    for name, calls, kept, left in (
+        ("cannot be moved", {"LINK": "3:28"}, "nothing was written\n", {}),
+        ("cannot be moved without links", {"LINK": "0:1", "RENAME": "3:28"}, "nothing was written\n", {}),
+        ("cannot be moved, nor the first removed", {"LINK": "3:28", "UNLINK": "1:13"}, "1 card could not be removed\n", cards(1)),
+        ("cannot be moved, nor any removed", {"LINK": "3:28", "UNLINK": "0:13"}, "2 cards and lamp.part could", None),
+        ("cannot be moved, nor the part folder removed", {"LINK": "3:28", "RMDIR": "0:13"}, "lamp.part could not be", {"lamp.part": None}),
+    ):
+        expect(f"the third card {name}", bent(folder, into, **calls), 2, b"", full + kept)
+        require(f"what is left where it {name}", left is None or contents(into) == left)
+        shutil.rmtree(into)
+        into.mkdir()
+    kept = bent(folder, into, RMDIR="1:13")
+    expect("only the part folder cannot be removed", kept, 2, b"", "no card/lamp.part: Permission denied; the cards were written\n")
+    require("its cards", contents(into) == {**cards(1, 2, 3, 4, 5), "lamp.part": None})
 
 
-THIRD_RENAME = """
+def bent(folder, into, **calls):
+    """Writes five cards while calls of the system fail: `3:28` at the third call with error 28, `0:28` at each. `3:-15` is a signal before
+    the third call, and `3:0` the line of sh in THEN."""
+    library = folder / "calls.so"
+    if not library.exists():
+        (folder / "calls.c").write_text(CALLS)
+        subprocess.run(["gcc", "-shared", "-fPIC", "calls.c", "-o", library], cwd=folder, check=True)
+    environment = {**os.environ, **calls, "LD_PRELOAD": str(library)}
+    return lamp("practice", "1..5", "--into", into.name, cwd=folder, env=environment, preexec_fn=stoppable)
+
+
+STOPS = (signal.SIGINT, signal.SIGTERM, signal.SIGHUP)
+
+
+def stoppable():
+    """A run of the tool is stopped by signals, also where this test was started so that it ignores them."""
+    for number in STOPS:
+        signal.signal(number, signal.SIG_DFL)
+
+
+CALLS = """
+#define _GNU_SOURCE
 #include <errno.h>
-#include <fcntl.h>
-#include <stdio.h>
-/* The third file that is moved finds no space. */
-int rename(const char *from, const char *to)
+#include <signal.h>
+#include <stdlib.h>
+#include <string.h>
+#include <sys/syscall.h>
+#include <sys/types.h>
+#include <unistd.h>
+/* Does what the variable of the call's name says, and answers whether the call fails. */
+static int fails(const char *name, int calls)
 {
-    static int calls;
-    if (++calls != 3)
-        return renameat(AT_FDCWD, from, AT_FDCWD, to);
-    errno = ENOSPC;
-    return -1;
+    const char *plan = getenv(name);
+    if (!plan || (atoi(plan) && atoi(plan) != calls))
+        return 0;
+    int error = atoi(strchr(plan, ':') + 1);
+    if (error < 0)
+        return raise(-error);
+    errno = error;
+    if (error > 0)
+        return 1;
+    unsetenv("LD_PRELOAD");
+    return system(getenv("THEN"));
 }
+#define CALL(name, result) { static int calls; return fails(name, ++calls) ? -1 : result; }
+int linkat(int a, const char *from, int b, const char *to, int flags) CALL("LINK", (int)syscall(SYS_linkat, a, from, b, to, flags))
+int rename(const char *from, const char *to) CALL("RENAME", (int)syscall(SYS_renameat2, -100, from, -100, to, 0))
+int unlink(const char *path) CALL("UNLINK", (int)syscall(SYS_unlinkat, -100, path, 0))
+int rmdir(const char *path) CALL("RMDIR", (int)syscall(SYS_unlinkat, -100, path, 0x200))
+int mkdir(const char *path, mode_t mode) CALL("MKDIR", (int)syscall(SYS_mkdirat, -100, path, mode))
+int fsync(int file) CALL("SYNC", (int)syscall(SYS_fsync, file))
+int flock(int file, int how) CALL("FLOCK", (int)syscall(SYS_flock, file, how))
 """
 
 
+def appearing_practice_files(folder):
+    """A file that appears while a run goes on is not overwritten, and one that holds the card is not taken back with the others."""
+    (folder / "own.card").write_bytes(b"a teacher's own card")
+    (folder / "third.card").write_bytes(practice_card(3))
+    for name, links in {"with links": {}, "without links": {"LINK": "0:1"}}.items():
+        into = new_folder(folder, f"appearing {name}")
+        own = bent(folder, into, **links, SYNC="5:0", THEN=f"cp own.card '{into.name}/3.card'")
+        expect(f"another file appears {name}", own, 2, b"", "/3.card: another file of this name is there; nothing was written\n")
+        require(f"it is as it was {name}", contents(into) == {"3.card": b"a teacher's own card"})
+        (into / "3.card").unlink()
+        last = {"RENAME": "4:28"} if links else {"LINK": "5:28"}
+        same = bent(folder, into, **links, **last, SYNC="5:0", THEN=f"cp third.card '{into.name}/3.card'")
+        expect(f"the card appears {name}, another fails", same, 2, b"", "/5.card: No space left on device; nothing was written\n")
+        require(f"it is not taken back {name}", contents(into) == cards(3))
+        (into / "3.card").unlink()
+        expect(f"the card appears {name}", bent(folder, into, **links, SYNC="5:0", THEN=f"cp third.card '{into.name}/3.card'"), 0, b"")
+        require(f"all cards are there {name}", contents(into) == cards(1, 2, 3, 4, 5))
+
+
+def moved_practice_files(folder):
+    """A file that appears at the very move is not overwritten, and a file system may have no links."""
+    into = new_folder(folder, "appearing last")
+    last = bent(folder, into, LINK="3:0", THEN="cp own.card 'appearing last/3.card'")
+    expect("another file appears at the move", last, 2, b"", "/3.card: another file of this name is there; nothing was written\n")
+    require("it is as it was", contents(into) == {"3.card": b"a teacher's own card"})
+    for error in (1, 13, 18, 31, 38, 95):
+        into = new_folder(folder, f"no links, error {error}")
+        expect(f"no links, error {error}", bent(folder, into, LINK=f"0:{error}"), 0, b"")
+        require(f"cards without links, error {error}", contents(into) == cards(1, 2, 3, 4, 5))
+
+
+def stopped_practice_files(folder):
+    """A run that is asked to stop takes back what it wrote and ends by the signal."""
+    into, all_cards = new_folder(folder, "stopped"), cards(1, 2, 3, 4, 5)
+    for number, call in itertools.product(STOPS, ("SYNC", "LINK")):
+        found = bent(folder, into, **{call: f"3:-{int(number)}"})
+        expect(f"{number.name} at {call}", found, -number, b"", "lamp: stopped; nothing was written\n")
+        require(f"nothing is left by {number.name} at {call}", contents(into) == {})
+    found = bent(folder, into, MKDIR="1:-15", SYNC="1:28")
+    expect("stopped before the first card", found, -15, b"", "lamp: stopped; nothing was written\n")
+    require("nothing is left before the first card", contents(into) == {})
+    found = bent(folder, into, LINK="3:-15", UNLINK="1:13")
+    expect("a card stays in a stopped run", found, -15, b"", "lamp: stopped; 1 card could not be removed\n")
+    expect("the next run", bent(folder, into, RMDIR="1:-15"), -15, b"")
+    require("stopped after the last card", contents(into) == all_cards)
+    line = 'LD_PRELOAD="$PWD/calls.so" SYNC=3:-1 "$0" practice 1..5 --into shelled; echo $?'
+    shelled = new_folder(folder, "shelled")
+    seen = shell(line, cwd=folder, preexec_fn=stoppable)
+    expect("a signal that a shell sees", seen, 0, b"129\n", "lamp: stopped; nothing was written\n")
+    require("nothing is left of it", contents(shelled) == {})
+    expect("an ignored signal", shell(f'trap "" HUP; {line}', cwd=folder), 0, b"0\n")
+    require("the cards of an ignored signal", contents(shelled) == all_cards)
+
+
+def killed_practice_files(folder):
+    """A run that is killed leaves whole cards and the part folder, which the next run removes, also where no card is missing."""
+    for call, left in {"SYNC=3": [], "LINK=3": [1, 2], "RMDIR=1": [1, 2, 3, 4, 5]}.items():
+        into = new_folder(folder, f"killed at {call}")
+        expect(f"killed at {call}", bent(folder, into, **dict([f"{call}:-9".split("=")])), -9, b"")
+        require(f"what is left of a run killed at {call}", contents(into) == {**cards(*left), "lamp.part": None})
+        expect(f"the next run after {call}", lamp("practice", "2..5", "--into", into), 0, b"")
+        require(f"its cards after {call}", contents(into) == cards(*left[:1], 2, 3, 4, 5))
+
+
+def left_practice_files(folder):
+    """What is in the part folder and is not of a run is told, and nothing is removed or written."""
+    other = "this is not of a killed run; move it away; nothing was written\n"
+    for name, make in {
+        "notes.txt": pathlib.Path.touch,
+        "0.card": pathlib.Path.touch,
+        "07.card": pathlib.Path.touch,
+        "4294967296.card": pathlib.Path.touch,
+        "x.card": pathlib.Path.touch,
+        "7.card": pathlib.Path.mkdir,
+        "8.card": lambda path: path.symlink_to("3.card"),
+    }.items():
+        into = new_folder(folder, f"with {name}")
+        part = new_folder(into, "lamp.part")
+        (part / "3.card").touch()
+        make(part / name)
+        expect(f"{name} in the part folder", lamp("practice", "1", "--into", into), 2, b"", f"{part}/{name}: {other}")
+        require(f"{name} is left alone", contents(into) == {"lamp.part": None} and set(contents(part)) == {name, "3.card"})
+    taken = new_folder(folder, "no part folder")
+    wrong = "lamp.part: not a folder; a run needs this name; nothing was written\n"
+    (taken / "lamp.part").symlink_to(folder / "with notes.txt")
+    expect("a link for the part folder", lamp("practice", "1", "--into", taken), 2, b"", wrong)
+    (taken / "lamp.part").unlink()
+    (taken / "lamp.part").touch()
+    expect("a file for the part folder", lamp("practice", "1", "--into", taken), 2, b"", wrong)
+    require("nothing beside it", contents(taken) == {"lamp.part": b""})
+
+
+def locked_practice_files(folder):
+    """Runs into one folder go one after the other, where its file system has locks."""
+    into = new_folder(folder, "locked")
+    held = os.open(into, os.O_RDONLY)
+    fcntl.flock(held, fcntl.LOCK_EX)
+    words = [LAMP, "practice", "1..3", "--into", into]
+    runs = [subprocess.Popen(words, stderr=subprocess.PIPE, preexec_fn=stoppable) for _ in range(2)]
+    waiting = f"lamp: {into}: waiting for another run to end\n".encode()
+    require("both wait", [run.stderr.readline() for run in runs] == [waiting] * 2)
+    runs[0].send_signal(signal.SIGINT)
+    expect("one is stopped meanwhile", (runs[0].wait(), b"", runs[0].communicate()[1]), -2, b"")
+    require("nothing is written meanwhile", runs[1].poll() is None and contents(into) == {})
+    os.close(held)
+    expect("the other", (runs[1].wait(), b"", runs[1].communicate()[1]), 0, b"")
+    require("its cards", contents(into) == cards(1, 2, 3))
+    expect("without locks", bent(folder, into, FLOCK="0:95"), 0, b"")
+    require("cards without locks", contents(into) == cards(1, 2, 3, 4, 5))
+    new_folder(into, "lamp.part")
+    found = bent(folder, into, FLOCK="0:95")
+    another = "lamp: locked/lamp.part: this is of another run; remove it if that has ended; nothing was written\n"
+    expect("without locks, a part folder", found, 2, b"", another)
+
+
+def plain_practice_files(folder):
+    """Cards for a user who may not read and write every file."""
+    if os.geteuid() == 0 and not shutil.which("setpriv"):
+        print("tool: skipped, no setpriv to give up the rights of root")
+        return
+    into, dropped = new_folder(folder, "plain"), "-dac_override,-dac_read_search"
+    drop = ["setpriv", f"--inh-caps={dropped}", f"--bounding-set={dropped}"] if os.geteuid() == 0 else []
+    refused = "lamp: plain/2.card: cannot be read: Permission denied; nothing was written\n"
+    line = '"$0" practice 1..3 --into plain'
+
+    def plain(line):
+        ended = subprocess.run([*drop, "sh", "-c", line, LAMP], capture_output=True, cwd=folder)
+        return ended.returncode, ended.stdout, ended.stderr
+
+    for data in (practice_card(2), b"a teacher's own card"):
+        (into / "2.card").write_bytes(data)
+        (into / "2.card").chmod(0)
+        expect(f"a card that cannot be read, {len(data)} bytes", plain(line), 2, b"", refused)
+        (into / "2.card").chmod(0o600)
+        require("it is as it was", contents(into) == {"2.card": data})
+        (into / "2.card").unlink()
+    nothing = "lamp: plain/1.card: Permission denied; nothing was written\n"
+    expect("a mask that forbids all", plain(f"umask 777; {line}"), 2, b"", nothing)
+    require("nothing is left", contents(into) == {})
+    new_folder(into, "lamp.part").chmod(0)
+    expect("an empty part folder that cannot be read", plain('"$0" practice 1 --into plain'), 0, b"")
+    require("the card without it", contents(into) == cards(1))
+    into.chmod(0o300)
+    expect("a folder that cannot be read", plain(line), 0, b"")
+    into.chmod(0o500)
+    forbidden = plain('"$0" practice 4 --into plain')
+    expect("a folder that cannot be written", forbidden, 2, b"", "lamp: plain: Permission denied; nothing was written\n")
+    into.chmod(0o700)
+    require("the cards of the first", contents(into) == cards(1, 2, 3))
+
+
 def many_practice_files(folder):
-    """Runs at the same time, and one that is stopped, leave no card that is not whole."""
+    """Runs at the same time, and one that is killed, leave no card that is not whole, and the next run makes the set whole."""
     into = new_folder(folder, "many")
-    new_folder(into, "lamp.0.part")
-    runs = [subprocess.Popen([LAMP, "practice", "1..60", "--into", into]) for _ in range(4)]
+    runs = [subprocess.Popen([LAMP, "practice", "1..60", "--into", into], stderr=subprocess.DEVNULL) for _ in range(4)]
     require("four runs at once", [run.wait() for run in runs] == [0] * 4)
-    require("their cards", contents(into) == {**cards(*range(1, 61)), "lamp.0.part": None})
+    require("their cards", contents(into) == cards(*range(1, 61)))
     run = subprocess.Popen([LAMP, "practice", "61..9000", "--into", into])
     for _ in range(600):
-        if (into / "lamp.1.part").exists() or run.poll() is not None:
+        if (into / "lamp.part").exists() or run.poll() is not None:
             break
         time.sleep(0.005)
     run.kill()
     run.wait()
     left = {name: data for name, data in contents(into).items() if data is not None}
-    require("a run that was stopped", all(practice_card(int(name.removesuffix(".card"))) == data for name, data in left.items()))
+    require("a run that was killed", all(practice_card(int(name.removesuffix(".card"))) == data for name, data in left.items()))
+    expect("the run after it", lamp("practice", "1..61", "--into", into), 0, b"")
+    require("its cards", contents(into) == {**left, **cards(61)})
 
 
 def without_references(name, root):
@@ -721,6 +949,13 @@ with tempfile.TemporaryDirectory() as place:
     practice_files(pathlib.Path(place))
     no_practice_files(pathlib.Path(place))
     failed_practice_files(pathlib.Path(place))
+    appearing_practice_files(pathlib.Path(place))
+    moved_practice_files(pathlib.Path(place))
+    stopped_practice_files(pathlib.Path(place))
+    killed_practice_files(pathlib.Path(place))
+    left_practice_files(pathlib.Path(place))
+    locked_practice_files(pathlib.Path(place))
+    plain_practice_files(pathlib.Path(place))
     many_practice_files(pathlib.Path(place))
     lost_output(pathlib.Path(place))
     pictures(pathlib.Path(place))

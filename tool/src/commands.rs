@@ -7,11 +7,9 @@ use crate::planning::{self, Planned, Planner};
 use crate::refusal::Refusal;
 use crate::sheet_text::{self, SheetText};
 use crate::show::Show;
-use crate::typed::{self, NoNumber};
 use crate::words::{grouped, several};
-use crate::{folder, help, listing, page, picture, practice, show_text};
+use crate::{folder, help, listing, numbers, page, picture, practice, show_text};
 use std::ffi::{OsStr, OsString};
-use std::ops::RangeInclusive;
 use std::path::Path;
 
 /// What a command ends with.
@@ -155,32 +153,11 @@ pub fn card(words: &Words) -> Ended {
     })
 }
 
-/// The number of a practice card.
-fn card_number(name: &str, word: &str) -> Result<u32, String> {
-    number(name, word, u32::MAX.into()).map(|number| u32::try_from(number).expect("it is at most the largest"))
-}
-
-/// How many practice cards are written at a time.
-const MOST_CARDS: u64 = 10_000;
-
-/// The numbers of practice cards, as NUMBER or as FIRST..LAST.
-fn card_numbers(word: &str) -> Result<RangeInclusive<u32>, String> {
-    let Some((first, last)) = word.split_once("..") else {
-        return card_number("NUMBER", word).map(|number| number..=number);
-    };
-    let (first, last) = (card_number("FIRST", first)?, card_number("LAST", last)?);
-    match (u64::from(last) + 1).saturating_sub(first.into()) {
-        0 => Err(format!("FIRST {first} is above LAST {last}")),
-        1..=MOST_CARDS => Ok(first..=last),
-        cards => Err(format!("{word} is {}; at most {} are written at a time", several(cards, "card"), grouped(MOST_CARDS))),
-    }
-}
-
 /// A card for standard output, or cards for a folder. All are made before the first is written.
 pub fn practice(words: &Words) -> Ended {
     let word = input::printable(words.plain[0]);
-    let numbers = card_numbers(&word)?;
-    if words.into.is_none() && word.contains("..") {
+    let numbers = numbers::card_numbers(&word)?;
+    if words.into.is_none() && word.contains(numbers::TO) {
         return Err(format!("practice: the cards of {word} need a folder: --into DIR"));
     }
     let cards = match practice::cards(numbers) {
@@ -294,19 +271,9 @@ fn length_fault(show: &Show, sheet: &HandedIn) -> String {
     format!("{found} where {slots} and {} make {asked}{hint}", several(modules as u64, "module"))
 }
 
-/// A number of the command line.
-fn number(name: &str, word: &str, most: u64) -> Result<u64, String> {
-    typed::number(word, most).map_err(|fault| match fault {
-        NoNumber::NotDigits if word.is_empty() => format!("{name} is empty"),
-        NoNumber::NotDigits => format!("{name} {word} is not a number"),
-        NoNumber::NeedlessZero => format!("{name} {word} {}", typed::NEEDLESS_ZERO),
-        NoNumber::TooLarge => format!("{name} {word} is above {}", grouped(most)),
-    })
-}
-
 /// A number by its place among the words.
 fn number_at(words: &Words, at: usize, name: &str) -> Result<u64, String> {
-    number(name, &input::printable(words.plain[at]), u64::MAX)
+    numbers::number(name, &input::printable(words.plain[at]), u64::MAX)
 }
 
 pub fn cost(words: &Words) -> Ended {

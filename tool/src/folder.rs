@@ -1,9 +1,10 @@
 //! Files that are written into a folder: all of them whole, or none. No file that is there already is changed.
 use crate::input::{printable, reason};
 use crate::output;
-use std::fs::{self, File};
+use crate::part::{self, Part};
+use std::fs::{self, File, TryLockError};
 use std::io;
-use std::path::{Path, PathBuf};
+use std::path::Path;
 
 /// A file that is to be written.
 #[derive(Clone, Debug)]
@@ -13,24 +14,30 @@ pub struct NewFile {
 }
 
 /// Writes files into a folder that is there. A file that is there already with the same bytes is left alone, and anything else of a
-/// file's name is an error before the first byte is written.
+/// file's name is an error before the first byte is written. The folder is locked for the whole run, so that what stands there of
+/// another run is of one that was killed. Signals are noted only from the first byte on: before it they may end the program at once.
 pub fn write(folder: &Path, files: &[NewFile]) -> Result<(), String> {
     is_folder(folder)?;
-    let missing = missing(folder, files)?;
+    let lock = lock(folder);
+    let cleared = part::clear(folder, lock.is_some());
+    let missing = cleared.and_then(|()| missing(folder, files)).map_err(nothing_written)?;
     if missing.is_empty() {
         return Ok(());
     }
-    let part = Part::new(folder).map_err(|error| failed(folder, &error))?;
-    part.fill(&missing)?;
-    part.hand_over(&missing)
+    output::note_stops();
+    Part::new(folder, &missing).map_err(nothing_written)?.write()
 }
 
-/// What is said of a path at which nothing could be written.
-fn failed(path: &Path, error: &io::Error) -> String {
-    format!("{}: {}; nothing was written", shown(path), reason(error))
+fn nothing_written(why: String) -> String {
+    format!("{why}; nothing was written")
 }
 
-fn shown(path: &Path) -> String {
+/// What is said of a path where something could not be done.
+pub fn failed(path: &Path, error: &io::Error) -> String {
+    format!("{}: {}", shown(path), reason(error))
+}
+
+pub fn shown(path: &Path) -> String {
     printable(path.as_os_str())
 }
 
@@ -39,8 +46,18 @@ fn is_folder(path: &Path) -> Result<(), String> {
         Ok(found) if found.is_dir() => Ok(()),
         Ok(_) => Err(format!("{}: not a folder", shown(path))),
         Err(error) if error.kind() == io::ErrorKind::NotFound => Err(format!("{}: no such folder; make it first", shown(path))),
-        Err(error) => Err(failed(path, &error)),
+        Err(error) => Err(nothing_written(failed(path, &error))),
     }
+}
+
+/// Waits until no other run writes into the folder, and keeps others out as long as the answer lives. There is none where the folder
+/// cannot be opened or its file system has no locks.
+fn lock(folder: &Path) -> Option<File> {
+    let opened = File::open(folder).ok()?;
+    if let Err(TryLockError::WouldBlock) = opened.try_lock() {
+        output::complain(&format!("lamp: {}: waiting for another run to end\n", shown(folder)));
+    }
+    opened.lock().is_ok().then_some(opened)
 }
 
 /// The files that are not in the folder yet.
@@ -54,64 +71,28 @@ fn missing<'a>(folder: &Path, files: &'a [NewFile]) -> Result<Vec<&'a NewFile>, 
     Ok(out)
 }
 
-/// Whether the file is there already with these bytes.
-fn is_there(path: &Path, bytes: &[u8]) -> Result<bool, String> {
+/// Whether the file is there already with these bytes. Another file of its name is an error, and so is a link to nothing.
+pub fn is_there(path: &Path, bytes: &[u8]) -> Result<bool, String> {
     match fs::symlink_metadata(path) {
-        Ok(_) if holds(path, bytes) => Ok(true),
-        Ok(_) => Err(format!("{}: another file of this name is there; nothing was written", shown(path))),
-        Err(error) if error.kind() == io::ErrorKind::NotFound => Ok(false),
-        Err(error) => Err(failed(path, &error)),
+        Err(error) if error.kind() == io::ErrorKind::NotFound => return Ok(false),
+        Err(error) => return Err(failed(path, &error)),
+        Ok(_) => {}
     }
-}
-
-/// Whether a path leads to a file with these bytes. Only a file of their length is read: a pipe would be waited for.
-fn holds(path: &Path, bytes: &[u8]) -> bool {
-    let alike = fs::metadata(path).is_ok_and(|found| found.is_file() && found.len() == bytes.len() as u64);
-    alike && fs::read(path).is_ok_and(|found| found == bytes)
-}
-
-/// A folder inside the folder, in which the files stand until all are whole. It is removed in the end, with what is left in it.
-struct Part<'a> {
-    folder: &'a Path,
-    path: PathBuf,
-}
-
-impl Part<'_> {
-    /// Its name is the first that is free, so that two runs at once do not share it.
-    fn new(folder: &Path) -> io::Result<Part<'_>> {
-        let mut attempt = 0;
-        loop {
-            let path = folder.join(format!("lamp.{attempt}.part"));
-            match fs::create_dir(&path) {
-                Err(error) if error.kind() == io::ErrorKind::AlreadyExists => attempt += 1,
-                made => return made.map(|()| Part { folder, path }),
-            }
+    match holds(path, bytes) {
+        Ok(true) => Ok(true),
+        Err(error) if error.kind() != io::ErrorKind::NotFound => {
+            Err(format!("{}: cannot be read: {}", shown(path), reason(&error)))
         }
-    }
-
-    fn fill(&self, files: &[&NewFile]) -> Result<(), String> {
-        for NewFile { name, bytes } in files {
-            let made = File::create_new(self.path.join(name)).and_then(|mut file| output::write_to(&mut file, bytes));
-            made.map_err(|error| failed(&self.folder.join(name), &error))?;
-        }
-        Ok(())
-    }
-
-    /// Moves each file to its place. If one cannot be moved, those before it are taken back.
-    fn hand_over(&self, files: &[&NewFile]) -> Result<(), String> {
-        for (at, NewFile { name, .. }) in files.iter().enumerate() {
-            let place = self.folder.join(name);
-            if let Err(error) = fs::rename(self.path.join(name), &place) {
-                files[..at].iter().for_each(|file| drop(fs::remove_file(self.folder.join(&file.name))));
-                return Err(failed(&place, &error));
-            }
-        }
-        Ok(())
+        _ => Err(format!("{}: another file of this name is there", shown(path))),
     }
 }
 
-impl Drop for Part<'_> {
-    fn drop(&mut self) {
-        let _ = fs::remove_dir_all(&self.path);
+/// Whether a path leads to a file with these bytes. Only a file is opened, since a pipe would be waited for, and only one of their
+/// length is read.
+fn holds(path: &Path, bytes: &[u8]) -> io::Result<bool> {
+    if !fs::metadata(path)?.is_file() {
+        return Ok(false);
     }
+    let alike = File::open(path)?.metadata()?.len() == bytes.len() as u64;
+    Ok(alike && fs::read(path)? == bytes)
 }

@@ -1,6 +1,7 @@
 //! What the commands are called, what they take and what their `--help` says.
 use crate::commands::{self, Ended, Words};
 use std::ffi::OsStr;
+use std::iter::once;
 
 /// A command with the words that it takes and its options. An option that takes a word has the word's name after a blank.
 pub struct Command {
@@ -35,11 +36,16 @@ SHOW is a text with one field a line, in any order; - is standard input:
 A show that the library refuses is refused in words, with the place, and no card is written.";
 
 const PRACTICE: &str = "\
-NUMBER is 1 to 4,294,967,295, and a number has the same card on every machine. Every practice card is
-accepted, and can be planned by either planner. It is written to standard output.
---into DIR  writes it as the file NUMBER.card into the folder DIR, which has to be there. NUMBER may then be
-    a range, as 1..30, for the cards 1.card to 30.card; at most 10,000 at a time. All are written or none,
-    and no file is overwritten: one that holds the same card is left alone, any other is an error.";
+NUMBER, FIRST and LAST are 1 to 4,294,967,295, digits alone. A number has the same card on every machine. Every
+practice card is accepted, and can be planned by either planner.
+    lamp practice 1950 > 1950.card      # without --into the card goes to standard output
+    lamp practice 1..30 --into cards    # the files 1.card to 30.card in the folder cards
+--into DIR  writes the file NUMBER.card, or one for each number from FIRST to LAST, into the folder DIR, which
+    has to be there; at most 10,000 at a time. No file that was there before is overwritten: one that holds
+    the same card is left alone, and any other of such a name is an error, before the first card is written.
+    A run that fails or stops halfway, as by Ctrl-C, removes what it wrote, or says what it could not remove.
+    A run that is killed may leave whole cards under their names, and the folder lamp.part, which the next
+    run into DIR removes, or says why not.";
 
 const SHEET_TEXT: &str = "\
 SHEET has a line a slot, with a step or - (off) for each module, as '2 2 -'. A line may begin with
@@ -81,13 +87,20 @@ impl Command {
         format!("lamp {} {}{options}", self.name, self.takes.join(" "))
     }
 
+    /// The form with a range of numbers, and what it does. Only what goes into a folder can be more than one card.
+    fn range_form(&self) -> Option<(String, &'static str)> {
+        let form = || (format!("lamp {} FIRST..LAST {INTO}", self.name), "makes those of a range, as files of a folder");
+        self.options.contains(&INTO).then(form)
+    }
+
     /// The option that a word is.
     pub fn option(&self, word: &OsStr) -> Option<&'static str> {
         self.options.iter().copied().find(|option| option.split(' ').next().is_some_and(|name| word == name))
     }
 
     pub fn usage(&self) -> String {
-        format!("usage: {}", self.form())
+        let range = self.range_form().map_or(String::new(), |(form, _)| format!("\n       {form}"));
+        format!("usage: {}{range}", self.form())
     }
 
     pub fn help(&self) -> String {
@@ -99,9 +112,10 @@ impl Command {
 
 /// What `lamp --help` prints.
 pub fn whole() -> String {
-    let width = COMMANDS.iter().map(|command| command.form().len()).max().unwrap_or(0);
+    let rows = || COMMANDS.iter().flat_map(|command| once((command.form(), command.does)).chain(command.range_form()));
+    let width = rows().map(|(form, _)| form.len()).max().unwrap_or(0);
     let mut out = String::from("lamp: the examiner's tool over the proved planner\n\n");
-    COMMANDS.iter().for_each(|command| out += &format!("  {:<width$}  {}\n", command.form(), command.does));
+    rows().for_each(|(form, does)| out += &format!("  {form:<width$}  {does}\n"));
     out += &format!("\nlamp COMMAND --help says more; lamp --version prints the release.\n{A_CARD}\n{STATUS}\n");
     out
 }

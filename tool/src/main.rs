@@ -16,5 +16,6 @@ pub extern "C" fn main(_count: i32, _words: *const *const u8) -> i32 {
         return 2;
     }
     output::complain(&outcome.complaint);
+    output::end_if_stopped();
     outcome.status
 }
