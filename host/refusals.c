@@ -82,7 +82,7 @@ static void expect(const char *call, struct lamp_answer found, enum lamp_refusal
            found.cost, (int)wanted);
 }
 
-/* Refusals 1 to 8, by every call that takes a card. */
+/* Refusals 1 to 8, by every call that reads a card. */
 static void refuse_card(size_t length, enum lamp_refusal wanted)
 {
     expect("lamp_check_card", lamp_check_card(card, length), wanted);

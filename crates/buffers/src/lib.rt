@@ -26,7 +26,7 @@ pub fn put(out: &mut [u8], at: usize, byte: u8) -> usize
 }
 
 // Writes a word.
-pub fn put_word(out: &mut [u8], at: usize, word: &[u8]) -> usize
+pub fn put_bytes(out: &mut [u8], at: usize, word: &[u8]) -> usize
     requires { ⌜ Room (now word) at (now out) ⌝ }
     ensures { λ r. ⌜ Written (now (word .entry)) at (now (out .entry)) (now (out .exit)) r ⌝ }
 {

@@ -31,7 +31,7 @@ module _ (start : ℕ) where
   difference-most zero = omega arith
   difference-most (suc k) = omega (arith, difference-most k)
 
-  -- Up to entry 200 each difference is at most 610.
+  -- F(k) is at most 1,000 + 610k up to k = 200, since each difference up to there is at most 610.
   pub entry-most : (k : ℕ) → k ≤ 200 → practiceEntry start k ≤ 1000 + 610 * k
   unfolding practiceEntry
   entry-most zero h = omega arith

@@ -35,7 +35,7 @@ fn put_step(out: &mut [u8], at: usize, step: u8) -> usize
     ensures { λ r. ⌜ Written (moduleText step) at (now (out .entry)) (now (out .exit)) r ⌝ }
 {
     if step == 255 {
-        return buffers::put_word(out, at, b" -");
+        return buffers::put_bytes(out, at, b" -");
     }
     put_count(out, at, step)
 }
@@ -73,7 +73,7 @@ fn put_line(out: &mut [u8], at: usize, word: &[u8], n: u64) -> usize
     requires { ⌜ Room (numberedLine (now word) n) at (now out) ⌝ }
     ensures { λ r. ⌜ Written (numberedLine (now (word .entry)) n) at (now (out .entry)) (now (out .exit)) r ⌝ }
 {
-    let number = buffers::put_word(out, at, word);
+    let number = buffers::put_bytes(out, at, word);
     let end = put_number(out, number, n);
     buffers::put(out, end, b'\n')
 }
@@ -83,7 +83,7 @@ fn put_plan(out: &mut [u8], at: usize, plan: &[u8]) -> usize
     requires { ⌜ Room (planLine (now plan)) at (now out) ⌝ }
     ensures { λ r. ⌜ Written (planLine (now (plan .entry))) at (now (out .entry)) (now (out .exit)) r ⌝ }
 {
-    let counts = buffers::put_word(out, at, b"plan");
+    let counts = buffers::put_bytes(out, at, b"plan");
     let end = put_counts(out, counts, plan);
     buffers::put(out, end, b'\n')
 }
@@ -94,7 +94,7 @@ fn put_slot_number(out: &mut [u8], at: usize, t: usize) -> usize
     requires { ⌜ Room (slotNumber t) at (now out) ⌝ }
     ensures { λ r. ⌜ Written (slotNumber t) at (now (out .entry)) (now (out .exit)) r ⌝ }
 {
-    let number = buffers::put_word(out, at, b"slot ");
+    let number = buffers::put_bytes(out, at, b"slot ");
     put_number(out, number, t as u64 + 1)
 }
 

@@ -187,8 +187,8 @@ refusals (markSheet c s) = cardRefusals ++ (WrongLength ∷ EntryRange ∷ LoadN
 refusals (roundCount n m) = RackSize ∷ EntryRange ∷ []
 refusals (practiceCard s c) = ZeroStart ∷ BufferTooShort ∷ []
 
--- The calls for which a paragraph of document 02 sets an order among refusals: 'that order holds instead of the lowest number, in
--- condition 1 too' (02 §1). The list of every other call ascends.
+-- The calls for which a paragraph of document 02 sets an order among refusals that is not that of their numbers: 'that order holds
+-- instead of the lowest number, in condition 1 too' (02 §1). The list of every other call ascends.
 unfoldable pub ownOrder : Call → Bool
 ownOrder (checkCard c) = false
 ownOrder (runningCost c n l) = false

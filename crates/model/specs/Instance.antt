@@ -86,8 +86,8 @@ cardLength i = loadPlace (i .topStep) (i .slots)
 abbrev pub frontBytes : List ℕ
 frontBytes = cardMark ++ bytesOf 2 cardVersion
 
-abbrev pub rackBytes : Instance → List ℕ
-rackBytes i = bytesOf 1 (i .modules) ++ (bytesOf 1 (i .topStep) ++ bytesOf 2 (i .slots))
+abbrev pub sizeBytes : Instance → List ℕ
+sizeBytes i = bytesOf 1 (i .modules) ++ (bytesOf 1 (i .topStep) ++ bytesOf 2 (i .slots))
 
 abbrev pub priceBytes : Instance → List ℕ
 priceBytes i = bytesOf 4 (i .powerUp) ++ bytesOf 4 (i .powerDown)
@@ -100,7 +100,7 @@ loadBytes i = rows (i .slots) (λ t. bytesOf 2 (i .load t))
 
 -- The card of a show: its fields one after the other.
 unfoldable pub cardBytes : Instance → List ℕ
-cardBytes i = frontBytes ++ (rackBytes i ++ (priceBytes i ++ (tableBytes i ++ loadBytes i)))
+cardBytes i = frontBytes ++ (sizeBytes i ++ (priceBytes i ++ (tableBytes i ++ loadBytes i)))
 
 -- A number that the rack may have: 'modules m, 1 to 200', 'Q, 1 to 200'.
 abbrev pub rackNumber : ℕ → Bool

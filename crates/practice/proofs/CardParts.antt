@@ -2,73 +2,67 @@
 use Prim.Native.Nat.{ℕ, _+_}
 use mathlib.Core.Path.{_≡_}
 use mathlib.Core.List.{List, _++_}
+use Rattle.lists.specs.Bytes.{bytesOf}
 use Rattle.lists.specs.Writing.{Room, Written, room-first, room-rest, written-more}
-use Rattle.model.specs.Instance.{Instance, frontBytes, rackBytes, priceBytes, tableBytes, loadBytes, cardBytes}
+use Rattle.model.specs.Instance.{frontBytes, tableBytes, loadBytes, cardBytes}
 use Rattle.model.specs.Practice.{drawn, practiceShow}
-use Rattle.practice.specs.declared.Head.{Head}
+use Rattle.practice.specs.declared.FirstDraws.{FirstDraws}
 use Rattle.practice.specs.declared.AfterTable.{AfterTable}
-use Rattle.practice.specs.Drawing.{DrawnRoom, LoadsRoom}
+use Rattle.practice.specs.Drawing.{OfStart, DrawnRoom, LoadsRoom}
 
-module _ (a b : Instance → List ℕ) {h : Head} {p : ℕ} {old : List ℕ} (room : DrawnRoom (λ i. a i ++ b i) h p old) where
-  -- Room for two parts is room for the first.
-  drawn-first : DrawnRoom a h p old
-  drawn-first = record { head = room .head; room = room-first (b (practiceShow (h .start))) (room .room) }
+-- The bytes of m, Q and T, and of the prices, as they are drawn.
+abbrev sizes : FirstDraws → List ℕ
+sizes first = bytesOf 1 (first .modules) ++ (bytesOf 1 (first .topStep) ++ bytesOf 2 (first .slots))
 
-  -- Room for two parts is room for the second once the first is written.
-  drawn-rest : {q : ℕ} {mid : List ℕ} → Written (a (practiceShow (h .start))) p old mid q → DrawnRoom b h q mid
-  drawn-rest w = record { head = room .head; room = room-rest (room .room) w }
+abbrev prices : FirstDraws → List ℕ
+prices first = bytesOf 4 (first .powerUp) ++ bytesOf 4 (first .powerDown)
 
--- What follows each part of a card.
-abbrev afterPrices : Instance → List ℕ
-afterPrices i = tableBytes i ++ loadBytes i
+-- The table and the loads.
+abbrev body : FirstDraws → List ℕ
+body first = tableBytes (practiceShow (first .start)) ++ loadBytes (practiceShow (first .start))
 
-abbrev afterRack : Instance → List ℕ
-afterRack i = priceBytes i ++ afterPrices i
+-- The card begins with what is drawn first.
+card-parts :
+    {first : FirstDraws} → OfStart first →
+    cardBytes (practiceShow (first .start)) ≡ frontBytes ++ (sizes first ++ (prices first ++ body first))
+unfolding cardBytes
+card-parts is = rw (is .modules-is, is .top-is, is .slots-is, is .up-is, is .down-is)
 
-abbrev afterFront : Instance → List ℕ
-afterFront i = rackBytes i ++ afterRack i
-
-module _ {h : Head} {old : List ℕ} (room : DrawnRoom cardBytes h 0 old) where
-  whole : DrawnRoom (λ i. frontBytes ++ afterFront i) h 0 old
-  unfolding cardBytes
-  whole = record { head = room .head; room = room .room }
+module _ {first : FirstDraws} {old : List ℕ} (room : DrawnRoom cardBytes first 0 old) where
+  whole : Room (frontBytes ++ (sizes first ++ (prices first ++ body first))) 0 old
+  whole = rw (card-parts (room .is)) at (room .room)
 
   pub front-room : Room frontBytes 0 old
-  front-room = drawn-first (λ i. frontBytes) afterFront whole .room
+  front-room = room-first _ whole
 
   -- Once the mark and the version are written.
   module _ {q₁ : ℕ} {l₁ : List ℕ} (front : Written frontBytes 0 old l₁ q₁) where
-    behind-front : DrawnRoom afterFront h q₁ l₁
-    behind-front = drawn-rest (λ i. frontBytes) afterFront whole front
-
-    pub rack-there : DrawnRoom rackBytes h q₁ l₁
-    rack-there = drawn-first rackBytes afterRack behind-front
+    pub sizes-room : Room (sizes first) q₁ l₁
+    sizes-room = room-first _ (room-rest whole front)
 
     -- Once m, Q and T are written.
-    module _ {q₂ : ℕ} {l₂ : List ℕ} (rack : Written (rackBytes (practiceShow (h .start))) q₁ l₁ l₂ q₂) where
-      behind-rack : DrawnRoom afterRack h q₂ l₂
-      behind-rack = drawn-rest rackBytes afterRack behind-front rack
+    module _ {q₂ : ℕ} {l₂ : List ℕ} (rack : Written (sizes first) q₁ l₁ l₂ q₂) where
+      behind-sizes : Room (prices first ++ body first) q₂ l₂
+      behind-sizes = room-rest (room-rest whole front) rack
 
-      pub prices-there : DrawnRoom priceBytes h q₂ l₂
-      prices-there = drawn-first priceBytes afterPrices behind-rack
+      pub prices-room : Room (prices first) q₂ l₂
+      prices-room = room-first _ behind-sizes
 
       -- Once the prices are written.
-      module _ {q₃ : ℕ} {l₃ : List ℕ} (prices : Written (priceBytes (practiceShow (h .start))) q₂ l₂ l₃ q₃) where
-        behind-prices : DrawnRoom afterPrices h q₃ l₃
-        behind-prices = drawn-rest priceBytes afterPrices behind-rack prices
-
-        pub table-there : DrawnRoom tableBytes h q₃ l₃
-        table-there = drawn-first tableBytes loadBytes behind-prices
+      module _ {q₃ : ℕ} {l₃ : List ℕ} (priced : Written (prices first) q₂ l₂ l₃ q₃) where
+        pub table-room : DrawnRoom tableBytes first q₃ l₃
+        table-room = record { is = room .is; room = room-first _ (room-rest behind-sizes priced) }
 
         -- Once the table is written.
-        pub loads-there :
-            (after : AfterTable) {l₄ : List ℕ} → Written (tableBytes (practiceShow (h .start))) q₃ l₃ l₄ (after .place) →
-            after .state ≡ drawn (h .start) (6 + h .topStep) → LoadsRoom h after l₄
-        loads-there after table e = record { behind = drawn-rest tableBytes loadBytes behind-prices table; state-is = e }
+        pub loads-room :
+            (after : AfterTable) {l₄ : List ℕ} → Written (tableBytes (practiceShow (first .start))) q₃ l₃ l₄ (after .place) →
+            after .state ≡ drawn (first .start) (6 + first .topStep) → LoadsRoom first after l₄
+        loads-room after table e =
+            record { behind = record { is = room .is; room = room-rest (room-rest behind-sizes priced) table }; state-is = e }
 
         -- Once the loads are written too.
         pub card-written :
-            {q₄ q : ℕ} {l₄ new : List ℕ} → Written (tableBytes (practiceShow (h .start))) q₃ l₃ l₄ q₄ →
-            Written (loadBytes (practiceShow (h .start))) q₄ l₄ new q → Written (cardBytes (practiceShow (h .start))) 0 old new q
-        unfolding cardBytes
-        card-written table loads = written-more front (written-more rack (written-more prices (written-more table loads)))
+            {q₄ q : ℕ} {l₄ new : List ℕ} → Written (tableBytes (practiceShow (first .start))) q₃ l₃ l₄ q₄ →
+            Written (loadBytes (practiceShow (first .start))) q₄ l₄ new q → Written (cardBytes (practiceShow (first .start))) 0 old new q
+        card-written table loads =
+            rw (card-parts (room .is)) (written-more front (written-more rack (written-more priced (written-more table loads))))

@@ -9,65 +9,65 @@ use Rattle.lists.specs.Writing.{Room, Written, RowsWritten, rows-none, rows-roo
 use Rattle.model.specs.Instance.{loadBytes}
 use Rattle.model.specs.Practice.{draw, drawn, practiceShow}
 use Rattle.laws.specs.PracticeAccepted.{practice-rack}
-use Rattle.practice.specs.declared.Head.{Head}
+use Rattle.practice.specs.declared.FirstDraws.{FirstDraws}
+use Rattle.practice.proofs.DrawnFields.{next-draw}
 use Rattle.practice.specs.declared.AfterTable.{AfterTable}
-use Rattle.practice.specs.Drawing.{DrawnHead, LoadsRoom}
+use Rattle.practice.specs.Drawing.{OfStart, LoadsRoom}
 
 -- Loads so far: those of the first t slots are written.
-pub record LoadsSoFar (h : Head) (bound p : ℕ) (old : List ℕ) (t : ℕ) (new : List ℕ) (place state : ℕ) : Type 0 where
-  pub head : DrawnHead h
-  pub bound-is : bound ≡ h .modules * h .topStep + 1
-  pub written : RowsWritten (λ j. bytesOf 2 (practiceShow (h .start) .load j)) (practiceShow (h .start) .slots) p old t new place
-  pub state-is : state ≡ drawn (h .start) (6 + h .topStep + t)
+pub record LoadsSoFar (first : FirstDraws) (bound p : ℕ) (old : List ℕ) (t : ℕ) (new : List ℕ) (place state : ℕ) : Type 0 where
+  pub is : OfStart first
+  pub bound-is : bound ≡ first .modules * first .topStep + 1
+  pub written : RowsWritten (λ j. bytesOf 2 (practiceShow (first .start) .load j)) (practiceShow (first .start) .slots) p old t new place
+  pub state-is : state ≡ drawn (first .start) (6 + first .topStep + t)
 
 -- m × Q is a small number.
-pub full-range : {h : Head} → DrawnHead h → h .modules * h .topStep ≤ 40000
-full-range {h} is =
-    let (_, most, _, top, _) = practice-rack (h .start) in
+pub full-range : {first : FirstDraws} → OfStart first → first .modules * first .topStep ≤ 40000
+full-range {first} is =
+    let (_, most, _, top, _) = practice-rack (first .start) in
     rw (is .modules-is, is .top-is) (mul-le-mul most top)
 
 -- Before the first turn nothing is written.
 pub loads-start :
-    {h : Head} {after : AfterTable} {old : List ℕ} → LoadsRoom h after old →
-    LoadsSoFar h (h .modules * h .topStep + 1) (after .place) old 0 old (after .place) (after .state)
-loads-start {h} room =
+    {first : FirstDraws} {after : AfterTable} {old : List ℕ} → LoadsRoom first after old →
+    LoadsSoFar first (first .modules * first .topStep + 1) (after .place) old 0 old (after .place) (after .state)
+loads-start {first} room =
     record {
-      head = room .behind .head;
+      is = room .behind .is;
       bound-is = refl;
       written = rows-none _ _ (room .behind .room);
-      state-is = rw (add-zero (6 + h .topStep)) (room .state-is);
+      state-is = rw (add-zero (6 + first .topStep)) (room .state-is);
     }
 
 module _
-    {h : Head} {bound p t : ℕ} {old new : List ℕ} {place state : ℕ} (so : LoadsSoFar h bound p old t new place state) where
+    {first : FirstDraws} {bound p t : ℕ} {old new : List ℕ} {place state : ℕ} (so : LoadsSoFar first bound p old t new place state) where
   -- Drawn is the next state.
   module _ {s : ℕ} (drew : s ≡ draw state) where
-    next-state : s ≡ drawn (h .start) (7 + h .topStep + t)
-    unfolding drawn
+    next-state : s ≡ drawn (first .start) (7 + first .topStep + t)
     next-state =
-        let one-more : 7 + h .topStep + t ≡ suc (6 + h .topStep + t) = omega arith in
-        rw one-more (drew ∙ ap draw (so .state-is))
+        let one-more : 7 + first .topStep + t ≡ suc (6 + first .topStep + t) = omega arith in
+        rw one-more (next-draw (first .start) (6 + first .topStep + t) (so .state-is) drew)
 
-    load-is : s % bound ≡ practiceShow (h .start) .load t
+    load-is : s % bound ≡ practiceShow (first .start) .load t
     unfolding practiceShow
-    load-is = rw (next-state, so .bound-is, so .head .modules-is, so .head .top-is)
+    load-is = rw (next-state, so .bound-is, so .is .modules-is, so .is .top-is)
 
     -- There is room for the load that is drawn.
-    pub load-room : Room (loadBytes (practiceShow (h .start))) p old → t < h .slots → Room (bytesOf 2 (s % bound)) place new
-    load-room room b = rw load-is (rows-room room (so .written) (omega (arith, so .head .slots-is)))
+    pub load-room : Room (loadBytes (practiceShow (first .start))) p old → t < first .slots → Room (bytesOf 2 (s % bound)) place new
+    load-room room b = rw load-is (rows-room room (so .written) (omega (arith, so .is .slots-is)))
 
     -- One more load is written.
     pub loads-turn :
-        {newer : List ℕ} {after : ℕ} → t < h .slots → Written (bytesOf 2 (s % bound)) place new newer after →
-        LoadsSoFar h bound p old (t + 1) newer after s
+        {newer : List ℕ} {after : ℕ} → t < first .slots → Written (bytesOf 2 (s % bound)) place new newer after →
+        LoadsSoFar first bound p old (t + 1) newer after s
     loads-turn b wrote =
         record {
-          head = so .head;
+          is = so .is;
           bound-is = so .bound-is;
-          written = rows-more (so .written) (omega (arith, so .head .slots-is)) (rw load-is at wrote);
-          state-is = let at : 6 + h .topStep + (t + 1) ≡ 7 + h .topStep + t = omega arith in rw at next-state;
+          written = rows-more (so .written) (omega (arith, so .is .slots-is)) (rw load-is at wrote);
+          state-is = let at : 6 + first .topStep + (t + 1) ≡ 7 + first .topStep + t = omega arith in rw at next-state;
         }
 
   -- After the last turn all loads are written.
-  pub loads-end : h .slots ≤ t → Written (loadBytes (practiceShow (h .start))) p old new place
-  loads-end b = rows-all (so .written) (omega (arith, so .head .slots-is))
+  pub loads-end : first .slots ≤ t → Written (loadBytes (practiceShow (first .start))) p old new place
+  loads-end b = rows-all (so .written) (omega (arith, so .is .slots-is))

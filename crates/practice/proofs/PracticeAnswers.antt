@@ -15,8 +15,8 @@ use Rattle.model.specs.Calls.{practiceCard, startsAtZero, buffersOf, anyShort, 
 use Rattle.model.specs.Calls.{cardBuffer, atExit, buffersAtExit, cardAtExit}
 use Rattle.laws.specs.Encoding.{card-bytes-length}
 use Rattle.laws.specs.PracticeAccepted.{practice-given}
-use Rattle.practice.specs.declared.Head.{Head}
-use Rattle.practice.specs.Drawing.{DrawnHead, DrawnRoom}
+use Rattle.practice.specs.declared.FirstDraws.{FirstDraws}
+use Rattle.practice.specs.Drawing.{OfStart, DrawnRoom}
 
 module _ (start : ℕ) (card : List ℕ) where
   -- The area at exit, by the answer.
@@ -50,20 +50,20 @@ module _ (start : ℕ) (card : List ℕ) where
         let given = practice-given start card some h in
         (sym given, written-start w .1 ∙ exit-by given)
 
-module _ {h : Head} (is : DrawnHead h) {start : ℕ} (from : h .start ≡ start) where
+module _ {first : FirstDraws} (is : OfStart first) {start : ℕ} (from : first .start ≡ start) where
   -- The length that is worked out is the card's.
-  pub length-is : {size : ℕ} → size ≡ loadPlace (h .topStep) (h .slots) → size ≡ cardLength (practiceShow start)
+  pub length-is : {size : ℕ} → size ≡ loadPlace (first .topStep) (first .slots) → size ≡ cardLength (practiceShow start)
   unfolding cardLength
   length-is e = rw (← from, e, is .top-is, is .slots-is)
 
   -- An area of at least that length has room for the card.
-  pub card-room : {card : List ℕ} → cardLength (practiceShow start) ≤ length card → DrawnRoom cardBytes h 0 card
+  pub card-room : {card : List ℕ} → cardLength (practiceShow start) ≤ length card → DrawnRoom cardBytes first 0 card
   card-room {card} b =
-      let long : cardLength (practiceShow (h .start)) ≤ length card = rw from b in
-      record { head = is; room = record { room = omega (arith, card-bytes-length (practiceShow (h .start))) } }
+      let long : cardLength (practiceShow (first .start)) ≤ length card = rw from b in
+      record { is = is; room = record { room = omega (arith, card-bytes-length (practiceShow (first .start))) } }
 
   -- The card that is written is that of the start.
   pub from-start :
-      {card new : List ℕ} {r : ℕ} → Written (cardBytes (practiceShow (h .start))) 0 card new r →
+      {card new : List ℕ} {r : ℕ} → Written (cardBytes (practiceShow (first .start))) 0 card new r →
       Written (cardBytes (practiceShow start)) 0 card new r
   from-start w = rw from at w

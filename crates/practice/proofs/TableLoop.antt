@@ -9,8 +9,9 @@ use Rattle.lists.specs.Writing.{Room, Written, RowsWritten, rows-none, rows-roo
 use Rattle.model.specs.Instance.{tableBytes}
 use Rattle.model.specs.Practice.{draw, drawn, practiceDifference, practiceEntry, practiceShow}
 use Rattle.laws.specs.PracticeAccepted.{practice-rack, difference-most, entry-most}
-use Rattle.practice.specs.declared.Head.{Head}
-use Rattle.practice.specs.Drawing.{DrawnHead, DrawnRoom, SmallDifference, nextDifference}
+use Rattle.practice.specs.declared.FirstDraws.{FirstDraws}
+use Rattle.practice.proofs.DrawnFields.{next-draw}
+use Rattle.practice.specs.Drawing.{OfStart, DrawnRoom, SmallDifference, nextDifference}
 
 module _ (start : ℕ) where
   -- The difference that led to F(k), 0 for F(0).
@@ -27,74 +28,73 @@ module _ (start : ℕ) where
       rw (e, f, place)
 
 -- A table so far: the first k entries are written, and entry k is drawn.
-pub record TableSoFar (h : Head) (p : ℕ) (old : List ℕ) (k : ℕ) (new : List ℕ) (place state difference entry : ℕ) : Type 0 where
-  pub head : DrawnHead h
-  pub written : RowsWritten (λ j. bytesOf 4 (practiceShow (h .start) .table j)) (practiceShow (h .start) .topStep + 1) p old k new place
-  pub below : k ≤ h .topStep
-  pub state-is : state ≡ drawn (h .start) (6 + k)
-  pub difference-is : difference ≡ differenceTo (h .start) k
-  pub entry-is : entry ≡ practiceShow (h .start) .table k
+pub record TableSoFar (first : FirstDraws) (p : ℕ) (old : List ℕ) (k : ℕ) (new : List ℕ) (place state difference entry : ℕ) : Type 0 where
+  pub is : OfStart first
+  pub written : RowsWritten (λ j. bytesOf 4 (practiceShow (first .start) .table j)) (practiceShow (first .start) .topStep + 1) p old k new place
+  pub below : k ≤ first .topStep
+  pub state-is : state ≡ drawn (first .start) (6 + k)
+  pub difference-is : difference ≡ differenceTo (first .start) k
+  pub entry-is : entry ≡ practiceShow (first .start) .table k
 
 -- Before the first turn nothing is written, and F(0) is drawn.
 pub table-starts :
-    {h : Head} {p : ℕ} {old : List ℕ} → DrawnRoom tableBytes h p old → TableSoFar h p old 0 old p (h .state) 0 (h .firstEntry)
+    {first : FirstDraws} {p : ℕ} {old : List ℕ} → DrawnRoom tableBytes first p old → TableSoFar first p old 0 old p (first .state) 0 (first .firstEntry)
 unfolding practiceShow differenceTo
-table-starts {h} room =
+table-starts {first} room =
     record {
-      head = room .head;
+      is = room .is;
       written = rows-none _ _ (room .room);
       below = omega arith;
-      state-is = room .head .state-is;
+      state-is = room .is .state-is;
       difference-is = refl;
-      entry-is = room .head .first-is;
+      entry-is = room .is .first-is;
     }
 
 module _
-    {h : Head} {p k : ℕ} {old new : List ℕ} {place state difference entry : ℕ} (so : TableSoFar h p old k new place state difference entry) where
-  top : h .topStep ≤ 200
-  top = let (_, _, _, most, _) = practice-rack (h .start) in omega (arith, so .head .top-is)
+    {first : FirstDraws} {p k : ℕ} {old new : List ℕ} {place state difference entry : ℕ} (so : TableSoFar first p old k new place state difference entry) where
+  top : first .topStep ≤ 200
+  top = let (_, _, _, most, _) = practice-rack (first .start) in omega (arith, so .is .top-is)
 
   -- There is room for the entry that is drawn.
-  pub entry-room : DrawnRoom tableBytes h p old → Room (bytesOf 4 entry) place new
-  entry-room room = rw (so .entry-is) (rows-room (room .room) (so .written) (omega (arith, so .head .top-is)))
+  pub entry-room : DrawnRoom tableBytes first p old → Room (bytesOf 4 entry) place new
+  entry-room room = rw (so .entry-is) (rows-room (room .room) (so .written) (omega (arith, so .is .top-is)))
 
   -- The difference that led to the entry is small.
   pub difference-small : SmallDifference difference
   unfolding differenceTo
   difference-small = record { most = go k (so .below) (so .difference-is) }
     where
-      go : (j : ℕ) → j ≤ h .topStep → difference ≡ differenceTo (h .start) j → difference ≤ 1000
+      go : (j : ℕ) → j ≤ first .topStep → difference ≡ differenceTo (first .start) j → difference ≤ 1000
       go zero b e = omega arith
-      go (suc j) b e = omega (arith, top, difference-most (h .start) j)
+      go (suc j) b e = omega (arith, top, difference-most (first .start) j)
 
   -- Drawn are the next state and the next difference.
   module _ {s d : ℕ} (drew : s ≡ draw state) (next : d ≡ nextDifference k difference s) where
-    next-state : s ≡ drawn (h .start) (7 + k)
-    unfolding drawn
+    next-state : s ≡ drawn (first .start) (7 + k)
     next-state =
         let one-more : 7 + k ≡ suc (6 + k) = omega arith in
-        rw one-more (drew ∙ ap draw (so .state-is))
+        rw one-more (next-draw (first .start) (6 + k) (so .state-is) drew)
 
-    next-drawn : d ≡ practiceDifference (h .start) k
-    next-drawn = next ∙ next-is (h .start) k difference s (so .difference-is) next-state
+    next-drawn : d ≡ practiceDifference (first .start) k
+    next-drawn = next ∙ next-is (first .start) k difference s (so .difference-is) next-state
 
-    next-entry : entry + d ≡ practiceEntry (h .start) (suc k)
+    next-entry : entry + d ≡ practiceEntry (first .start) (suc k)
     unfolding practiceShow practiceEntry
     next-entry = omega (arith, so .entry-is, next-drawn)
 
     -- The next entry is small.
-    pub next-small : k < h .topStep → entry + d ≤ 123000
-    next-small b = omega (arith, next-entry, top, entry-most (h .start) (suc k) (omega (arith, top)))
+    pub next-small : k < first .topStep → entry + d ≤ 123000
+    next-small b = omega (arith, next-entry, top, entry-most (first .start) (suc k) (omega (arith, top)))
 
     -- One more entry is written, and the next one drawn.
     pub table-turns :
-        {newer : List ℕ} {after : ℕ} → k < h .topStep → Written (bytesOf 4 entry) place new newer after →
-        TableSoFar h p old (k + 1) newer after s d (entry + d)
+        {newer : List ℕ} {after : ℕ} → k < first .topStep → Written (bytesOf 4 entry) place new newer after →
+        TableSoFar first p old (k + 1) newer after s d (entry + d)
     unfolding differenceTo practiceShow
     table-turns b wrote =
         record {
-          head = so .head;
-          written = rows-more (so .written) (omega (arith, so .head .top-is)) (rw (so .entry-is) at wrote);
+          is = so .is;
+          written = rows-more (so .written) (omega (arith, so .is .top-is)) (rw (so .entry-is) at wrote);
           below = omega arith;
           state-is = let at : 6 + (k + 1) ≡ 7 + k = omega arith in rw at next-state;
           difference-is = rw (add-one k) next-drawn;
@@ -103,10 +103,10 @@ module _
 
   -- With the last entry the table is written, and the state is that before the loads.
   pub table-ends :
-      {newer : List ℕ} {after : ℕ} → h .topStep ≤ k → Written (bytesOf 4 entry) place new newer after →
-      Written (tableBytes (practiceShow (h .start))) p old newer after × (state ≡ drawn (h .start) (6 + h .topStep))
+      {newer : List ℕ} {after : ℕ} → first .topStep ≤ k → Written (bytesOf 4 entry) place new newer after →
+      Written (tableBytes (practiceShow (first .start))) p old newer after × (state ≡ drawn (first .start) (6 + first .topStep))
   table-ends b wrote =
-      let last : h .topStep ≡ k = omega arith in (
-        rows-all (rows-more (so .written) (omega (arith, so .head .top-is)) (rw (so .entry-is) at wrote)) (omega (arith, so .head .top-is)),
+      let last : first .topStep ≡ k = omega arith in (
+        rows-all (rows-more (so .written) (omega (arith, so .is .top-is)) (rw (so .entry-is) at wrote)) (omega (arith, so .is .top-is)),
         rw last (so .state-is),
       )

@@ -2,15 +2,17 @@
 use model::Answer;
 use model::Refusal;
 ghost use mathlib.Core.Path.{_≡_};
+ghost use mathlib.Core.List.{_++_};
 ghost use Prim.Native.Nat.{_+_};
+ghost use Rattle.lists.specs.Bytes.{bytesOf};
 ghost use Rattle.lists.specs.Writing.{Room, Written};
-ghost use Rattle.model.specs.Instance.{loadPlace, frontBytes, rackBytes, priceBytes, tableBytes, loadBytes, cardBytes};
+ghost use Rattle.model.specs.Instance.{loadPlace, frontBytes, tableBytes, loadBytes, cardBytes};
 ghost use Rattle.model.specs.Practice.{draw, drawn, practiceShow};
 ghost use Rattle.model.specs.Calls.{answer, practiceCard, cardAtExit};
-ghost use Rattle.practice.specs.Drawing.{DrawnHead, SmallDifference, nextDifference, DrawnRoom, LoadsRoom};
+ghost use Rattle.practice.specs.Drawing.{OfStart, SmallDifference, nextDifference, DrawnRoom, LoadsRoom};
 
 // What the first six draws of a start give, with the start and the state of the generator after them.
-struct Head {
+struct FirstDraws {
     start: u32,
     modules: u32,
     topStep: u32,
@@ -37,8 +39,8 @@ fn xorshift(s: u32) -> u32
 }
 
 // The first six draws.
-fn draw_head(start: u32) -> Head
-    ensures { λ r. ⌜ DrawnHead r ⌝ }
+fn draw_first(start: u32) -> FirstDraws
+    ensures { λ r. ⌜ OfStart r ⌝ }
     ensures { λ r. ⌜ r .start ≡ start ⌝ }
 {
     let modules = xorshift(start);
@@ -47,7 +49,7 @@ fn draw_head(start: u32) -> Head
     let up = xorshift(slots);
     let down = xorshift(up);
     let entry = xorshift(down);
-    Head {
+    FirstDraws {
         start,
         modules: 1 + modules % 200,
         topStep: 1 + top % 200,
@@ -60,14 +62,14 @@ fn draw_head(start: u32) -> Head
 }
 
 // The length of the card.
-fn card_length(h: Head) -> usize
-    ensures { λ r. ⌜ r ≡ loadPlace (h .topStep) (h .slots) ⌝ }
+fn card_length(first: FirstDraws) -> usize
+    ensures { λ r. ⌜ r ≡ loadPlace (first .topStep) (first .slots) ⌝ }
 {
-    17 + 4 * (h.topStep as usize + 1) + 2 * (h.slots as usize)
+    17 + 4 * (first.topStep as usize + 1) + 2 * (first.slots as usize)
 }
 
-// The difference after the one given, from a draw: the first one, where k is 0, is the draw's rest by 11, and each next one is larger by
-// the draw's rest by 4.
+// The difference after the one given, from the state that is drawn for it: the first one, where k is 0, is the draw mod 11, and each next one
+// is larger by the draw mod 4.
 fn next_difference(k: u32, difference: u32, state: u32) -> u32
     requires { ⌜ SmallDifference difference ⌝ }
     ensures { λ r. ⌜ r ≡ nextDifference k difference state ⌝ }
@@ -83,41 +85,41 @@ fn put_front(out: &mut [u8], at: usize) -> usize
     requires { ⌜ Room frontBytes at (now out) ⌝ }
     ensures { λ r. ⌜ Written frontBytes at (now (out .entry)) (now (out .exit)) r ⌝ }
 {
-    let version = buffers::put_word(out, at, b"DLS");
+    let version = buffers::put_bytes(out, at, b"DLS");
     buffers::put_two(out, version, 1)
 }
 
 // Writes m, Q and T.
-fn put_rack(out: &mut [u8], at: usize, h: Head) -> usize
-    requires { ⌜ DrawnRoom rackBytes h at (now out) ⌝ }
-    ensures { λ r. ⌜ Written (rackBytes (practiceShow (h .start))) at (now (out .entry)) (now (out .exit)) r ⌝ }
+fn put_sizes(out: &mut [u8], at: usize, modules: u32, top: u32, slots: u32) -> usize
+    requires { ⌜ Room (bytesOf 1 modules ++ (bytesOf 1 top ++ bytesOf 2 slots)) at (now out) ⌝ }
+    ensures { λ r. ⌜ Written (bytesOf 1 modules ++ (bytesOf 1 top ++ bytesOf 2 slots)) at (now (out .entry)) (now (out .exit)) r ⌝ }
 {
-    let top = buffers::put_one(out, at, h.modules);
-    let slots = buffers::put_one(out, top, h.topStep);
-    buffers::put_two(out, slots, h.slots)
+    let second = buffers::put_one(out, at, modules);
+    let third = buffers::put_one(out, second, top);
+    buffers::put_two(out, third, slots)
 }
 
 // Writes the two prices.
-fn put_prices(out: &mut [u8], at: usize, h: Head) -> usize
-    requires { ⌜ DrawnRoom priceBytes h at (now out) ⌝ }
-    ensures { λ r. ⌜ Written (priceBytes (practiceShow (h .start))) at (now (out .entry)) (now (out .exit)) r ⌝ }
+fn put_prices(out: &mut [u8], at: usize, up: u32, down: u32) -> usize
+    requires { ⌜ Room (bytesOf 4 up ++ bytesOf 4 down) at (now out) ⌝ }
+    ensures { λ r. ⌜ Written (bytesOf 4 up ++ bytesOf 4 down) at (now (out .entry)) (now (out .exit)) r ⌝ }
 {
-    let down = buffers::put_four(out, at, h.powerUp);
-    buffers::put_four(out, down, h.powerDown)
+    let second = buffers::put_four(out, at, up);
+    buffers::put_four(out, second, down)
 }
 
 // Draws and writes the table.
-fn put_table(out: &mut [u8], at: usize, h: Head) -> AfterTable
-    requires { ⌜ DrawnRoom tableBytes h at (now out) ⌝ }
-    ensures { λ r. ⌜ Written (tableBytes (practiceShow (h .start))) at (now (out .entry)) (now (out .exit)) (r .place) ⌝ }
-    ensures { λ r. ⌜ r .state ≡ drawn (h .start) (6 + h .topStep) ⌝ }
+fn put_table(out: &mut [u8], at: usize, first: FirstDraws) -> AfterTable
+    requires { ⌜ DrawnRoom tableBytes first at (now out) ⌝ }
+    ensures { λ r. ⌜ Written (tableBytes (practiceShow (first .start))) at (now (out .entry)) (now (out .exit)) (r .place) ⌝ }
+    ensures { λ r. ⌜ r .state ≡ drawn (first .start) (6 + first .topStep) ⌝ }
 {
     let mut place = at;
-    let mut state = h.state;
+    let mut state = first.state;
     let mut difference = 0;
-    let mut entry = h.firstEntry;
+    let mut entry = first.firstEntry;
     let mut k = 0;
-    while k < h.topStep {
+    while k < first.topStep {
         place = buffers::put_four(out, place, entry);
         state = xorshift(state);
         difference = next_difference(k, difference, state);
@@ -129,15 +131,15 @@ fn put_table(out: &mut [u8], at: usize, h: Head) -> AfterTable
 }
 
 // Draws and writes the loads.
-fn put_loads(out: &mut [u8], h: Head, after: AfterTable) -> usize
-    requires { ⌜ LoadsRoom h after (now out) ⌝ }
-    ensures { λ r. ⌜ Written (loadBytes (practiceShow (h .start))) (after .place) (now (out .entry)) (now (out .exit)) r ⌝ }
+fn put_loads(out: &mut [u8], first: FirstDraws, after: AfterTable) -> usize
+    requires { ⌜ LoadsRoom first after (now out) ⌝ }
+    ensures { λ r. ⌜ Written (loadBytes (practiceShow (first .start))) (after .place) (now (out .entry)) (now (out .exit)) r ⌝ }
 {
-    let bound = h.modules * h.topStep + 1;
+    let bound = first.modules * first.topStep + 1;
     let mut place = after.place;
     let mut state = after.state;
     let mut t = 0;
-    while t < h.slots {
+    while t < first.slots {
         state = xorshift(state);
         place = buffers::put_two(out, place, state % bound);
         t += 1;
@@ -146,15 +148,15 @@ fn put_loads(out: &mut [u8], h: Head, after: AfterTable) -> usize
 }
 
 // Writes the card.
-fn put_card(out: &mut [u8], h: Head) -> usize
-    requires { ⌜ DrawnRoom cardBytes h 0 (now out) ⌝ }
-    ensures { λ r. ⌜ Written (cardBytes (practiceShow (h .start))) 0 (now (out .entry)) (now (out .exit)) r ⌝ }
+fn put_card(out: &mut [u8], first: FirstDraws) -> usize
+    requires { ⌜ DrawnRoom cardBytes first 0 (now out) ⌝ }
+    ensures { λ r. ⌜ Written (cardBytes (practiceShow (first .start))) 0 (now (out .entry)) (now (out .exit)) r ⌝ }
 {
-    let rack = put_front(out, 0);
-    let prices = put_rack(out, rack, h);
-    let table = put_prices(out, prices, h);
-    let after = put_table(out, table, h);
-    put_loads(out, h, after)
+    let sizes = put_front(out, 0);
+    let prices = put_sizes(out, sizes, first.modules, first.topStep, first.slots);
+    let table = put_prices(out, prices, first.powerUp, first.powerDown);
+    let after = put_table(out, table, first);
+    put_loads(out, first, after)
 }
 
 // The practice card of a start: refusals 14 and 10, in this order, else cost 0.
@@ -162,14 +164,14 @@ pub fn practice_card(start: u32, card: &mut [u8]) -> Answer
     ensures { λ r. ⌜ r ≡ answer (practiceCard start (now (card .entry))) ⌝ }
     ensures { λ r. ⌜ now (card .exit) ≡ cardAtExit (practiceCard start (now (card .entry))) ⌝ }
 {
-    let h = draw_head(start);
-    let size = card_length(h);
+    let first = draw_first(start);
+    let size = card_length(first);
     if start == 0 {
         return Answer::Refused(Refusal::ZeroStart);
     }
     if card.len() < size {
         return Answer::Refused(Refusal::BufferTooShort);
     }
-    put_card(card, h);
+    put_card(card, first);
     Answer::Cost(0)
 }

@@ -2,8 +2,8 @@ use Prim.Native.Nat.{_-_}
 use native.Mathlib.Omega.{arith}
 use lib.ListN.{length}
 use Rattle.lists.specs.Writing.{RowsWritten, elementText, whole-room, whole-written, rows-none, rows-room, rows-more, rows-all}
-use Rattle.buffers.proofs.put_word.Statement.{statement}
-use Rattle.buffers.proofs.put_word.Tie as tie
+use Rattle.buffers.proofs.put_bytes.Statement.{statement}
+use Rattle.buffers.proofs.put_bytes.Tie as tie
 
 abbrev Inv-loop : tie.InvT-loop
 Inv-loop out₀ at word place₀ j₀ out place j = RowsWritten (elementText word) (length word) at out₀ j out place
@@ -31,7 +31,7 @@ same-length c = search
 returns : tie.Need-returns Inv-loop μ-loop
 returns c = search (whole-written, rows-all)
 
-pub put-word-spec : {M : Type 1} → statement M
-put-word-spec =
+pub put-bytes-spec : {M : Type 1} → statement M
+put-bytes-spec =
     tie.close (tie.spec Inv-loop μ-loop loop-holds (λ c. omega arith) put-requires (λ c. omega arith) loop-less loop-again same-length
     returns)

@@ -4,9 +4,9 @@ use borrow.Author.Needs.{needs}
 use Rattle.listing.proofs.put_plan.Statement.{statement}
 use Rattle.listing.proofs.put_plan.Tie as tie
 
-put-word-requires : tie.Need-put-word-requires
+put-bytes-requires : tie.Need-put-bytes-requires
 unfolding planLine
-put-word-requires c κs = search room-first
+put-bytes-requires c κs = search room-first
 
 put-counts-requires : tie.Need-put-counts-requires
 unfolding planLine
@@ -17,11 +17,11 @@ unfolding planLine
 put-requires c κs =
     let middle = c .before .before .before in
     let word = middle .before .before .before .before in
-    room-rest (room-rest (word .before .before .before .before .before .pre) (word .put-word .ensures)) (middle .put-counts .ensures)
+    room-rest (room-rest (word .before .before .before .before .before .pre) (word .put-bytes .ensures)) (middle .put-counts .ensures)
 
 returns : tie.Need-returns
 unfolding planLine
 returns c = search written-more
 
 pub put-plan-spec : {M : Type 1} → statement M
-put-plan-spec = tie.close (tie.spec (λ c. search needs) put-word-requires put-counts-requires put-requires (λ c. search needs) returns)
+put-plan-spec = tie.close (tie.spec (λ c. search needs) put-bytes-requires put-counts-requires put-requires (λ c. search needs) returns)

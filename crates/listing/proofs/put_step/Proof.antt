@@ -6,13 +6,13 @@ use Rattle.listing.proofs.put_step.Statement.{statement}
 use Rattle.listing.proofs.put_step.Tie as tie
 
 -- Where there is room for a blank and any step, there is room for two bytes.
-put-word-requires : tie.Need-put-word-requires
-put-word-requires c κs =
+put-bytes-requires : tie.Need-put-bytes-requires
+put-bytes-requires c κs =
     let step = c .before .before .before .before .args .step in
     room-less (omega (arith, step-some step)) (c .before .before .before .before .pre)
 
 returns : tie.Need-returns
-returns c = rw (step-off (c .before .before .before .before .before .if1 .taken)) (c .before .before .put-word .ensures)
+returns c = rw (step-off (c .before .before .before .before .before .if1 .taken)) (c .before .before .put-bytes .ensures)
 
 put-count-requires : tie.Need-put-count-requires
 put-count-requires c κs = rw (step-on (c .before .if1 .left)) at (c .before .before .before .pre)
@@ -22,4 +22,4 @@ returns-2 c = rw (step-on (c .before .before .before .before .if1 .left)) (c .be
 
 pub put-step-spec : {M : Type 1} → statement M
 put-step-spec =
-    tie.close (tie.spec (λ c. search needs) put-word-requires (λ c. search needs) returns put-count-requires (λ c. search needs) returns-2)
+    tie.close (tie.spec (λ c. search needs) put-bytes-requires (λ c. search needs) returns put-count-requires (λ c. search needs) returns-2)

@@ -1,13 +1,13 @@
 use borrow.Author.Needs.{needs}
-use Rattle.practice.proofs.DrawnFields.{head-drawn}
-use Rattle.practice.proofs.draw_head.Statement.{statement}
-use Rattle.practice.proofs.draw_head.Tie as tie
+use Rattle.practice.proofs.DrawnFields.{first-drawn}
+use Rattle.practice.proofs.draw_first.Statement.{statement}
+use Rattle.practice.proofs.draw_first.Tie as tie
 
 returns : tie.Need-returns
-returns c = search head-drawn
+returns c = search first-drawn
 
-pub draw-head-spec : {M : Type 1} → statement M
-draw-head-spec =
+pub draw-first-spec : {M : Type 1} → statement M
+draw-first-spec =
     tie.close
     (tie.spec (λ c κs. search needs) (λ c κs. search needs) (λ c κs. search needs) (λ c κs. search needs) (λ c κs. search needs)
     (λ c κs. search needs) (λ c. search needs) (λ c. search needs) returns)

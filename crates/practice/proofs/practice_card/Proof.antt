@@ -10,14 +10,14 @@ returns c = zero-refused _ _ (c .if1 .taken)
 returns-2 : tie.Need-returns-2
 returns-2 c =
     let sized = c .before .before in
-    let drew = sized .before .draw-head .ensures in
+    let drew = sized .before .draw-first .ensures in
     let size = length-is (drew .0) (drew .1) (sized .card-length .ensures) in
     short-refused _ _ (c .before .if1 .left) (omega arith)
 
 put-card-requires : tie.Need-put-card-requires
 put-card-requires c κs =
     let sized = c .before .before .before in
-    let drew = sized .before .draw-head .ensures in
+    let drew = sized .before .draw-first .ensures in
     let size = length-is (drew .0) (drew .1) (sized .card-length .ensures) in
     card-room (drew .0) (drew .1) (omega arith)
 
@@ -25,7 +25,7 @@ returns-3 : tie.Need-returns-3
 returns-3 c =
     let wrote = c .before .before in
     let sized = wrote .before .before .before .before in
-    let drew = sized .before .draw-head .ensures in
+    let drew = sized .before .draw-first .ensures in
     let size = length-is (drew .0) (drew .1) (sized .card-length .ensures) in
     card-given _ _ (wrote .before .before .before .if1 .left) (omega arith) (from-start (drew .0) (drew .1) (wrote .put-card .ensures))
 

@@ -1,31 +1,31 @@
 use borrow.Author.Needs.{needs}
-use Rattle.practice.proofs.CardParts.{front-room, rack-there, prices-there, table-there, loads-there, card-written}
+use Rattle.practice.proofs.CardParts.{front-room, sizes-room, prices-room, table-room, loads-room, card-written}
 use Rattle.practice.proofs.put_card.Statement.{statement}
 use Rattle.practice.proofs.put_card.Tie as tie
 
 put-front-requires : tie.Need-put-front-requires
 put-front-requires c κs = search front-room
 
-put-rack-requires : tie.Need-put-rack-requires
-put-rack-requires c κs = search rack-there
+put-sizes-requires : tie.Need-put-sizes-requires
+put-sizes-requires c κs = search sizes-room
 
 put-prices-requires : tie.Need-put-prices-requires
-put-prices-requires c κs = search prices-there
+put-prices-requires c κs = search prices-room
 
 put-table-requires : tie.Need-put-table-requires
 put-table-requires c κs =
     let prices = c .before .before .before in
-    let rack = prices .before .before .before .before in
-    let front = rack .before .before .before .before in
-    table-there (front .before .before .before .pre) (front .put-front .ensures) (rack .put-rack .ensures) (prices .put-prices .ensures)
+    let sizes = prices .before .before .before .before in
+    let front = sizes .before .before .before .before in
+    table-room (front .before .before .before .pre) (front .put-front .ensures) (sizes .put-sizes .ensures) (prices .put-prices .ensures)
 
 put-loads-requires : tie.Need-put-loads-requires
 put-loads-requires c κs =
     let table = c .before .before .before in
     let prices = table .before .before .before .before in
-    let rack = prices .before .before .before .before in
-    let front = rack .before .before .before .before in
-    loads-there (front .before .before .before .pre) (front .put-front .ensures) (rack .put-rack .ensures) (prices .put-prices .ensures)
+    let sizes = prices .before .before .before .before in
+    let front = sizes .before .before .before .before in
+    loads-room (front .before .before .before .pre) (front .put-front .ensures) (sizes .put-sizes .ensures) (prices .put-prices .ensures)
     (table .put-table .result) (table .put-table .ensures .0) (table .put-table .ensures .1)
 
 returns : tie.Need-returns
@@ -34,5 +34,5 @@ returns c = search card-written
 pub put-card-spec : {M : Type 1} → statement M
 put-card-spec =
     tie.close
-    (tie.spec put-front-requires put-rack-requires put-prices-requires put-table-requires put-loads-requires (λ c. search needs)
+    (tie.spec put-front-requires put-sizes-requires put-prices-requires put-table-requires put-loads-requires (λ c. search needs)
     returns)

@@ -4,8 +4,8 @@ use Rattle.lists.specs.Writing.{written-more}
 use Rattle.practice.proofs.put_front.Statement.{statement}
 use Rattle.practice.proofs.put_front.Tie as tie
 
-put-word-requires : tie.Need-put-word-requires
-put-word-requires c κs = search needs
+put-bytes-requires : tie.Need-put-bytes-requires
+put-bytes-requires c κs = search needs
 
 put-two-requires : tie.Need-put-two-requires
 put-two-requires c κs = search needs
@@ -16,4 +16,4 @@ returns c = search written-more
 
 pub put-front-spec : {M : Type 1} → statement M
 put-front-spec =
-    tie.close (tie.spec (λ c. search needs) put-word-requires put-two-requires (λ c. search needs) returns)
+    tie.close (tie.spec (λ c. search needs) put-bytes-requires put-two-requires (λ c. search needs) returns)

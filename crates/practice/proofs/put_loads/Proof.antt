@@ -6,16 +6,16 @@ use Rattle.practice.proofs.put_loads.Statement.{statement}
 use Rattle.practice.proofs.put_loads.Tie as tie
 
 abbrev Inv-loop : tie.InvT-loop
-Inv-loop out₀ h bound place₀ state₀ t₀ out place state t = LoadsSoFar h bound place₀ out₀ t out place state
+Inv-loop out₀ first bound place₀ state₀ t₀ out place state t = LoadsSoFar first bound place₀ out₀ t out place state
 
 abbrev μ-loop : tie.MeasureT-loop
-μ-loop out₀ h bound place₀ state₀ t₀ out place state t = h .slots - t
+μ-loop out₀ first bound place₀ state₀ t₀ out place state t = first .slots - t
 
 mul-bound : tie.Need-mul-bound Inv-loop μ-loop
-mul-bound c = omega (arith, full-range (c .before .before .pre .behind .head))
+mul-bound c = omega (arith, full-range (c .before .before .pre .behind .is))
 
 add-bound : tie.Need-add-bound Inv-loop μ-loop
-add-bound c = omega (arith, full-range (c .before .before .pre .behind .head))
+add-bound c = omega (arith, full-range (c .before .before .pre .behind .is))
 
 loop-holds : tie.Need-loop-holds Inv-loop μ-loop
 loop-holds c = search loads-start

@@ -1,17 +1,16 @@
 use borrow.Author.Needs.{needs}
 use Rattle.lists.specs.Writing.{room-first, room-rest, written-more}
-use Rattle.practice.proofs.DrawnFields.{price-room, price-written}
 use Rattle.practice.proofs.put_prices.Statement.{statement}
 use Rattle.practice.proofs.put_prices.Tie as tie
 
 put-four-requires : tie.Need-put-four-requires
-put-four-requires c κs = search (room-first, price-room)
+put-four-requires c κs = search room-first
 
 put-four-requires-2 : tie.Need-put-four-requires-2
-put-four-requires-2 c κs = search (room-rest, price-room)
+put-four-requires-2 c κs = search room-rest
 
 returns : tie.Need-returns
-returns c = search (price-written, written-more)
+returns c = search written-more
 
 pub put-prices-spec : {M : Type 1} → statement M
 put-prices-spec = tie.close (tie.spec put-four-requires put-four-requires-2 (λ c. search needs) returns)

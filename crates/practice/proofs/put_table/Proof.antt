@@ -6,11 +6,11 @@ use Rattle.practice.proofs.put_table.Statement.{statement}
 use Rattle.practice.proofs.put_table.Tie as tie
 
 abbrev Inv-loop : tie.InvT-loop
-Inv-loop out₀ at h place₀ state₀ difference₀ entry₀ k₀ out place state difference entry k =
-    TableSoFar h at out₀ k out place state difference entry
+Inv-loop out₀ at first place₀ state₀ difference₀ entry₀ k₀ out place state difference entry k =
+    TableSoFar first at out₀ k out place state difference entry
 
 abbrev μ-loop : tie.MeasureT-loop
-μ-loop out₀ at h place₀ state₀ difference₀ entry₀ k₀ out place state difference entry k = h .topStep - k
+μ-loop out₀ at first place₀ state₀ difference₀ entry₀ k₀ out place state difference entry k = first .topStep - k
 
 loop-holds : tie.Need-loop-holds Inv-loop μ-loop
 loop-holds c = search table-starts
