@@ -1,6 +1,6 @@
 -- The practice show of a start: the bounds of its fields, and that its card is accepted, also by the coarse planner. All of it holds by the
 -- way the show is made: its differences are never negative and never fall.
-use Prim.Native.Nat.{ℕ, zero, suc, _+_, _*_, _≤_}
+use Prim.Native.Nat.{ℕ, zero, suc, _+_, _*_, _%_, _≤_, _<_}
 use mathlib.Core.Path.{_≡_}
 use mathlib.Core.Bool.{true}
 use mathlib.Core.List.{List}
@@ -19,11 +19,11 @@ use Rattle.laws.specs.Encoding.{in-order-accepted}
 
 module _ (start : ℕ) where
   -- m and Q are from 1 to 200, T is at most 64.
-  pub practice-rack :
+  pub practice-sizes :
       (1 ≤ practiceShow start .modules) × (practiceShow start .modules ≤ 200) ×
       (1 ≤ practiceShow start .topStep) × (practiceShow start .topStep ≤ 200) × (practiceShow start .slots ≤ 64)
   unfolding practiceShow
-  practice-rack = search arith
+  practice-sizes = search arith
 
   -- Difference k is at most 10 + 3k.
   pub difference-most : (k : ℕ) → practiceDifference start k ≤ 10 + 3 * k
@@ -57,7 +57,7 @@ module _ (start : ℕ) where
   practice-prices : pricesInRange (practiceShow start) ≡ true
   unfolding pricesInRange tableInRange practiceShow
   practice-prices =
-      let (_, _, _, top, _) = practice-rack in
+      let (_, _, _, top, _) = practice-sizes in
       let entries = every-all (practiceShow start .topStep + 1) (λ k. leb (practiceEntry start k) 1000000)
       (λ k h. le-leb (practiceEntry start k) 1000000 (omega (arith, entry-most k (omega arith)))) in
       let up = le-leb (practiceShow start .powerUp) 500000000 (omega arith) in
@@ -67,15 +67,16 @@ module _ (start : ℕ) where
   practice-loads : loadsInRange (practiceShow start) ≡ true
   unfolding loadsInRange practiceShow
   practice-loads =
-      let bound = practiceShow start .modules * practiceShow start .topStep in
+      let full = practiceShow start .modules * practiceShow start .topStep in
+      let below : (x : ℕ) → x % (full + 1) < full + 1 = λ x. mod-lt x (omega arith) in
       every-all _ _
-      (λ t h. le-leb (practiceShow start .load t) bound (omega (arith, mod-lt (drawn start (7 + practiceShow start .topStep + t)) {m = bound + 1} (omega arith))))
+      (λ t h. le-leb (practiceShow start .load t) full (omega (arith, below (drawn start (7 + practiceShow start .topStep + t)))))
 
   -- A practice show is in order.
   pub practice-in-order : inOrder (practiceShow start) ≡ true
   unfolding inOrder
   practice-in-order =
-      let (some, most, one, top, slots) = practice-rack in
+      let (some, most, one, top, slots) = practice-sizes in
       and-both (and-both (and-both (le-leb _ _ some) (le-leb _ _ most)) (and-both (le-leb _ _ one) (le-leb _ _ top)))
       (and-both (le-leb (practiceShow start .slots) 1024 (omega arith)) (and-both practice-prices (and-both practice-convex practice-loads)))
 
@@ -92,4 +93,4 @@ module _ (start : ℕ) where
   -- No practice card is longer than the longest one.
   pub practice-length : cardLength (practiceShow start) ≤ longestPractice
   unfolding cardLength
-  practice-length = let (_, _, _, top, slots) = practice-rack in omega arith
+  practice-length = let (_, _, _, top, slots) = practice-sizes in omega arith

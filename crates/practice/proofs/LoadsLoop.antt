@@ -8,7 +8,7 @@ use Rattle.lists.specs.Bytes.{bytesOf}
 use Rattle.lists.specs.Writing.{Room, Written, RowsWritten, rows-none, rows-room, rows-more, rows-all}
 use Rattle.model.specs.Instance.{loadBytes}
 use Rattle.model.specs.Practice.{draw, drawn, practiceShow}
-use Rattle.laws.specs.PracticeAccepted.{practice-rack}
+use Rattle.laws.specs.PracticeAccepted.{practice-sizes}
 use Rattle.practice.specs.declared.FirstDraws.{FirstDraws}
 use Rattle.practice.proofs.DrawnFields.{next-draw}
 use Rattle.practice.specs.declared.AfterTable.{AfterTable}
@@ -24,7 +24,7 @@ pub record LoadsSoFar (first : FirstDraws) (bound p : ℕ) (old : List ℕ) (t :
 -- m × Q is a small number.
 pub full-range : {first : FirstDraws} → OfStart first → first .modules * first .topStep ≤ 40000
 full-range {first} is =
-    let (_, most, _, top, _) = practice-rack (first .start) in
+    let (_, most, _, top, _) = practice-sizes (first .start) in
     rw (is .modules-is, is .top-is) (mul-le-mul most top)
 
 -- Before the first turn nothing is written.

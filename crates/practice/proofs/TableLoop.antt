@@ -8,7 +8,7 @@ use Rattle.lists.specs.Bytes.{bytesOf}
 use Rattle.lists.specs.Writing.{Room, Written, RowsWritten, rows-none, rows-room, rows-more, rows-all}
 use Rattle.model.specs.Instance.{tableBytes}
 use Rattle.model.specs.Practice.{draw, drawn, practiceDifference, practiceEntry, practiceShow}
-use Rattle.laws.specs.PracticeAccepted.{practice-rack, difference-most, entry-most}
+use Rattle.laws.specs.PracticeAccepted.{practice-sizes, difference-most, entry-most}
 use Rattle.practice.specs.declared.FirstDraws.{FirstDraws}
 use Rattle.practice.proofs.DrawnFields.{next-draw}
 use Rattle.practice.specs.Drawing.{OfStart, DrawnRoom, SmallDifference, nextDifference}
@@ -53,7 +53,7 @@ table-starts {first} room =
 module _
     {first : FirstDraws} {p k : ℕ} {old new : List ℕ} {place state difference entry : ℕ} (so : TableSoFar first p old k new place state difference entry) where
   top : first .topStep ≤ 200
-  top = let (_, _, _, most, _) = practice-rack (first .start) in omega (arith, so .is .top-is)
+  top = let (_, _, _, most, _) = practice-sizes (first .start) in omega (arith, so .is .top-is)
 
   -- There is room for the entry that is drawn.
   pub entry-room : DrawnRoom tableBytes first p old → Room (bytesOf 4 entry) place new
