@@ -1,6 +1,6 @@
 -- The loop that draws and writes the loads of a practice show.
 use Prim.Native.Nat.{ℕ, suc, _+_, _*_, _%_, _≤_, _<_}
-use mathlib.Core.Path.{_≡_, refl, ap, _∙_}
+use mathlib.Core.Path.{_≡_, refl}
 use mathlib.Core.List.{List}
 use native.Mathlib.Nat.{add-zero, mul-le-mul}
 use native.Mathlib.Omega.{arith}
@@ -10,9 +10,9 @@ use Rattle.model.specs.Instance.{loadBytes}
 use Rattle.model.specs.Practice.{draw, drawn, practiceShow}
 use Rattle.laws.specs.PracticeAccepted.{practice-sizes}
 use Rattle.practice.specs.declared.FirstDraws.{FirstDraws}
-use Rattle.practice.proofs.DrawnFields.{next-draw}
 use Rattle.practice.specs.declared.AfterTable.{AfterTable}
 use Rattle.practice.specs.Drawing.{OfStart, LoadsRoom}
+use Rattle.practice.proofs.DrawnFields.{next-draw}
 
 -- Loads so far: those of the first t slots are written.
 pub record LoadsSoFar (first : FirstDraws) (bound p : ℕ) (old : List ℕ) (t : ℕ) (new : List ℕ) (place state : ℕ) : Type 0 where

@@ -10,8 +10,8 @@ use Rattle.model.specs.Instance.{tableBytes}
 use Rattle.model.specs.Practice.{draw, drawn, practiceDifference, practiceEntry, practiceShow}
 use Rattle.laws.specs.PracticeAccepted.{practice-sizes, difference-most, entry-most}
 use Rattle.practice.specs.declared.FirstDraws.{FirstDraws}
-use Rattle.practice.proofs.DrawnFields.{next-draw}
 use Rattle.practice.specs.Drawing.{OfStart, DrawnRoom, SmallDifference, nextDifference}
+use Rattle.practice.proofs.DrawnFields.{next-draw}
 
 module _ (start : ℕ) where
   -- The difference that led to F(k), 0 for F(0).

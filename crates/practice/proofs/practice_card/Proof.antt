@@ -5,7 +5,7 @@ use Rattle.practice.proofs.practice_card.Statement.{statement}
 use Rattle.practice.proofs.practice_card.Tie as tie
 
 returns : tie.Need-returns
-returns c = zero-refused _ _ (c .if1 .taken)
+returns c = zero-refused _ _ (omega arith)
 
 returns-2 : tie.Need-returns-2
 returns-2 c =
