@@ -4,6 +4,7 @@ pub mod Products
 pub mod Division
 pub mod Rising
 pub mod Tests
+pub mod Ranges
 pub mod Sums
 pub mod Summing
 pub mod Lists

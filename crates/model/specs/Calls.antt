@@ -1,4 +1,4 @@
--- Every call's whole outcome: its answer, and the bytes of each lent buffer at exit (document 01, 'Refused', 'The plans'; 02 §1).
+-- Every call's whole outcome: its answer, and the bytes of each lent buffer at exit (document 01, 'Refused', 'The plans'; 02 §1, §2).
 use Prim.Native.Nat.{ℕ, _*_}
 use mathlib.Core.Path.{_≡_}
 use mathlib.Core.Bool.{Bool, true, false, cond, not, _||_}
@@ -19,7 +19,7 @@ use Rattle.model.specs.Instance.{rackNumber, convex, neverFalls, pricesI
 use Rattle.model.specs.Counts.{canServe, operatingCost, roundedCount}
 use Rattle.model.specs.Sheets.{sheetLength, sheetEntries, sheetLight, sheetCost}
 use Rattle.model.specs.Plans.{planServes, planCost, sheetOf}
-use Rattle.model.specs.Planners.{Planner, workBytes, plannerRefusals, plannedBy, plannedCost}
+use Rattle.model.specs.Planners.{Planner, workBytes, plannedBy, plannedCost}
 use Rattle.model.specs.Practice.{practiceShow}
 
 -- The calls, each with what it is handed: the bytes of card, plan, work and sheet at entry, and numbers.
@@ -61,7 +61,7 @@ entriesInRange i (inRack n m) = leb n m
 entriesInRange i (fromStart s) = true
 
 -- What is handed in serves the loads. Refusal 13: 'a slot's steps don't sum to its load; or a plan's count, or the count given to
--- running cost, can't serve its load'.
+-- running cost, can't serve its load', where 'marking and 13 look for too little light only' (02 §2).
 unfoldable pub loadsServed : Instance → HandedIn → Bool
 loadsServed i nothing = true
 loadsServed i (pair n l) = canServe i n l
@@ -177,11 +177,12 @@ abbrev pub cardRefusals : List Refusal
 cardRefusals = NotACard ∷ Version ∷ RackSize ∷ SlotCount ∷ CardLength ∷ PriceRange ∷ NotConvex ∷ LoadRange ∷ []
 
 -- The refusals of each call, in the order in which they are tested: 'Running cost adds 12 and 13; the sheet adds 10 to 13; marking adds 11
--- to 13; the two planners add 10, the coarse one also 9'; a practice card '14, before 10' (02 §1).
+-- to 13; the two planners add 10'; 'the coarse planner takes every accepted table and 9 is never given' (02 §2); a practice card '14, before
+-- 10' (02 §1).
 unfoldable pub refusals : Call → List Refusal
 refusals (checkCard c) = cardRefusals
 refusals (runningCost c n l) = cardRefusals ++ (EntryRange ∷ LoadNotServed ∷ [])
-refusals (planShow k c p w) = cardRefusals ++ plannerRefusals k
+refusals (planShow k c p w) = cardRefusals ++ (BufferTooShort ∷ [])
 refusals (makeSheet c p s) = cardRefusals ++ (BufferTooShort ∷ WrongLength ∷ EntryRange ∷ LoadNotServed ∷ [])
 refusals (markSheet c s) = cardRefusals ++ (WrongLength ∷ EntryRange ∷ LoadNotServed ∷ [])
 refusals (roundCount n m) = RackSize ∷ EntryRange ∷ []

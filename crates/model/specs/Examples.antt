@@ -9,17 +9,19 @@ use lib.ListN.{length, getD, take, drop, set, replicate}
 use native.Mathlib.Omega.{arith}
 use Rattle.lists.specs.Tests.{every, allOf}
 use Rattle.lists.specs.Sums.{sum}
+use Rattle.lists.specs.Ranges.{leastOver, firstOver}
 use Rattle.lists.specs.Lists.{tabulate, rows, keep, sameList, sameLists, same-selves, same-lists-equal}
 use Rattle.lists.specs.Text.{text}
 use Rattle.lists.specs.Bytes.{littleEndian, bytesOf}
 use Rattle.model.specs.Answers.{numberOf, costOf}
 use Rattle.model.specs.Instance.{Instance, instanceOf, cardBytes, cardLength, convexAt, convex, neverFalls, tableInRange}
 use Rattle.model.specs.Instance.{pricesInRange, loadsInRange}
+use Rattle.model.specs.MoreLight.{leastFrom, activeStep}
 use Rattle.model.specs.Counts.{canServe, operatingCost, allCounts, powerOfTwo, coarseCounts, roundedCount}
 use Rattle.model.specs.Sheets.{stateAt, sheetLength, sheetEntries, lightAt, sheetLight, stepCost, changeCost}
 use Rattle.model.specs.Sheets.{sheetOperatingCost, sheetSwitchingCost, sheetCost}
 use Rattle.model.specs.Plans.{moduleByte, slotRow, sheetOf, planCost, planServes, plansInOrder, cheapest, cheapestOf, leastPlan}
-use Rattle.model.specs.Planners.{exact, coarse, allowedCounts, workBytes, plannerRefusals, plannedBy}
+use Rattle.model.specs.Planners.{exact, coarse, allowedCounts, workBytes, plannedBy}
 use Rattle.model.specs.Listing.{digits, decimal, costLine, planLine, stepText, slotLine, listing, refusedLine, printedFor, printed}
 use Rattle.model.specs.Practice.{xorLeft, xorRight, draw, drawn, practiceDifference, practiceEntry, practiceShow, longestPractice}
 use Rattle.model.specs.Calls.{Call, checkCard, runningCost, planShow, makeSheet, markSheet, roundCount, practiceCard}
@@ -63,6 +65,20 @@ cardI = cardOf 3 2 3 2 (1 ∷ 2 ∷ 4 ∷ []) []
 -- The card of 01's plausible error of rounding each exact count up.
 abbrev cardUp : List ℕ
 cardUp = cardOf 4 2 1 0 (1 ∷ 1 ∷ 4 ∷ []) (3 ∷ [])
+
+-- Two modules, tables that fall at first: the least is at steps 1 and 2, or at the top step alone; and a table that is flat.
+abbrev cardFalls : List ℕ
+cardFalls = cardOf 2 3 0 0 (5 ∷ 1 ∷ 1 ∷ 9 ∷ []) (0 ∷ 1 ∷ 4 ∷ 5 ∷ [])
+
+abbrev cardLeastAtTop : List ℕ
+cardLeastAtTop = cardOf 2 2 1 1 (9 ∷ 5 ∷ 2 ∷ []) (3 ∷ 1 ∷ [])
+
+abbrev cardFlat : List ℕ
+cardFlat = cardOf 2 3 0 0 (4 ∷ 4 ∷ 4 ∷ 4 ∷ []) (0 ∷ 3 ∷ [])
+
+-- A sheet for the table that falls at first. It has just the load in every slot, with one module active at step 0.
+abbrev sheetFalls : List ℕ
+sheetFalls = 0 ∷ 255 ∷ 1 ∷ 255 ∷ 2 ∷ 2 ∷ 3 ∷ 2 ∷ []
 
 -- Example D's sheet for card A.
 abbrev sheetD : List ℕ
@@ -126,7 +142,7 @@ starred =
     row "E coarse" (planShow coarse cardE (sevens 4) (sevens 31)) 0 8 (over 4 (8 ∷ 8 ∷ 8 ∷ []) ∷ over 31 (replicate 30 0) ∷ []) ∷
     row "F" (planShow exact cardF (sevens 3) (sevens 7)) 0 1 (over 3 (1 ∷ 0 ∷ []) ∷ over 7 (replicate 6 0) ∷ []) ∷
     row "G exact" (planShow exact cardG (sevens 2) (sevens 4)) 0 2 (over 2 (2 ∷ []) ∷ over 4 (replicate 3 0) ∷ []) ∷
-    row "G coarse" (planShow coarse cardG (sevens 2) (sevens 11)) 9 0 (sevens 2 ∷ sevens 11 ∷ []) ∷
+    row "G coarse" (planShow coarse cardG (sevens 2) (sevens 11)) 0 2 (over 2 (2 ∷ []) ∷ over 11 (replicate 10 0) ∷ []) ∷
     row "H refused" (checkCard (cardOf 3 2 3 2 (0 ∷ 2 ∷ 3 ∷ []) (1 ∷ []))) 7 0 [] ∷
     row "H accepted" (checkCard (cardOf 3 2 3 2 (0 ∷ 2 ∷ 4 ∷ []) (1 ∷ []))) 0 0 [] ∷
     row "I exact" (planShow exact cardI (sevens 2) (sevens 2)) 0 0 (sevens 2 ∷ sevens 2 ∷ []) ∷
@@ -175,7 +191,26 @@ sheetRows =
     row "sheet of 10 bytes" (markSheet cardA (sheetD ++ (255 ∷ []))) 11 0 [] ∷
     row "step above Q" (markSheet cardA (set sheetD 0 3)) 12 0 [] ∷
     row "too little light" (markSheet cardA (set sheetD 0 1)) 13 0 [] ∷
-    row "too much light" (markSheet cardA (set sheetD 4 1)) 13 0 [] ∷
+    row "more light than the load" (markSheet cardA (set sheetD 4 1)) 0 38 [] ∷
+    []
+
+-- More light than the load (02 §2), on tables that fall at first and on a flat one: the running cost by G, the sheet at the smallest step
+-- of least cost, marking by F of the steps handed in, just the load and one step less, and either planner.
+lightRows : List Example
+lightRows =
+    row "G(0) and G(1)" (runningCost cardFalls 2 1) 0 2 [] ∷
+    row "G(2) and G(3)" (runningCost cardFalls 2 5) 0 10 [] ∷
+    row "the smallest of two cheap steps" (makeSheet cardFalls (1 ∷ 1 ∷ 2 ∷ 2 ∷ []) (sevens 9)) 0 14
+    (over 9 (1 ∷ 255 ∷ 1 ∷ 255 ∷ 2 ∷ 2 ∷ 3 ∷ 2 ∷ []) ∷ []) ∷
+    row "falling, exact" (planShow exact cardFalls (sevens 4) (sevens 12)) 0 13 ((0 ∷ 1 ∷ 2 ∷ 2 ∷ []) ∷ replicate 12 0 ∷ []) ∷
+    row "just the load, at F of each step" (markSheet cardFalls sheetFalls) 0 18 [] ∷
+    row "one step darker" (markSheet cardFalls (set sheetFalls 4 1)) 13 0 [] ∷
+    row "lighter and cheaper" (markSheet cardFalls (set sheetFalls 0 2)) 0 14 [] ∷
+    row "lighter and dearer" (markSheet cardFalls (set sheetFalls 2 3)) 0 26 [] ∷
+    row "least at the top step, exact" (planShow exact cardLeastAtTop (sevens 2) (sevens 6)) 0 10 ((2 ∷ 1 ∷ []) ∷ replicate 6 0 ∷ []) ∷
+    row "least at the top step, sheet" (makeSheet cardLeastAtTop (2 ∷ 1 ∷ []) (sevens 4)) 0 10 ((2 ∷ 2 ∷ 2 ∷ 255 ∷ []) ∷ []) ∷
+    row "least at the top step, coarse" (planShow coarse cardLeastAtTop (sevens 2) (sevens 20)) 0 10 ((2 ∷ 1 ∷ []) ∷ replicate 20 0 ∷ []) ∷
+    row "flat, sheet" (makeSheet cardFlat (1 ∷ 2 ∷ []) (sevens 4)) 0 12 ((0 ∷ 255 ∷ 2 ∷ 1 ∷ []) ∷ []) ∷
     []
 
 -- The rounded count: held to m, a power of two, and refusals 3 and 12.
@@ -206,8 +241,8 @@ practiceRows =
 agrees : Example → Bool
 unfolding sameLists sameList every allOf sum tabulate rows keep littleEndian bytesOf instanceOf cardBytes cardLength convexAt convex
     neverFalls tableInRange pricesInRange loadsInRange canServe operatingCost allCounts powerOfTwo coarseCounts roundedCount stateAt
-    sheetLength sheetEntries lightAt sheetLight stepCost changeCost sheetOperatingCost sheetSwitchingCost sheetCost moduleByte
-    slotRow sheetOf planCost planServes plansInOrder cheapest cheapestOf leastPlan allowedCounts workBytes plannerRefusals plannedBy
+    sheetLength sheetEntries lightAt sheetLight leastOver firstOver leastFrom activeStep stepCost changeCost sheetOperatingCost sheetSwitchingCost sheetCost moduleByte
+    slotRow sheetOf planCost planServes plansInOrder cheapest cheapestOf leastPlan allowedCounts workBytes plannedBy
     xorLeft xorRight draw drawn practiceDifference practiceEntry practiceShow
     rightLength entriesInRange loadsServed startsAtZero buffersOf anyShort requestOf applies refusals firstRefusal successCost answer atExit
     buffersAtExit planAtExit cardAtExit outcome flatMap headD digits decimal costLine planLine stepText slotLine listing refusedLine
@@ -246,8 +281,8 @@ abbrev exchanged : (p q w : ℕ) → List ℕ → List ℕ
 exchanged p q w card =
     take p card ++ (take w (drop q card) ++ (take (q - p - w) (drop (p + w) card) ++ (take w (drop p card) ++ drop (q + w) card)))
 
--- Wrong programs of document 01's last section, one of its plausible errors, and wrong practice cards: `expected` is what the program would
--- answer.
+-- Wrong programs of document 01's last section, one of its plausible errors, and wrong readings of document 02: `expected` is what the
+-- program would answer.
 wrong : List Example
 wrong =
     one "full rack always (A)" (planAtExit (planShow exact cardA (sevens 5) (sevens 14))) (over 5 (3 ∷ 3 ∷ 3 ∷ [])) ∷
@@ -257,6 +292,9 @@ wrong =
     one "10 in every card (A)" (numbers (planShow exact cardA (sevens 5) (sevens 14))) (10 ∷ []) ∷
     one "invented cost: the least (D)" (costs (markSheet cardA sheetD)) (32 ∷ []) ∷
     one "rounding exact counts up" (planAtExit (planShow coarse cardUp (sevens 1) (sevens 10))) (4 ∷ []) ∷
+    one "9 for a table that falls (G)" (numbers (planShow coarse cardG (sevens 2) (sevens 11))) (9 ∷ []) ∷
+    one "more light refused (A)" (numbers (markSheet cardA (set sheetD 4 1))) (13 ∷ []) ∷
+    one "marking charges G" (costs (markSheet cardFalls sheetFalls)) (14 ∷ []) ∷
     one "10 before 14" (numbers (practiceCard 0 [])) (10 ∷ []) ∷
     one "the cool-down drawn before the warm-up" (cardAtExit (practiceCard 1950 (sevens 33))) (exchanged 9 13 4 card1950) ∷
     one "what a draw gives is the old s" (drawn 1 1 ∷ []) (1 ∷ []) ∷
@@ -292,6 +330,10 @@ plan-rows-hold = omega arith
 sheet-rows-hold : AllHold sheetRows
 unfolding sheetRows agrees
 sheet-rows-hold = omega arith
+
+light-rows-hold : AllHold lightRows
+unfolding lightRows agrees
+light-rows-hold = omega arith
 
 round-rows-hold : AllHold roundRows
 unfolding roundRows agrees

@@ -2,6 +2,7 @@
 -- the examples. Read in this order.
 pub mod Answers
 pub mod Instance
+pub mod MoreLight
 pub mod Counts
 pub mod Sheets
 pub mod Thesis

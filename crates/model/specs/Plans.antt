@@ -1,4 +1,4 @@
--- Plans: the sheet and the cost of one, and the least plan over a list of allowed counts (document 01, 'The plans').
+-- Plans: the sheet and the cost of one, and the least plan over a list of allowed counts (document 01, 'The plans'; 02 §2).
 use Prim.Native.Nat.{ℕ, zero, suc, _+_, _/_, _%_, _≤_, _<_}
 use mathlib.Core.Path.{_≡_}
 use mathlib.Core.Bool.{Bool, true, cond}
@@ -8,17 +8,22 @@ use lib.Dec.{ltb}
 use Rattle.lists.specs.Tests.{every}
 use Rattle.lists.specs.Lists.{tabulate, rows, keep}
 use Rattle.model.specs.Instance.{Instance}
+use Rattle.model.specs.MoreLight.{activeStep}
 use Rattle.model.specs.Counts.{canServe}
 use Rattle.model.specs.Sheets.{off, sheetCost}
 
--- The byte of module k (from 0) in a slot with count n and load l: 'in a slot with count n, modules 1 to n burn, the first r at
--- q + 1, the others at q'.
-unfoldable pub moduleByte : ℕ → ℕ → ℕ → ℕ
-moduleByte n l k = cond (ltb k n) (cond (ltb k (l % n)) (l / n + 1) (l / n)) off
+-- The step of module k (from 0) of n that share the load l: 'the first r at q + 1, the others at q'.
+abbrev pub sharedStep : (n l k : ℕ) → ℕ
+sharedStep n l k = cond (ltb k (l % n)) (l / n + 1) (l / n)
+
+-- The byte of module k (from 0) in a slot with count n and load l: 'in a slot with count n, modules 1 to n burn', each 'at the smallest
+-- such j for its step' (02 §2).
+unfoldable pub moduleByte : Instance → (n l k : ℕ) → ℕ
+moduleByte i n l k = cond (ltb k n) (activeStep i (sharedStep n l k)) off
 
 -- The bytes of a slot with count n and load l, for all modules of the rack.
 unfoldable pub slotRow : Instance → ℕ → ℕ → List ℕ
-slotRow i n l = tabulate (i .modules) (moduleByte n l)
+slotRow i n l = tabulate (i .modules) (moduleByte i n l)
 
 -- 'Sheet of a plan': the bytes of its slots, one slot after the other.
 unfoldable pub sheetOf : Instance → List ℕ → List ℕ

@@ -26,7 +26,7 @@ pub record OwnSheet (card plan : List ℕ) (number cost : ℕ) : Type 0 where
   pub sheet-costs : number ≡ 0 → sheetCost (instanceOf card) (madeSheet card plan) ≡ cost
 
 -- The cost is at most r times what any sheet that serves costs: with r = 1 'every other sheet that serves the show costs at least as
--- much', with r = 2 'at most twice the least that a sheet serving the show costs'.
+-- much', with r = 2 'at most twice the least that a sheet serving the show costs'; both 'now range over sheets with enough light' (02 §2).
 abbrev pub AtMostTimes : ℕ → (card : List ℕ) → (number cost : ℕ) → Type 0
 AtMostTimes r card number cost =
     number ≡ 0 → (s : List ℕ) → serves (instanceOf card) s ≡ true → cost ≤ r * sheetCost (instanceOf card) s

@@ -1,4 +1,4 @@
--- Sheets: when one serves a show, and what it costs (document 01, 'Terms').
+-- Sheets: when one serves a show, and what it costs (document 01, 'Terms'; 02 §2).
 use Prim.Native.Nat.{ℕ, zero, suc, _+_, _*_}
 use mathlib.Core.Bool.{Bool, cond, _&&_, _||_}
 use mathlib.Core.List.{List}
@@ -43,15 +43,18 @@ stepOf b = cond (isOff b) 0 b
 unfoldable pub lightAt : Instance → List ℕ → (time : ℕ) → ℕ
 lightAt i s time = sum (i .modules) (λ k. stepOf (stateAt i s time k))
 
--- A sheet has the right light: 'in every slot the steps of the burning modules sum to the load'.
+-- A sheet has enough light: in every slot the steps of the active modules sum to the load or more, since 'a slot needs at least its
+-- load' (02 §2).
 unfoldable pub sheetLight : Instance → List ℕ → Bool
-sheetLight i s = every (i .slots) (λ t. eqb (lightAt i s (suc t)) (i .load t))
+sheetLight i s = every (i .slots) (λ t. leb (i .load t) (lightAt i s (suc t)))
 
--- 'A sheet serves it if it has m × T bytes, each 0 to Q or 255, and in every slot the steps of the burning modules sum to the load.'
+-- 'A sheet serves it if it has m × T bytes, each 0 to Q or 255, and in every slot the steps of the burning modules sum to the load'
+-- (01), or to more (02 §2).
 unfoldable pub serves : Instance → List ℕ → Bool
 serves i s = sheetLength i s && (sheetEntries i s && sheetLight i s)
 
--- The cost of a state for one slot: 'A module at step 0 burns and costs F(0); one that is off costs nothing.'
+-- The cost of a state for one slot: 'A module at step 0 burns and costs F(0); one that is off costs nothing.' It is F of the step that
+-- stands there: 'Marking still charges F of each step as handed in' (02 §2).
 unfoldable pub stepCost : Instance → ℕ → ℕ
 stepCost i b = cond (isOff b) 0 (i .table b)
 

@@ -1,6 +1,5 @@
 -- The thesis's formulas (document 000) in whole points: 2.2 and 2.3 for schedules, 3.9 to 3.13 for counts.
-use Prim.Native.Nat.{ℕ, zero, suc, _+_, _-_, _*_, _<_}
-use mathlib.Core.Path.{_≡_}
+use Prim.Native.Nat.{ℕ, zero, suc, _+_, _-_, _*_, _≤_, _<_}
 use mathlib.Core.List.{List}
 use lib.ListN.{getD}
 use Rattle.lists.specs.Sums.{sum}
@@ -23,9 +22,10 @@ scheduleCost i σ =
     sum (i .slots) (λ t. sum (i .modules) (λ k. i .table (σ .assigned (suc t) k) * σ .active (suc t) k)) +
     switchingPrice i * sum (i .slots) (λ t. sum (i .modules) (λ k. σ .active (suc t) k - σ .active t k))
 
--- (2.3), a schedule that is feasible: in every slot the loads of the active servers sum to the slot's load.
+-- (2.3), a schedule that is feasible: in every slot the loads of the active servers sum to the slot's load, or with 'artificial loads'
+-- (5.1) to more (02 §2).
 abbrev pub Feasible : Instance → Schedule → Type 0
-Feasible i σ = (t : ℕ) → t < i .slots → sum (i .modules) (λ k. σ .assigned (suc t) k * σ .active (suc t) k) ≡ i .load t
+Feasible i σ = (t : ℕ) → t < i .slots → i .load t ≤ sum (i .modules) (λ k. σ .assigned (suc t) k * σ .active (suc t) k)
 
 -- The states and steps of a sheet as a schedule.
 unfoldable pub scheduleOf : Instance → List ℕ → Schedule

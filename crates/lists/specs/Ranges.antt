@@ -1,0 +1,128 @@
+-- The least value of a function over a range of indices, and the first index of a range that passes a test.
+use Prim.Native.Nat.{ℕ, zero, suc, _+_, _≤_, _<_, min}
+use mathlib.Core.Path.{_≡_, refl, sym, _∙_}
+use mathlib.Core.Bool.{Bool, true, false, cond, true≢false}
+use mathlib.Core.Logic.{⊎-elim}
+use native.Mathlib.Nat.{min-le-left, min-le-right, le-trans}
+use native.Mathlib.Omega.{arith}
+use lib.Dec.{eqb}
+use borrow.Author.Tests.{eqb-true, eqb-false, eq-eqb}
+use Rattle.lists.specs.Numbers.{le-or-lt, true-or-false}
+
+-- The least of f k, f (k + 1), .., f (k + n).
+unfoldable pub leastOver : (f : ℕ → ℕ) (k n : ℕ) → ℕ
+leastOver f k zero = f k
+leastOver f k (suc n) = min (f k) (leastOver f (k + 1) n)
+
+-- The first of k, k + 1, .., k + n at which the test holds, and k + n where it holds at none.
+unfoldable pub firstOver : (test : ℕ → Bool) (k n : ℕ) → ℕ
+firstOver test k zero = k
+firstOver test k (suc n) = cond (test k) k (firstOver test (k + 1) n)
+
+-- The index j is the smallest of those from k to q at which f is least.
+pub record LeastAt (f : ℕ → ℕ) (k q j : ℕ) : Type 0 where
+  pub from : k ≤ j
+  pub to : j ≤ q
+  pub least : (x : ℕ) → k ≤ x → x ≤ q → f j ≤ f x
+  pub before : (x : ℕ) → k ≤ x → x < j → f j < f x
+
+-- There is only one such index.
+pub least-at-unique : {f : ℕ → ℕ} {k q a b : ℕ} → LeastAt f k q a → LeastAt f k q b → a ≡ b
+least-at-unique {f} {k} {q} {a} {b} A B =
+    ⊎-elim
+    (λ (g : a ≤ b).
+    ⊎-elim
+    (λ (h : b ≤ a). omega arith)
+    (λ (h : a < b). absurd (omega (arith, B .before a (A .from) h, A .least b (B .from) (B .to))))
+    (le-or-lt b a))
+    (λ (g : b < a). absurd (omega (arith, A .before b (B .from) g, B .least a (A .from) (A .to))))
+    (le-or-lt a b)
+
+-- The first index from k to k + n at which a test holds that holds at x: it stands no later than x, and the test fails before it.
+record FirstAt (test : ℕ → Bool) (k x j : ℕ) : Type 0 where
+  from : k ≤ j
+  to : j ≤ x
+  holds : test j ≡ true
+  fails : (y : ℕ) → k ≤ y → y < j → test y ≡ false
+
+first-over : (test : ℕ → Bool) (k n x : ℕ) → k ≤ x → x ≤ k + n → test x ≡ true → FirstAt test k x (firstOver test k n)
+unfolding firstOver
+first-over test k zero x low high e =
+    let same : x ≡ k = omega arith in
+    record { from = omega arith; to = omega arith; holds = rw same at e; fails = λ y a b. absurd (omega arith) }
+first-over test k (suc n) x low high e = go (test k) refl (λ above. first-over test (k + 1) n x above (omega arith) e)
+  where
+    go :
+        (b : Bool) → test k ≡ b → (k + 1 ≤ x → FirstAt test (k + 1) x (firstOver test (k + 1) n)) →
+        FirstAt test k x (cond b k (firstOver test (k + 1) n))
+    go true t later = record { from = omega arith; to = low; holds = t; fails = λ y a b. absurd (omega arith) }
+    go false t later =
+        let above : k + 1 ≤ x =
+        ⊎-elim
+        (λ (h : x ≤ k). let same : x ≡ k = omega arith in absurd (true≢false (sym e ∙ rw same t)))
+        (λ (h : k < x). omega arith)
+        (le-or-lt x k) in
+        let rest = later above in
+        record {
+          from = omega (arith, rest .from);
+          to = rest .to;
+          holds = rest .holds;
+          fails =
+              λ y a b.
+              ⊎-elim
+              (λ (h : y ≤ k). let same : y ≡ k = omega arith in rw same t)
+              (λ (h : k < y). rest .fails y (omega arith) b)
+              (le-or-lt y k);
+        }
+
+module _ (f : ℕ → ℕ) where
+  -- The least over a range is at most each value there.
+  pub least-over-below : (k n x : ℕ) → k ≤ x → x ≤ k + n → leastOver f k n ≤ f x
+  unfolding leastOver
+  least-over-below k zero x low high = let same : x ≡ k = omega arith in rw same (omega arith)
+  least-over-below k (suc n) x low high =
+      ⊎-elim
+      (λ (h : x ≤ k). let same : x ≡ k = omega arith in rw same (min-le-left (f k) (leastOver f (k + 1) n)))
+      (λ (h : k < x).
+      le-trans (min-le-right (f k) (leastOver f (k + 1) n)) (least-over-below (k + 1) n x (omega arith) (omega arith)))
+      (le-or-lt x k)
+
+  -- The least over a range is one of the values there.
+  least-over-attained : (k n : ℕ) → (x : ℕ) × (k ≤ x) × (x ≤ k + n) × (f x ≡ leastOver f k n)
+  unfolding leastOver
+  least-over-attained k zero = (k, omega arith, omega arith, refl)
+  least-over-attained k (suc n) =
+      let (x, low, high, e) = least-over-attained (k + 1) n in
+      ⊎-elim
+      (λ (h : f k ≤ leastOver f (k + 1) n). (k, omega arith, omega arith, omega arith))
+      (λ (h : leastOver f (k + 1) n < f k). (x, omega arith, omega arith, omega arith))
+      (le-or-lt (f k) (leastOver f (k + 1) n))
+
+  -- The first index at which the least over a range is attained.
+  abbrev pub leastIndex : ℕ → ℕ → ℕ
+  leastIndex k n = firstOver (λ j. eqb (f j) (leastOver f k n)) k n
+
+  -- There the function has the least value.
+  pub least-index-value : (k n : ℕ) → f (leastIndex k n) ≡ leastOver f k n
+  least-index-value k n =
+      let (x, low, high, e) = least-over-attained k n in
+      eqb-true _ _ (first-over (λ j. eqb (f j) (leastOver f k n)) k n x low high (eq-eqb _ _ e) .holds)
+
+  -- It is the smallest at which the function is least.
+  pub least-index : (k n : ℕ) → LeastAt f k (k + n) (leastIndex k n)
+  least-index k n =
+      let (x, low, high, e) = least-over-attained k n in
+      let first = first-over (λ j. eqb (f j) (leastOver f k n)) k n x low high (eq-eqb _ _ e) in
+      let value = least-index-value k n in
+      record {
+        from = first .from;
+        to = omega (arith, first .to);
+        least = λ y a b. rw value (least-over-below k n y a b);
+        before =
+            λ y a b.
+            ⊎-elim
+            (λ (h : f y ≤ f (leastIndex k n)).
+            absurd (eqb-false (f y) (leastOver f k n) (first .fails y a b) (omega (arith, least-over-below k n y a (omega (arith, first .to))))))
+            (λ (h : f (leastIndex k n) < f y). h)
+            (le-or-lt (f y) (f (leastIndex k n)));
+      }
