@@ -5,4 +5,6 @@ pub mod Acceptance
 pub mod OnCard
 pub mod Encoding
 pub mod PracticeAccepted
+pub mod Tables
+pub mod LeastSteps
 pub mod Operating

@@ -8,14 +8,16 @@ use lib.Dec.{leb, ltb}
 use borrow.Author.Tests.{leb-true, ltb-true}
 use Rattle.lists.specs.Tests.{every, every-at}
 use Rattle.lists.specs.Sums.{sum}
+use Rattle.lists.specs.Ranges.{leastOver, firstOver}
 use Rattle.lists.specs.Lists.{tabulate, rows, keep}
+use Rattle.model.specs.MoreLight.{leastFrom, activeStep}
 use Rattle.model.specs.Counts.{canServe, operatingCost, allCounts, coarseCounts}
 use Rattle.model.specs.Sheets.{off, stateAt, sheetLength, sheetEntries, lightAt, sheetLight, serves, stepCost, changeCost}
 use Rattle.model.specs.Sheets.{sheetOperatingCost, sheetSwitchingCost, sheetCost, activeAt, countsOf}
 use Rattle.model.specs.Thesis.{countAt, slotCost, countsCost}
 use Rattle.model.specs.Plans.{moduleByte, slotRow, sheetOf, planCost, planServes, plansInOrder, cheapest, cheapestOf, leastPlan, leastCost}
 use Rattle.columns.specs.Column.{countAtPlace, Ascending, GrowsBy}
-use Rattle.theory.specs.Hypotheses.{NeverFalls, Plannable}
+use Rattle.theory.specs.Hypotheses.{Plannable}
 use Rattle.theory.specs.SheetLaws.{sheet-at-least}
 use Rattle.theory.specs.Condition3.{exact-least, list-ratio, coarse-twice}
 use Rattle.theory.specs.Counterexamples.{exampleE, steadySheet, steady-serves}
@@ -30,9 +32,6 @@ example-plannable =
       loads = λ t h. leb-true _ _ (every-at 3 (λ t. leb (exampleE .load t) 8) refl t h);
       convex = λ k h. absurd (omega arith);
     }
-
-example-never-falls : NeverFalls (exampleE .topStep) (exampleE .table)
-example-never-falls k h = omega arith
 
 -- A sheet that has other modules active in the last slot than before.
 abbrev movedSheet : List ℕ
@@ -70,7 +69,7 @@ costs-computed :
     (sheetCost exampleE movedSheet ≡ 10) × (countsCost exampleE 0 (countsOf exampleE movedSheet) ≡ 7) × (leastCost exampleE wideCounts ≡ 6)
 unfolding every sum tabulate rows keep flatMap canServe operatingCost stateAt stepCost changeCost sheetOperatingCost sheetSwitchingCost
     sheetCost activeAt countsOf countAt slotCost countsCost moduleByte slotRow sheetOf planCost planServes plansInOrder cheapest
-    cheapestOf leastPlan
+    cheapestOf leastPlan leastOver firstOver leastFrom activeStep
 costs-computed = (refl, refl, refl)
 
 -- The counts of the moved sheet cost no more than the sheet: 7 ≤ 10.
@@ -84,8 +83,8 @@ exact-least-applied = exact-least example-plannable steadySheet steady-serves
 -- The least plan over the wide counts costs at most twice as much as the steady sheet: 6 ≤ 10.
 pub list-ratio-applied : leastCost exampleE wideCounts ≤ 2 * sheetCost exampleE steadySheet
 list-ratio-applied =
-    list-ratio example-plannable example-never-falls wideCounts wide-ascending 2 (omega arith) wide-gaps steadySheet steady-serves
+    list-ratio example-plannable wideCounts wide-ascending 2 (omega arith) wide-gaps steadySheet steady-serves
 
 -- The coarse plan costs at most twice as much as the steady sheet: 8 ≤ 10.
 pub coarse-twice-applied : leastCost exampleE (coarseCounts (exampleE .modules)) ≤ 2 * sheetCost exampleE steadySheet
-coarse-twice-applied = coarse-twice example-plannable example-never-falls steadySheet steady-serves
+coarse-twice-applied = coarse-twice example-plannable steadySheet steady-serves

@@ -1,16 +1,17 @@
--- The operating cost under a table that never falls: more light costs no less, and the average over the modules falls with their number.
+-- The operating cost never falls with more light, since G never falls, and its average over the modules falls with their number.
 use Prim.Native.Nat.{ℕ, zero, suc, _+_, _-_, _*_, _/_, _%_, _≤_, _<_}
-use mathlib.Core.Path.{_≡_, refl, ap, _∙_}
-use mathlib.Core.Logic.{_↔_, ⊎-elim}
+use mathlib.Core.Path.{_≡_, ap}
+use mathlib.Core.Logic.{⊎-elim}
 use native.Mathlib.Nat.{mul-le-mul, mul-le-mul-left, mul-le-mul-right, lt-of-mul-lt-mul-left, le-of-mul-le-mul-left}
-use native.Mathlib.Nat.{add-zero, sub-zero, mod-lt, div-add-mod, mul-add-div, div-eq-of-lt, mul-add-mod-self-left, mod-eq-of-lt}
+use native.Mathlib.Nat.{le-refl, eq-zero-or-pos, add-zero, sub-zero, mod-lt, div-add-mod, mul-add-div, div-eq-of-lt, mul-add-mod-self-left, mod-eq-of-lt}
 use native.Mathlib.Omega.{arith}
 use Rattle.lists.specs.Numbers.{le-or-lt}
 use Rattle.lists.specs.Products.{exchange, mul-le-mul-some}
 use Rattle.lists.specs.Rising.{rises-to}
 use Rattle.model.specs.Instance.{Instance}
+use Rattle.model.specs.MoreLight.{leastFrom}
 use Rattle.model.specs.Counts.{operatingCost}
-use Rattle.theory.specs.Hypotheses.{NeverFalls}
+use Rattle.laws.specs.LeastSteps.{least-never-falls}
 use Rattle.laws.specs.Operating.{operating-some}
 
 -- A load over n modules: `high` of them at step + 1, and the others, at least one, at `step`.
@@ -32,7 +33,7 @@ shares n l h =
     }
 
 -- The cost with r modules at step q + 1 and the others, at least one, at step q.
-cost-below : (i : Instance) (n l q r : ℕ) → r < n → n * q + r ≡ l → operatingCost i n l ≡ (n - r) * i .table q + r * i .table (q + 1)
+cost-below : (i : Instance) (n l q r : ℕ) → r < n → n * q + r ≡ l → operatingCost i n l ≡ (n - r) * leastFrom i q + r * leastFrom i (q + 1)
 cost-below i n l q r h e =
     let some : 0 < n = omega arith in
     let quotient : l / n ≡ q = rw (← e, mul-add-div some q r, div-eq-of-lt h) (add-zero q) in
@@ -41,7 +42,7 @@ cost-below i n l q r h e =
 
 -- The cost with s modules at step q and r at step q + 1, where either may be none.
 cost-shared :
-    (i : Instance) (n l q r s : ℕ) → 0 < n → s + r ≡ n → n * q + r ≡ l → operatingCost i n l ≡ s * i .table q + r * i .table (q + 1)
+    (i : Instance) (n l q r s : ℕ) → 0 < n → s + r ≡ n → n * q + r ≡ l → operatingCost i n l ≡ s * leastFrom i q + r * leastFrom i (q + 1)
 cost-shared i n l q r zero some all light =
     let same : r ≡ n = omega arith in
     rw (cost-below i n l (q + 1) 0 some (omega arith), same, sub-zero) (omega arith)
@@ -52,71 +53,65 @@ cost-shared i n l q r (suc s) some all light =
 module _ (i : Instance) where
   -- The cost of a load shared over modules.
   abbrev shared : {n l : ℕ} → Shares n l → ℕ
-  shared σ = (σ .others + 1) * i .table (σ .step) + σ .high * i .table (σ .step + 1)
+  shared σ = (σ .others + 1) * leastFrom i (σ .step) + σ .high * leastFrom i (σ .step + 1)
 
   cost-of-shares : {n l : ℕ} (σ : Shares n l) → operatingCost i n l ≡ shared σ
   cost-of-shares {n} {l} σ = cost-shared i n l (σ .step) (σ .high) (σ .others + 1) (omega arith) (σ .all) (σ .light)
 
-  module _ (rises : NeverFalls (i .topStep) (i .table)) where
-    -- 'The running cost never falls with more light if the table it uses never falls' (01).
-    pub more-light : (n l : ℕ) → 0 < n → l < n * i .topStep → operatingCost i n l ≤ operatingCost i n (l + 1)
-    more-light n l some h =
-        let σ : Shares n l = shares n l some in
-        let here = cost-of-shares σ in
-        let after = cost-shared i n (l + 1) (σ .step) (σ .high + 1) (σ .others) some (omega arith) (omega arith) in
-        omega (arith, rises (σ .step) (lt-of-mul-lt-mul-left n (omega arith)))
+  -- 'The running cost never falls with more light if the table it uses never falls' (01), and 'G never falls' (02 §2).
+  pub more-light : (n l : ℕ) → 0 < n → l < n * i .topStep → operatingCost i n l ≤ operatingCost i n (l + 1)
+  more-light n l some h =
+      let σ : Shares n l = shares n l some in
+      let here = cost-of-shares σ in
+      let after = cost-shared i n (l + 1) (σ .step) (σ .high + 1) (σ .others) some (omega arith) (omega arith) in
+      omega (arith, least-never-falls i (σ .step) (lt-of-mul-lt-mul-left n (omega arith)))
 
-    module _ {x a l : ℕ} (fewer : x ≤ a) (fits : l ≤ x * i .topStep) (σ : Shares x l) (τ : Shares a l) where
-      -- The next step costs no less if a module is at it: beyond the top step the table says nothing.
-      high-rises : σ .high * i .table (σ .step) ≤ σ .high * i .table (σ .step + 1)
-      high-rises = mul-le-mul-some (σ .high) (λ some. rises (σ .step) (lt-of-mul-lt-mul-left x (omega arith)))
+  -- The same with any more light that the count can give.
+  pub lighter : (n l light : ℕ) → l ≤ light → light ≤ n * i .topStep → operatingCost i n l ≤ operatingCost i n light
+  lighter n l light h fits =
+      ⊎-elim
+      (λ (none : n ≡ 0). let same : l ≡ light = omega (arith, ap (λ (x : ℕ). x * i .topStep) none) in rw same (le-refl _))
+      (λ (some : 0 < n). rises-to (operatingCost i n) (n * i .topStep) (λ k. more-light n k some) l light h fits)
+      (eq-zero-or-pos n)
 
-      -- More modules burn at no higher step.
-      step-falls : τ .step ≤ σ .step
-      step-falls =
-          let h : τ .step < σ .step + 1 = lt-of-mul-lt-mul-left a (omega (arith, mul-le-mul-right (σ .step + 1) fewer)) in
-          omega arith
+  module _ {x a l : ℕ} (fewer : x ≤ a) (fits : l ≤ x * i .topStep) (σ : Shares x l) (τ : Shares a l) where
+    -- The next step costs no less if a module is at it: beyond the top step the table says nothing.
+    high-rises : σ .high * leastFrom i (σ .step) ≤ σ .high * leastFrom i (σ .step + 1)
+    high-rises = mul-le-mul-some (σ .high) (λ some. least-never-falls i (σ .step) (lt-of-mul-lt-mul-left x (omega arith)))
 
-      -- Where the steps differ, the table at the fewer modules' step lies between the averages.
-      average-apart : τ .step < σ .step → x * shared τ ≤ a * shared σ
-      average-apart h =
-          let top : σ .step ≤ i .topStep = le-of-mul-le-mul-left {k = x} (omega arith) (omega arith) in
-          let low = mul-le-mul-left (τ .others + 1) (rises-to (i .table) (i .topStep) rises (τ .step) (σ .step) (omega arith) top) in
-          let high = mul-le-mul-left (τ .high) (rises-to (i .table) (i .topStep) rises (τ .step + 1) (σ .step) (omega arith) top) in
-          let more : shared τ ≤ a * i .table (σ .step) = rw (← τ .all) (omega arith) in
-          let less : x * i .table (σ .step) ≤ shared σ = rw (← σ .all) (omega (arith, high-rises)) in
-          omega (arith, mul-le-mul-left x more, mul-le-mul-left a less)
+    -- More modules burn at no higher step.
+    step-falls : τ .step ≤ σ .step
+    step-falls =
+        let h : τ .step < σ .step + 1 = lt-of-mul-lt-mul-left a (omega (arith, mul-le-mul-right (σ .step + 1) fewer)) in
+        omega arith
 
-      -- Where the steps agree, fewer modules have no smaller part at the next step.
-      average-level : τ .step ≡ σ .step → x * shared τ ≤ a * shared σ
-      average-level h =
-          let f = i .table (σ .step) in
-          let g = i .table (σ .step + 1) in
-          let less : τ .high ≤ σ .high = omega (arith, ap (λ (q : ℕ). a * q) h, mul-le-mul-right (σ .step) fewer) in
-          let cross = exchange f g (mul-le-mul fewer less) (omega (arith, mul-le-mul-left a high-rises)) in
-          rw h (omega (arith, ap (λ (n : ℕ). x * n * f) (τ .all), ap (λ (n : ℕ). a * n * f) (σ .all)))
+    -- Where the steps differ, G at the fewer modules' step lies between the averages.
+    average-apart : τ .step < σ .step → x * shared τ ≤ a * shared σ
+    average-apart h =
+        let top : σ .step ≤ i .topStep = le-of-mul-le-mul-left {k = x} (omega arith) (omega arith) in
+        let rise = rises-to (leastFrom i) (i .topStep) (least-never-falls i) in
+        let low = mul-le-mul-left (τ .others + 1) (rise (τ .step) (σ .step) (omega arith) top) in
+        let high = mul-le-mul-left (τ .high) (rise (τ .step + 1) (σ .step) (omega arith) top) in
+        let more : shared τ ≤ a * leastFrom i (σ .step) = rw (← τ .all) (omega arith) in
+        let less : x * leastFrom i (σ .step) ≤ shared σ = rw (← σ .all) (omega (arith, high-rises)) in
+        omega (arith, mul-le-mul-left x more, mul-le-mul-left a less)
 
-    -- The cost a module never rises with more modules: the average over a modules is at most that over x.
-    pub average-falls : (x a l : ℕ) → 0 < x → x ≤ a → l ≤ x * i .topStep → x * operatingCost i a l ≤ a * operatingCost i x l
-    average-falls x a l some fewer fits =
-        let σ : Shares x l = shares x l some in
-        let τ : Shares a l = shares a l (omega arith) in
-        rw (cost-of-shares σ, cost-of-shares τ)
-        (⊎-elim
-        (λ (h : σ .step ≤ τ .step). average-level fewer fits σ τ (omega (arith, step-falls fewer fits σ τ)))
-        (average-apart fewer fits σ τ)
-        (le-or-lt (σ .step) (τ .step)))
+    -- Where the steps agree, fewer modules have no smaller part at the next step.
+    average-level : τ .step ≡ σ .step → x * shared τ ≤ a * shared σ
+    average-level h =
+        let f = leastFrom i (σ .step) in
+        let g = leastFrom i (σ .step + 1) in
+        let less : τ .high ≤ σ .high = omega (arith, ap (λ (q : ℕ). a * q) h, mul-le-mul-right (σ .step) fewer) in
+        let cross = exchange f g (mul-le-mul fewer less) (omega (arith, mul-le-mul-left a high-rises)) in
+        rw h (omega (arith, ap (λ (n : ℕ). x * n * f) (τ .all), ap (λ (n : ℕ). a * n * f) (σ .all)))
 
-  -- One module costs the table's entry.
-  one-module : (k : ℕ) → k ≤ i .topStep → operatingCost i 1 k ≡ i .table k
-  one-module k h = cost-shared i 1 k k 0 1 (omega arith) refl (omega arith) ∙ omega arith
-
--- More light never costs less exactly if the table never falls: refusal 9 is the hypothesis of condition 3.
-pub never-falls-iff :
-    (i : Instance) →
-    NeverFalls (i .topStep) (i .table) ↔
-    ((n l : ℕ) → 0 < n → l < n * i .topStep → operatingCost i n l ≤ operatingCost i n (l + 1))
-never-falls-iff i = (
-  more-light i,
-  λ h k b. rw (one-module i k (omega arith), one-module i (k + 1) (omega arith)) at (h 1 k (omega arith) (omega arith)),
-)
+  -- The cost a module never rises with more modules: the average over a modules is at most that over x.
+  pub average-falls : (x a l : ℕ) → 0 < x → x ≤ a → l ≤ x * i .topStep → x * operatingCost i a l ≤ a * operatingCost i x l
+  average-falls x a l some fewer fits =
+      let σ : Shares x l = shares x l some in
+      let τ : Shares a l = shares a l (omega arith) in
+      rw (cost-of-shares σ, cost-of-shares τ)
+      (⊎-elim
+      (λ (h : σ .step ≤ τ .step). average-level fewer fits σ τ (omega (arith, step-falls fewer fits σ τ)))
+      (average-apart fewer fits σ τ)
+      (le-or-lt (σ .step) (τ .step)))

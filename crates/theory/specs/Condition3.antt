@@ -1,4 +1,5 @@
--- Condition 3: the least plan over all counts costs no more than any sheet that serves, and over the coarse counts at most twice that.
+-- Condition 3: the least plan over all counts costs no more than any sheet that serves, and over the coarse counts at most twice that. The
+-- sheets are those with enough light (02 §2).
 use Prim.Native.Nat.{ℕ, _*_, _≤_}
 use mathlib.Core.Path.{_≡_, refl, sym, ap, _∙_}
 use mathlib.Core.Bool.{true}
@@ -10,12 +11,12 @@ use Rattle.model.specs.Counts.{allCounts, coarseCounts}
 use Rattle.model.specs.Sheets.{serves, sheetCost, countsOf}
 use Rattle.model.specs.Thesis.{countsCost}
 use Rattle.model.specs.Plans.{Allowed, LeastPlan, sheetOf, planCost, leastPlan, leastCost}
-use Rattle.model.specs.Planners.{Planner, exact, coarse, allowedCounts, tableAllowed, ratioOf, plannedCost}
+use Rattle.model.specs.Planners.{Planner, exact, coarse, allowedCounts, ratioOf, plannedCost}
 use Rattle.model.specs.Calls.{Accepted}
 use Rattle.laws.specs.Acceptance.{modules-range, top-range, load-range, table-convex}
 use Rattle.columns.specs.Column.{searchedPlan, searchedCost, Ascending, GrowsBy}
-use Rattle.theory.specs.Hypotheses.{NeverFalls, PlanFits, Plannable, LeastByCounts}
-use Rattle.theory.specs.Tables.{convex-test, never-falls-test}
+use Rattle.laws.specs.Tables.{convex-test}
+use Rattle.theory.specs.Hypotheses.{PlanFits, Plannable, LeastByCounts}
 use Rattle.theory.specs.SheetLaws.{sheet-counts-fit, sheet-at-least, plan-sheet-serves, plan-cost-counts}
 use Rattle.columns.specs.Places.{count-fits}
 use Rattle.theory.specs.Least.{searched-least, searched-cost}
@@ -76,30 +77,28 @@ module _ {i : Instance} (ready : Plannable i) where
       let least = least-plan i (allCounts (i .modules)) (all-ascending (i .modules) (ready .some)) (ready .loads) .least _ counted in
       omega (arith, plan-cost-counts i (countsOf i s) fit, sheet-at-least i (ready .convex) s e)
 
-  -- Over a list that grows by r the least plan costs at most r times as much as any sheet that serves, if the table never falls
-  -- (thesis 5.5 and 5.11, for whole ratios).
+  -- Over a list that grows by r the least plan costs at most r times as much as any sheet that serves (thesis 5.5 and 5.11, for whole
+  -- ratios), whether the table falls or not.
   pub list-ratio :
-      NeverFalls (i .topStep) (i .table) → (counts : List ℕ) → Ascending counts (i .modules) → (r : ℕ) → 1 ≤ r → GrowsBy r counts →
+      (counts : List ℕ) → Ascending counts (i .modules) → (r : ℕ) → 1 ≤ r → GrowsBy r counts →
       (s : List ℕ) → serves i s ≡ true → leastCost i counts ≤ r * sheetCost i s
-  list-ratio rises counts asc r one gaps s e =
+  list-ratio counts asc r one gaps s e =
       let fit = sheet-counts-fit i s (ready .steps) e in
-      let bound = ratio i counts 0 asc (ready .loads) rises r one gaps (countsOf i s) (fit .in-rack) (fit .served) in
+      let bound = ratio i counts 0 asc (ready .loads) r one gaps (countsOf i s) (fit .in-rack) (fit .served) in
       omega (arith, searched-plan counts asc .1, mul-le-mul-left r (sheet-at-least i (ready .convex) s e))
 
   -- Condition 3, coarse: the least plan over the coarse counts costs at most twice as much as any sheet that serves (thesis 5.8).
-  pub coarse-twice :
-      NeverFalls (i .topStep) (i .table) → (s : List ℕ) → serves i s ≡ true → leastCost i (coarseCounts (i .modules)) ≤ 2 * sheetCost i s
-  coarse-twice rises =
-      list-ratio rises (coarseCounts (i .modules)) (coarse-ascending (i .modules) (ready .some)) 2 (omega arith)
+  pub coarse-twice : (s : List ℕ) → serves i s ≡ true → leastCost i (coarseCounts (i .modules)) ≤ 2 * sheetCost i s
+  coarse-twice =
+      list-ratio (coarseCounts (i .modules)) (coarse-ascending (i .modules) (ready .some)) 2 (omega arith)
       (coarse-doubling (i .modules) (ready .some))
 
--- Condition 3: where a planner's table is allowed, its cost is at most its ratio times what any sheet that serves costs.
+-- Condition 3: a planner's cost is at most its ratio times what any sheet that serves costs.
 pub planner-bound :
-    (k : Planner) {i : Instance} → Plannable i → tableAllowed k i ≡ true → (s : List ℕ) → serves i s ≡ true →
-    plannedCost k i ≤ ratioOf k * sheetCost i s
-unfolding tableAllowed allowedCounts
-planner-bound exact ready allowed s e = omega (arith, exact-least ready s e)
-planner-bound coarse ready allowed s e = coarse-twice ready (never-falls-test _ _ .0 allowed) s e
+    (k : Planner) {i : Instance} → Plannable i → (s : List ℕ) → serves i s ≡ true → plannedCost k i ≤ ratioOf k * sheetCost i s
+unfolding allowedCounts
+planner-bound exact ready s e = omega (arith, exact-least ready s e)
+planner-bound coarse ready s e = coarse-twice ready s e
 
 -- An accepted card meets the hypotheses.
 pub accepted-plannable : (c : List ℕ) → Accepted c → Plannable (instanceOf c)

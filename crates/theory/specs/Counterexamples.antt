@@ -1,5 +1,5 @@
 -- Shows on which the conclusion of a theorem fails without one of its hypotheses, or with a stronger conclusion.
-use Prim.Native.Nat.{ℕ, zero, suc, _+_, _*_, _≤_, _<_}
+use Prim.Native.Nat.{ℕ, zero, suc, _+_, _*_, _≤_, _<_, max}
 use mathlib.Core.Path.{_≡_, refl}
 use mathlib.Core.Bool.{true}
 use mathlib.Core.List.{List, [], _∷_, flatMap}
@@ -8,29 +8,39 @@ use lib.ListN.{length, getD}
 use lib.Dec.{lit<}
 use Rattle.lists.specs.Tests.{every}
 use Rattle.lists.specs.Sums.{sum}
+use Rattle.lists.specs.Ranges.{leastOver, firstOver}
 use Rattle.lists.specs.Lists.{tabulate, rows, keep}
-use Rattle.model.specs.Instance.{Instance, convexAt, convex}
+use Rattle.model.specs.Instance.{Instance}
+use Rattle.model.specs.MoreLight.{leastFrom, activeStep}
 use Rattle.model.specs.Counts.{canServe, operatingCost, allCounts, powerOfTwo, coarseCounts}
 use Rattle.model.specs.Sheets.{off, stateAt, sheetLength, sheetEntries, lightAt, sheetLight, serves, stepCost, changeCost}
 use Rattle.model.specs.Sheets.{sheetOperatingCost, sheetSwitchingCost, sheetCost}
 use Rattle.model.specs.Thesis.{countAt, slotCost, countsCost}
 use Rattle.model.specs.Plans.{moduleByte, slotRow, sheetOf, planCost, planServes, plansInOrder, cheapest, cheapestOf, leastPlan, leastCost}
+use Rattle.laws.specs.LeastSteps.{lowestStep}
 use Rattle.columns.specs.Column.{countAtPlace, Ascending, GrowsBy, servedOrAbove, rising, fromTop, downward, upward}
 use Rattle.columns.specs.Column.{column, searchedCost}
-use Rattle.theory.specs.Hypotheses.{NeverFalls, Plannable, PlanFits, Entry, activeIn, lightIn, rowCost}
+use Rattle.theory.specs.Hypotheses.{Plannable, PlanFits, Entry, activeIn, lightIn, rowCost}
 
--- A show whose table 0, 2, 3 is not convex.
-abbrev concave : Instance
-concave =
+-- A show of two modules and no slot, with a table F(0) to F(2).
+abbrev ofTable : List ℕ → Instance
+ofTable f =
     record {
       modules = 2;
       topStep = 2;
       slots = 0;
       powerUp = 0;
       powerDown = 0;
-      table = λ k. getD (0 ∷ 2 ∷ 3 ∷ []) k 0;
+      table = λ k. getD f k 0;
       load = λ t. 0;
     }
+
+-- Two tables that are not convex.
+abbrev concave : Instance
+concave = ofTable (0 ∷ 2 ∷ 3 ∷ [])
+
+abbrev peaked : Instance
+peaked = ofTable (0 ∷ 5 ∷ 1 ∷ [])
 
 -- A row with one module at step 0 and one at step 2.
 abbrev unevenRow : ℕ → ℕ
@@ -40,7 +50,7 @@ unevenRow k = getD (0 ∷ 2 ∷ []) k 0
 pub row-needs-convex :
     ((k : ℕ) → Entry concave (unevenRow k)) ×
     (rowCost concave 2 unevenRow < operatingCost concave (activeIn 2 unevenRow) (lightIn 2 unevenRow))
-unfolding sum activeIn lightIn rowCost stepCost operatingCost
+unfolding sum activeIn lightIn rowCost stepCost operatingCost leastOver leastFrom
 row-needs-convex = (entry, lit< tt)
   where
     entry : (k : ℕ) → Entry concave (unevenRow k)
@@ -48,27 +58,10 @@ row-needs-convex = (entry, lit< tt)
     entry (suc zero) = refl
     entry (suc (suc k)) = refl
 
--- A show of one slot with load 6 on 4 modules, where step 2 is cheap and the steps below are dear.
-abbrev falling : Instance
-falling =
-    record {
-      modules = 4;
-      topStep = 2;
-      slots = 1;
-      powerUp = 0;
-      powerDown = 0;
-      table = λ k. getD (20 ∷ 10 ∷ 1 ∷ []) k 0;
-      load = λ t. 6;
-    }
-
--- With a falling table the coarse plan may cost more than twice the exact one: here 22 against 3.
-pub falling-table :
-    (convex (falling .topStep) (falling .table) ≡ true) ×
-    (2 * leastCost falling (allCounts (falling .modules)) < leastCost falling (coarseCounts (falling .modules)))
-unfolding every sum tabulate rows keep flatMap convexAt convex canServe allCounts powerOfTwo coarseCounts stateAt stepCost changeCost
-    sheetOperatingCost sheetSwitchingCost sheetCost moduleByte slotRow sheetOf planCost planServes plansInOrder cheapest cheapestOf
-    leastPlan
-falling-table = (refl, lit< tt)
+-- Without convexity the active step of step 1 can be above both step 1 and the lowest step: 2, where these are 1 and 0.
+pub greater-needs-convex : (activeStep peaked 1 ≡ 2) × (max 1 (lowestStep peaked) ≡ 1)
+unfolding leastOver firstOver leastFrom activeStep
+greater-needs-convex = (refl, refl)
 
 -- Document 01's example E.
 abbrev pub exampleE : Instance
@@ -100,10 +93,10 @@ costs-computed :
     (sheetCost exampleE steadySheet ≡ 5)
 unfolding every sum tabulate rows keep flatMap canServe allCounts powerOfTwo coarseCounts stateAt stepCost changeCost
     sheetOperatingCost sheetSwitchingCost sheetCost moduleByte slotRow sheetOf planCost planServes plansInOrder cheapest cheapestOf
-    leastPlan
+    leastPlan leastOver firstOver leastFrom activeStep
 costs-computed = (refl, refl, refl)
 
--- The coarse plan may cost more than a sheet that serves, though the table never falls: here 8 against 5.
+-- The coarse plan may cost more than a sheet that serves: here 8 against 5.
 pub ratio-one :
     (s : List ℕ) × (serves exampleE s ≡ true) × (1 * sheetCost exampleE s < leastCost exampleE (coarseCounts (exampleE .modules)))
 ratio-one = (steadySheet, steady-serves, omega (arith, costs-computed))
@@ -121,9 +114,6 @@ level-plannable : (m f : ℕ) → 1 ≤ m → Plannable (level m f)
 level-plannable m f some =
     record { some = some; steps = omega arith; loads = λ t h. omega arith; convex = λ k h. absurd (omega arith) }
 
-level-never-falls : (m f : ℕ) → NeverFalls (level m f .topStep) (level m f .table)
-level-never-falls m f k h = omega arith
-
 -- A list of allowed counts that has 0 and the full rack only.
 abbrev noneOrAll : ℕ → List ℕ
 noneOrAll m = 0 ∷ m ∷ []
@@ -135,30 +125,28 @@ none-or-all-ascending m some =
 -- Over a list that grows by slightly more than 2 the least plan may cost more than twice as much as a sheet that serves: here 4
 -- against 1.
 pub wider-gaps :
-    Plannable (level 4 0) × NeverFalls (level 4 0 .topStep) (level 4 0 .table) × Ascending (noneOrAll 4) 4 ×
+    Plannable (level 4 0) × Ascending (noneOrAll 4) 4 ×
     ((j : ℕ) → j + 1 < length (noneOrAll 4) → countAtPlace (noneOrAll 4) (j + 1) ≤ 2 * (countAtPlace (noneOrAll 4) j + 2)) ×
     ((s : List ℕ) × (serves (level 4 0) s ≡ true) × (2 * sheetCost (level 4 0) s < leastCost (level 4 0) (noneOrAll 4)))
 unfolding every sum rows tabulate keep flatMap canServe stateAt sheetLength sheetEntries lightAt sheetLight serves stepCost changeCost
     sheetOperatingCost sheetSwitchingCost sheetCost moduleByte slotRow sheetOf planCost planServes plansInOrder cheapest cheapestOf
-    leastPlan
+    leastPlan leastOver firstOver leastFrom activeStep
 wider-gaps = (
   level-plannable 4 0 (omega arith),
-  level-never-falls 4 0,
   none-or-all-ascending 4 (omega arith),
   λ j h. let first : j ≡ 0 = omega arith in rw first (omega arith),
   (1 ∷ off ∷ off ∷ off ∷ [], refl, lit< tt),
 )
 
--- More modules may cost more in total, though the table never falls and their average falls: here 2 against 1.
-pub total-rises :
-    NeverFalls (level 2 1 .topStep) (level 2 1 .table) × (operatingCost (level 2 1) 1 1 < operatingCost (level 2 1) 2 1)
-unfolding operatingCost
-total-rises = (level-never-falls 2 1, lit< tt)
+-- More modules may cost more in total, though their average falls: here 2 against 1.
+pub total-rises : operatingCost (level 2 1) 1 1 < operatingCost (level 2 1) 2 1
+unfolding leastOver leastFrom operatingCost
+total-rises = lit< tt
 
 -- A plan costs more than its counts with one module active before the first slot: here 1 against 0.
 pub all-off-before : PlanFits (level 2 0) (1 ∷ []) × (countsCost (level 2 0) 1 (1 ∷ []) < planCost (level 2 0) (1 ∷ []))
 unfolding every sum rows tabulate canServe operatingCost stateAt stepCost changeCost sheetOperatingCost sheetSwitchingCost sheetCost
-    moduleByte slotRow sheetOf planCost planServes countAt slotCost countsCost
+    moduleByte slotRow sheetOf planCost planServes countAt slotCost countsCost leastOver firstOver leastFrom activeStep
 all-off-before = (
   record {
     steps = omega arith;
@@ -171,12 +159,11 @@ all-off-before = (
 
 -- From a start count the search may cost more than twice as much as a plan without the price of the start: here 1 against 0.
 pub start-has-a-price :
-    Plannable (level 2 0) × NeverFalls (level 2 0 .topStep) (level 2 0 .table) × Ascending (noneOrAll 2) 2 × GrowsBy 2 (noneOrAll 2) ×
+    Plannable (level 2 0) × Ascending (noneOrAll 2) 2 × GrowsBy 2 (noneOrAll 2) ×
     PlanFits (level 2 0) (1 ∷ []) × (2 * countsCost (level 2 0) 1 (1 ∷ []) < searchedCost (level 2 0) (noneOrAll 2) 1)
-unfolding sum canServe operatingCost countAt slotCost countsCost servedOrAbove rising fromTop downward upward column searchedCost
+unfolding sum canServe operatingCost countAt slotCost countsCost servedOrAbove rising fromTop downward upward column searchedCost leastOver leastFrom
 start-has-a-price = (
   level-plannable 2 0 (omega arith),
-  level-never-falls 2 0,
   none-or-all-ascending 2 (omega arith),
   λ j h. let first : j ≡ 0 = omega arith in rw first (omega arith),
   all-off-before .0,

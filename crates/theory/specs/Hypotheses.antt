@@ -10,15 +10,8 @@ use Rattle.model.specs.Counts.{canServe, operatingCost}
 use Rattle.model.specs.Sheets.{off, isEntry, stepOf, stepCost, activeOf}
 use Rattle.model.specs.Thesis.{switchingPrice, countAt, slotCost, countsCost}
 use Rattle.model.specs.Plans.{Allowed, NotAfter, planServes}
+use Rattle.laws.specs.Tables.{Convex}
 use Rattle.columns.specs.Column.{countAtPlace}
-
--- Of a table with the entries f 0 to f q no entry lies above the middle of its neighbours.
-abbrev pub Convex : ℕ → (ℕ → ℕ) → Type 0
-Convex q f = (k : ℕ) → k + 1 < q → 2 * f (k + 1) ≤ f k + f (k + 2)
-
--- Of a table with the entries f 0 to f q no entry lies above the next one.
-abbrev pub NeverFalls : ℕ → (ℕ → ℕ) → Type 0
-NeverFalls q f = (k : ℕ) → k < q → f k ≤ f (k + 1)
 
 -- The full rack serves every load.
 abbrev pub LoadsFit : Instance → Type 0

@@ -2,7 +2,6 @@
 -- Enumeration, Average, CountLists, Condition3, Refusals, Outcomes, LongInput, Generator and PracticeCards, and the other modules lead to
 -- them. Counterexamples shows that their hypotheses are needed, and Applications that they can be met.
 pub mod Hypotheses
-pub mod Tables
 pub mod RowCosts
 pub mod Switching
 pub mod SheetLaws

@@ -1,7 +1,7 @@
 -- Planners, sheet call and marking agree (condition 2): a planner's plan makes a sheet that is marked at the planner's cost.
 use Prim.Native.Nat.{ℕ, _≤_}
 use mathlib.Core.Path.{_≡_, refl, sym, ap, _∙_}
-use mathlib.Core.Bool.{true, false, true≢false}
+use mathlib.Core.Bool.{true, false}
 use mathlib.Core.Logic.{_↔_}
 use mathlib.Core.List.{List, [], _∷_}
 use lib.ListN.{length, getD, take}
@@ -10,15 +10,15 @@ use lib.Seq.{take-at}
 use borrow.Author.Tests.{leb-true, le-leb, le-ltb, ltb-false, eqb-true, eq-eqb, not-false}
 use Rattle.lists.specs.Tests.{every-at, every-all, or-left}
 use Rattle.model.specs.declared.Refusal.{Refusal}
-use Rattle.model.specs.declared.Refusal.the-variants.{NotMonotone, BufferTooShort, WrongLength, EntryRange, LoadNotServed}
+use Rattle.model.specs.declared.Refusal.the-variants.{BufferTooShort, WrongLength, EntryRange, LoadNotServed}
 use Rattle.model.specs.declared.Answer.{Answer}
 use Rattle.model.specs.declared.Answer.the-variants.{Cost, Refused}
 use Rattle.model.specs.Answers.{numberOf}
 use Rattle.model.specs.Instance.{instanceOf}
 use Rattle.model.specs.Sheets.{serves, sheetCost}
 use Rattle.model.specs.Plans.{sheetOf, planCost}
-use Rattle.model.specs.Planners.{Planner, exact, coarse, workBytes, plannerRefusals, tableAllowed, plannedBy, plannedCost}
-use Rattle.model.specs.Calls.{checkCard, planShow, makeSheet, markSheet, nothing, plan, sheet, onCard, Request, shown, requestOf}
+use Rattle.model.specs.Planners.{Planner, workBytes, plannedBy, plannedCost}
+use Rattle.model.specs.Calls.{checkCard, planShow, makeSheet, markSheet, nothing, plan, sheet, onCard, requestOf}
 use Rattle.model.specs.Calls.{Buffer, planBuffer, workBuffer, sheetBuffer, sheetBytes, buffersOf, anyShort}
 use Rattle.model.specs.Calls.{rightLength, entriesInRange, loadsServed, applies, refusals, firstRefusal, successCost, answer, Accepted}
 use Rattle.model.specs.Calls.{atExit, buffersAtExit, planAtExit, workAtExit, sheetAtExit}
@@ -162,41 +162,6 @@ module _ (k : Planner) (c : List ℕ) (given : Accepted c) where
       let made = fits-made c (plannedBy k (instanceOf c)) s given best-fits room in
       (made, made-marked c (plannedBy k (instanceOf c)) s (ap numberOf made) ∙ made)
 
--- Where the refusals that a planner adds give a cost, its table is allowed.
-added-table :
-    (k : Planner) (r : Request) (a : Answer) {n : ℕ} → firstRefusal (applies r) (plannerRefusals k) a ≡ Cost n → tableAllowed k (shown r) ≡ true
-unfolding plannerRefusals applies tableAllowed
-added-table exact r a e = refl
-added-table coarse r a e = not-false _ (first-passed _ _ _ e .0)
-
--- Where the refusals that a planner adds give a cost, no buffer is too short.
-added-room :
-    (k : Planner) (r : Request) (a : Answer) {n : ℕ} → firstRefusal (applies r) (plannerRefusals k) a ≡ Cost n → anyShort (r .buffers) ≡ false
-unfolding plannerRefusals applies
-added-room exact r a e = first-passed _ _ _ e .0
-added-room coarse r a e = first-passed _ _ _ (first-passed _ _ _ e .1) .0
-
--- Where a planner's table is allowed and no buffer is too short, the refusals that the planner adds do not apply.
-added-none : (k : Planner) (r : Request) (a : Answer) → tableAllowed k (shown r) ≡ true → anyShort (r .buffers) ≡ false →
-    firstRefusal (applies r) (plannerRefusals k) a ≡ a
-unfolding plannerRefusals firstRefusal applies tableAllowed
-added-none exact r a allowed room = rw room
-added-none coarse r a allowed room = rw (allowed, room)
-
--- A table that a planner does not allow is refused by 9.
-added-falls : (k : Planner) (r : Request) (a : Answer) → tableAllowed k (shown r) ≡ false →
-    firstRefusal (applies r) (plannerRefusals k) a ≡ Refused NotMonotone
-unfolding plannerRefusals firstRefusal applies tableAllowed
-added-falls exact r a falls = absurd (true≢false falls)
-added-falls coarse r a falls = rw falls
-
--- Where a planner's table is allowed, a buffer that is too short is refused by 10.
-added-short : (k : Planner) (r : Request) (a : Answer) → tableAllowed k (shown r) ≡ true → anyShort (r .buffers) ≡ true →
-    firstRefusal (applies r) (plannerRefusals k) a ≡ Refused BufferTooShort
-unfolding plannerRefusals firstRefusal applies tableAllowed
-added-short exact r a allowed short = rw short
-added-short coarse r a allowed short = rw (allowed, short)
-
 -- The planners.
 module _ (k : Planner) (c p w : List ℕ) where
   -- The plan buffer of a planner at exit.
@@ -219,50 +184,40 @@ module _ (k : Planner) (c p w : List ℕ) where
   unfolding answer requestOf refusals
   planner-refused = on-card-refused c _ _ _ _
 
-  -- On an accepted card the refusals that a planner adds decide.
+  -- On an accepted card the one refusal that a planner adds decides.
   planner-tests :
       Accepted c →
       answer (planShow k c p w) ≡
-      firstRefusal (applies (onCard c (buffersOf (planShow k c p w)) nothing)) (plannerRefusals k)
+      firstRefusal (applies (onCard c (buffersOf (planShow k c p w)) nothing)) (BufferTooShort ∷ [])
       (Cost (plannedCost k (instanceOf c)))
   unfolding answer requestOf refusals successCost
   planner-tests = on-card-passed c _ _ _ _
 
-  -- Where a planner answers a cost, its table is allowed.
-  pub planner-table : {n : ℕ} → answer (planShow k c p w) ≡ Cost n → tableAllowed k (instanceOf c) ≡ true
-  planner-table e = added-table k _ _ (sym (planner-tests (planner-on e)) ∙ e)
-
   -- Where a planner answers a cost, its buffers have at least the bytes asked for.
   pub planner-room :
       {n : ℕ} → answer (planShow k c p w) ≡ Cost n → (instanceOf c .slots ≤ length p) × (workBytes k (instanceOf c) ≤ length w)
-  unfolding buffersOf anyShort
+  unfolding applies buffersOf anyShort
   planner-room e =
-      let none = added-room k _ _ (sym (planner-tests (planner-on e)) ∙ e) in
+      let none = first-passed _ _ _ (sym (planner-tests (planner-on e)) ∙ e) .0 in
       let first = or-left _ _ none in
       (ltb-false _ _ first, ltb-false _ _ (or-left _ _ (rw first at none)))
 
-  -- The answer on an accepted card, by the table and then by the buffers.
+  -- The answer on an accepted card, by the buffers.
   module _ (given : Accepted c) where
-    pub planner-falls : tableAllowed k (instanceOf c) ≡ false → answer (planShow k c p w) ≡ Refused NotMonotone
-    planner-falls falls = planner-tests given ∙ added-falls k _ _ falls
-
-    pub planner-short :
-        tableAllowed k (instanceOf c) ≡ true → anyShort (buffersOf (planShow k c p w)) ≡ true →
-        answer (planShow k c p w) ≡ Refused BufferTooShort
-    planner-short allowed short = planner-tests given ∙ added-short k _ _ allowed short
+    pub planner-short : anyShort (buffersOf (planShow k c p w)) ≡ true → answer (planShow k c p w) ≡ Refused BufferTooShort
+    unfolding firstRefusal applies
+    planner-short short = planner-tests given ∙ rw short
 
     pub planner-cost :
-        tableAllowed k (instanceOf c) ≡ true → anyShort (buffersOf (planShow k c p w)) ≡ false →
-        answer (planShow k c p w) ≡ Cost (plannedCost k (instanceOf c))
-    planner-cost allowed room = planner-tests given ∙ added-none k _ _ allowed room
+        anyShort (buffersOf (planShow k c p w)) ≡ false → answer (planShow k c p w) ≡ Cost (plannedCost k (instanceOf c))
+    unfolding firstRefusal applies
+    planner-cost room = planner-tests given ∙ rw room
 
-  -- An accepted card is planned wherever the table is allowed and the buffers have the bytes asked for.
+  -- An accepted card is planned by either planner wherever the buffers have the bytes asked for.
   pub always-planned :
-      Accepted c → tableAllowed k (instanceOf c) ≡ true → instanceOf c .slots ≤ length p → workBytes k (instanceOf c) ≤ length w →
-      numberOf (answer (planShow k c p w)) ≡ 0
+      Accepted c → instanceOf c .slots ≤ length p → workBytes k (instanceOf c) ≤ length w → numberOf (answer (planShow k c p w)) ≡ 0
   unfolding buffersOf anyShort
-  always-planned given allowed room work =
-      ap numberOf (planner-cost given allowed (rw (le-ltb _ _ room, le-ltb _ _ work)))
+  always-planned given room work = ap numberOf (planner-cost given (rw (le-ltb _ _ room, le-ltb _ _ work)))
 
   -- Where a planner gives number 0, sheet call and marking accept the plan that it writes, with the planner's answer.
   pub planner-marked :

@@ -1,20 +1,18 @@
 -- The cards of practice shows (document 02, §1): every one that is written is accepted and planned by both planners.
 use Prim.Native.Nat.{ℕ, _+_, _≤_}
-use mathlib.Core.Path.{_≡_, refl, ap, _∙_}
-use mathlib.Core.Bool.{true}
+use mathlib.Core.Path.{_≡_, ap}
 use mathlib.Core.List.{List}
 use native.Mathlib.Omega.{arith}
 use lib.ListN.{length}
-use Rattle.lists.specs.Tests.{every-same}
 use Rattle.model.specs.Answers.{numberOf}
-use Rattle.model.specs.Instance.{instanceOf, cardBytes, neverFalls}
-use Rattle.model.specs.Planners.{Planner, exact, coarse, tableAllowed}
+use Rattle.model.specs.Instance.{cardBytes}
+use Rattle.model.specs.Planners.{Planner}
 use Rattle.model.specs.Practice.{practiceShow, longestPractice}
 use Rattle.model.specs.Calls.{practiceCard, buffersOf, answer, Accepted}
 use Rattle.model.specs.Calls.{atExit, buffersAtExit, cardAtExit}
 use Rattle.model.specs.Promises.{frontCard, AlwaysPlanned}
-use Rattle.laws.specs.Encoding.{in-order-fits, card-bytes-length, card-bytes-show, front-card}
-use Rattle.laws.specs.PracticeAccepted.{practice-in-order, practice-never-falls, practice-accepted, practice-given, practice-length}
+use Rattle.laws.specs.Encoding.{card-bytes-length, front-card}
+use Rattle.laws.specs.PracticeAccepted.{practice-in-order, practice-accepted, practice-given, practice-length}
 use Rattle.theory.specs.Refusals.{succeeded}
 use Rattle.theory.specs.Outcomes.{always-planned}
 
@@ -23,21 +21,9 @@ module _ (start : ℕ) where
   abbrev practised : List ℕ
   practised = cardBytes (practiceShow start)
 
-  -- The table that is read from the card never falls either.
-  read-never-falls : neverFalls (instanceOf practised .topStep) (instanceOf practised .table) ≡ true
-  unfolding neverFalls
-  read-never-falls =
-      let same = card-bytes-show (practiceShow start) (in-order-fits _ (practice-in-order start)) in
-      rw (same .topStep)
-      (every-same (practiceShow start .topStep) _ _
-      (λ k h. rw (same .table k (omega arith), same .table (k + 1) (omega arith))) ∙
-      practice-never-falls start)
-
   -- 'Every card it writes is accepted, also by the coarse planner': with buffers long enough either planner plans it.
   pub practice-planned : (k : Planner) → AlwaysPlanned k practised
-  unfolding tableAllowed
-  practice-planned exact p w = always-planned exact practised p w (practice-accepted start) refl
-  practice-planned coarse p w = always-planned coarse practised p w (practice-accepted start) read-never-falls
+  practice-planned k p w = always-planned k practised p w (practice-accepted start)
 
   module _ (area : List ℕ) where
     -- After number 0 the card is what stands at the front of the area.

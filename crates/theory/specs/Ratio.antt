@@ -17,15 +17,14 @@ use Rattle.model.specs.Counts.{canServe, operatingCost}
 use Rattle.model.specs.Thesis.{switchingPrice, countAt, slotCost, countsCost}
 use Rattle.model.specs.Plans.{planServes}
 use Rattle.columns.specs.Column.{countAtPlace, column, searchedCost, Ascending, GrowsBy}
-use Rattle.theory.specs.Hypotheses.{NeverFalls, LoadsFit, costOfFirst}
+use Rattle.theory.specs.Hypotheses.{LoadsFit, costOfFirst}
 use Rattle.columns.specs.Places.{count-fits}
 use Rattle.theory.specs.SlotColumns.{column-best, column-rises, column-slope}
 use Rattle.theory.specs.Average.{average-falls}
 use Rattle.theory.specs.Potential.{Gradual, Block, width, lineAt, LineBelow, line-of-counts, value-below, move}
 
 module _ (i : Instance) (counts : List ℕ) (start : ℕ) (asc : Ascending counts (i .modules)) (loads : LoadsFit i)
-    (rises : NeverFalls (i .topStep) (i .table)) (r : ℕ) (one : 1 ≤ r)
-    (gaps : GrowsBy r counts) where
+    (r : ℕ) (one : 1 ≤ r) (gaps : GrowsBy r counts) where
   -- The column after t slots.
   abbrev after : ℕ → ℕ → ℕ
   after t = column i counts start t
@@ -89,7 +88,7 @@ module _ (i : Instance) (counts : List ℕ) (start : ℕ) (asc : Ascending count
         simp (sub-self, mul-zero, add-zero) at (column-best i counts start asc loads t h .at-most k k b b serves)
 
     costs-fall : 0 < x → (k : ℕ) → k < length counts → x ≤ countAtPlace counts k → x * costs k ≤ countAtPlace counts k * cost x
-    costs-fall some k b above = average-falls i rises x (countAtPlace counts k) (i .load t) some above fits
+    costs-fall some k b above = average-falls i x (countAtPlace counts k) (i .load t) some above fits
 
     -- Where no module has to be active, serving from the counts around the point costs nothing.
     costs-none : (s : Block counts (point x)) → x ≤ 0 → lineAt s costs ≤ width s * (r * cost x)

@@ -2,23 +2,22 @@
 -- order, or, where none applies, the cost.
 use Prim.Native.Nat.{ℕ, _+_, _-_, _≤_, _<_}
 use mathlib.Core.Path.{_≡_, refl, sym, ap, _∙_}
-use mathlib.Core.Bool.{Bool, true, false, true≢false}
+use mathlib.Core.Bool.{Bool, true, false, not, true≢false}
 use mathlib.Core.Logic.{_↔_, ⊎-elim}
 use mathlib.Core.List.{List, [], _∷_, _++_, map, List·Memᴰ, List·Memᴰ·head, List·Memᴰ·not-nil}
-use mathlib.Core.List.{List·Memᴰ·cases-cons, Memᴰ·map}
+use mathlib.Core.List.{List·Memᴰ·cases-cons, Memᴰ·map, Memᴰ·append-right}
 use native.Mathlib.Nat.{le-refl, le-of-lt}
 use native.Mathlib.Omega.{arith}
 use lib.ListN.{length, getD}
-use lib.Dec.{ltb}
-use borrow.Author.Tests.{ltb-true}
+use lib.Dec.{ltb, eqb}
+use borrow.Author.Tests.{ltb-true, eqb-false, not-true}
 use Rattle.lists.specs.Numbers.{true-or-false}
-use Rattle.lists.specs.Tests.{every, every-at}
+use Rattle.lists.specs.Tests.{every, every-at, allOf, and-left, and-right}
 use Rattle.lists.specs.Members.{InOrder, next, rising-in-order}
 use Rattle.model.specs.declared.Refusal.{Refusal}
 use Rattle.model.specs.declared.Answer.{Answer}
 use Rattle.model.specs.declared.Answer.the-variants.{Cost, Refused}
 use Rattle.model.specs.Answers.{refusalNumber, numberOf}
-use Rattle.model.specs.Planners.{exact, coarse, plannerRefusals}
 use Rattle.model.specs.Calls.{Call, checkCard, runningCost, planShow, makeSheet, markSheet, roundCount, practiceCard, ownOrder}
 use Rattle.model.specs.Calls.{requestOf, applies, refusals, firstRefusal, successCost, answer, Buffer, buffersOf, atExit, lent, buffersAtExit}
 use Rattle.laws.specs.AnswerNumber.{number-zero}
@@ -34,15 +33,35 @@ falls h (next above order) = let less = above _ (List·Memᴰ·head refl) in abs
 
 -- The refusals of a call stand in the order of their numbers exactly if no paragraph of document 02 sets another order for it.
 pub refusals-ascend : (c : Call) → ownOrder c ≡ false ↔ InOrder _<_ (map refusalNumber (refusals c))
-unfolding refusals plannerRefusals every ownOrder
+unfolding refusals every ownOrder
 refusals-ascend (checkCard c) = (λ e. ascends _ refl, λ order. refl)
 refusals-ascend (runningCost c n l) = (λ e. ascends _ refl, λ order. refl)
-refusals-ascend (planShow exact c p w) = (λ e. ascends _ refl, λ order. refl)
-refusals-ascend (planShow coarse c p w) = (λ e. ascends _ refl, λ order. refl)
+refusals-ascend (planShow k c p w) = (λ e. ascends _ refl, λ order. refl)
 refusals-ascend (makeSheet c p s) = (λ e. ascends _ refl, λ order. refl)
 refusals-ascend (markSheet c s) = (λ e. ascends _ refl, λ order. refl)
 refusals-ascend (roundCount n m) = (λ e. ascends _ refl, λ order. refl)
 refusals-ascend (practiceCard s c) = (λ e. absurd (true≢false e), λ order. absurd (falls (omega arith) order))
+
+-- A test that holds at each element of a list holds at a member.
+all-of-at : (f : ℕ → Bool) (l : List ℕ) {x : ℕ} → allOf f l ≡ true → List·Memᴰ x l → f x ≡ true
+unfolding allOf
+all-of-at f [] e m = absurd (List·Memᴰ·not-nil m)
+all-of-at f (y ∷ ys) {x} e m =
+    ⊎-elim
+    (λ (same : x ≡ y). ap f same ∙ and-left (f y) (allOf f ys) e)
+    (all-of-at f ys (and-right (f y) (allOf f ys) e))
+    (List·Memᴰ·cases-cons m)
+
+-- Refusal 9 stands in no call's list.
+nine-unlisted : (c : Call) → allOf (λ n. not (eqb n 9)) (map refusalNumber (refusals c)) ≡ true
+unfolding refusals allOf
+nine-unlisted (checkCard c) = refl
+nine-unlisted (runningCost c n l) = refl
+nine-unlisted (planShow k c p w) = refl
+nine-unlisted (makeSheet c p s) = refl
+nine-unlisted (markSheet c s) = refl
+nine-unlisted (roundCount n m) = refl
+nine-unlisted (practiceCard s c) = refl
 
 module _ (test : Refusal → Bool) where
   -- The refusal that is found applies, and stands in the list behind refusals that do not.
@@ -111,6 +130,17 @@ module _ (c : Call) where
   unfolding answer
   lowest-least plain e y m h =
       first-least (applies (requestOf c)) (refusals c) (Cost (successCost c)) (refusals-ascend c .0 plain) e m h
+
+  -- 'and 9 is never given' (02 §2): no call answers with this number.
+  pub nine-never : numberOf (answer c) ≡ 9 → ⊥
+  nine-never e = go (answer c) refl e
+    where
+      go : (a : Answer) → answer c ≡ a → numberOf a ≡ 9 → ⊥
+      go (Cost n) given nine = absurd (omega arith)
+      go (Refused x) given nine =
+          let (before, after, split, applied, none) = answered-first given in
+          let listed : List·Memᴰ x (refusals c) = rw split (Memᴰ·append-right before (List·Memᴰ·head refl)) in
+          eqb-false (refusalNumber x) 9 (not-true _ (all-of-at _ _ (nine-unlisted c) (Memᴰ·map refusalNumber listed))) nine
 
   -- An answer with number 0 is the cost of the call.
   pub succeeded : numberOf (answer c) ≡ 0 → answer c ≡ Cost (successCost c)

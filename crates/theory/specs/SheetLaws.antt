@@ -7,7 +7,7 @@ use mathlib.Core.List.{List}
 use lib.ListN.{length, getD}
 use lib.Arith.{digits-lt}
 use borrow.Author.Tests.{eqb-true, eq-eqb, leb-true, le-leb, lt-ltb, le-ltb}
-use native.Mathlib.Nat.{le-refl, le-of-lt, add-le-add, mul-le-mul-left, mul-zero, mul-comm}
+use native.Mathlib.Nat.{le-refl, le-trans, le-of-lt, add-le-add, mul-le-mul-left, mul-zero, mul-comm}
 use native.Mathlib.Nat.{eq-zero-or-pos, mod-lt, div-lt-iff-lt-mul, div-add-mod'}
 use native.Mathlib.Numerals.{add-one}
 use native.Mathlib.Omega.{arith}
@@ -21,7 +21,8 @@ use Rattle.model.specs.Sheets.{stepCost, sheetOperatingCost, sheetSwitchingCost
 use Rattle.model.specs.Thesis.{switchingPrice, scheduleCost, scheduleOf, Feasible, countAt, slotCost, countsCost}
 use Rattle.model.specs.Plans.{moduleByte, slotRow, sheetOf, planCost, planServes}
 use Rattle.laws.specs.Operating.{byte-off, slot-row-length}
-use Rattle.theory.specs.Hypotheses.{Convex, Entry, activeIn, lightIn, rowCost, PlanFits}
+use Rattle.laws.specs.Tables.{Convex}
+use Rattle.theory.specs.Hypotheses.{Entry, activeIn, lightIn, rowCost, PlanFits}
 use Rattle.theory.specs.RowCosts.{active-le, row-fits, row-at-least, plan-row-entry, plan-row-light, plan-row-cost}
 use Rattle.theory.specs.Switching.{started, startedIn, stoppedIn, change-cost, switches-balance}
 use Rattle.theory.specs.Switching.{started-at-least, started-at-most, plan-started}
@@ -129,12 +130,12 @@ module _ (i : Instance) (s : List ℕ) where
   unfolding scheduleOf lightAt
   schedule-light t = simp assigned-active
 
-  -- The steps of a list of bytes sum to the loads exactly if its states and steps satisfy the thesis's 2.3.
+  -- A list of bytes has enough light exactly if its states and steps satisfy the thesis's 2.3.
   pub thesis-feasible : sheetLight i s ≡ true ↔ Feasible i (scheduleOf i s)
   unfolding sheetLight
   thesis-feasible = (
-    λ e t h. schedule-light (suc t) ∙ eqb-true _ _ (every-at (i .slots) _ e t h),
-    λ f. every-all (i .slots) _ (λ t h. eq-eqb _ _ (sym (schedule-light (suc t)) ∙ f t h)),
+    λ e t h. rw (schedule-light (suc t)) (leb-true _ _ (every-at (i .slots) _ e t h)),
+    λ f. every-all (i .slots) _ (λ t h. le-leb _ _ (rw (schedule-light (suc t)) at (f t h))),
   )
 
   -- A list of m × T bytes, each a step or off, serves exactly if its states and steps satisfy 2.3.
@@ -157,10 +158,10 @@ module _ (i : Instance) (s : List ℕ) where
       let size : length s ≡ i .modules * i .slots = eqb-true _ _ sized in
       rw (lt-ltb t (i .slots) h) (every-at (length s) _ entries (t * i .modules + k) (omega (arith, digits-lt h g)))
 
-  -- The light of each slot of a sheet that serves is the load.
-  row-light : serves i s ≡ true → (t : ℕ) → t < i .slots → lightIn (i .modules) (stateAt i s (suc t)) ≡ i .load t
+  -- Each slot of a sheet that serves has at least the load for its light.
+  row-light : serves i s ≡ true → (t : ℕ) → t < i .slots → i .load t ≤ lightIn (i .modules) (stateAt i s (suc t))
   unfolding lightIn sheetLight lightAt
-  row-light e t h = eqb-true _ _ (every-at (i .slots) _ (serves-parts i s .0 e .2) t h)
+  row-light e t h = leb-true _ _ (every-at (i .slots) _ (serves-parts i s .0 e .2) t h)
 
 -- On a convex table a sheet that serves costs at least what its counts cost by 3.9 to 3.13 (thesis 3.8).
 pub sheet-at-least : (i : Instance) → Convex (i .topStep) (i .table) → (s : List ℕ) → serves i s ≡ true →
@@ -172,9 +173,9 @@ sheet-at-least i c s e = rw sheet-cost-slots (sum-mono (i .slots) slot)
         slotCost i (countAt 0 (countsOf i s) t) (countAt 0 (countsOf i s) (suc t)) (i .load t) ≤
         rowCost i (i .modules) (stateAt i s (suc t)) + switchingPrice i * startedAt i s t
     slot t h =
-        let operating = row-at-least i c (i .modules) (stateAt i s (suc t)) (row-entries i s e t h) in
+        let operating = row-at-least i c (i .modules) (stateAt i s (suc t)) (row-entries i s e t h) (i .load t) (row-light i s e t h) in
         let switching = started-at-least (i .modules) (stateAt i s t) (stateAt i s (suc t)) in
-        rw (counts-at i s t (omega arith), counts-at i s (suc t) h, ← row-light i s e t h)
+        rw (counts-at i s t (omega arith), counts-at i s (suc t) h)
         (add-le-add operating (mul-le-mul-left (switchingPrice i) switching))
 
 -- The counts of a sheet that serves are a plan whose sheet can be written.
@@ -191,7 +192,7 @@ sheet-counts-fit i s steps e =
     fits : (t : ℕ) → t < i .slots → i .load t ≤ countAt 0 (countsOf i s) (suc t) * i .topStep
     fits t h =
         let row = row-fits i (i .modules) (stateAt i s (suc t)) (row-entries i s e t h) in
-        rw (counts-at i s (suc t) h, ← row-light i s e t h) row
+        rw (counts-at i s (suc t) h) (le-trans (row-light i s e t h) row)
 
 -- The load at a time, none at time 0.
 abbrev loadAt : Instance → ℕ → ℕ
@@ -206,7 +207,7 @@ module _ (i : Instance) (p : List ℕ) where
 
   -- The byte for slot t and module k is that of the count and the load of slot t.
   sheet-entry : (t k : ℕ) → t < i .slots → k < i .modules →
-      getD (sheetOf i p) (t * i .modules + k) off ≡ moduleByte (getD p t 0) (i .load t) k
+      getD (sheetOf i p) (t * i .modules + k) off ≡ moduleByte i (getD p t 0) (i .load t) k
   unfolding sheetOf slotRow
   sheet-entry t k h g = getD-rows (i .modules) (i .slots) _ (λ t. slot-row-length i _ _) t k off h g ∙ getD-tabulate (i .modules) _ k off g
 
@@ -220,9 +221,9 @@ module _ (i : Instance) (p : List ℕ) where
 
   -- At time t the sheet has the row of the count and the load.
   state-row : (t : ℕ) → t ≤ i .slots → (k : ℕ) → k < i .modules →
-      stateAt i (sheetOf i p) t k ≡ moduleByte (countAt 0 p t) (loadAt i t) k
+      stateAt i (sheetOf i p) t k ≡ moduleByte i (countAt 0 p t) (loadAt i t) k
   unfolding stateAt countAt
-  state-row zero h k g = sym (byte-off 0 0 k (omega arith))
+  state-row zero h k g = sym (byte-off i 0 0 k (omega arith))
   state-row (suc t) h k g = rw (lt-ltb t (i .slots) h) (sheet-entry t k h g)
 
 -- The sheet of a plan whose sheet can be written.
@@ -251,12 +252,12 @@ module _ (i : Instance) (p : List ℕ) (fit : PlanFits i p) where
 
   plan-light : sheetLight i (sheetOf i p) ≡ true
   unfolding sheetLight lightAt lightIn
-  plan-light = every-all (i .slots) _ (λ t h. eq-eqb _ _ (light t h))
+  plan-light = every-all (i .slots) _ (λ t h. le-leb _ _ (light t h))
     where
-      light : (t : ℕ) → t < i .slots → lightAt i (sheetOf i p) (suc t) ≡ i .load t
+      light : (t : ℕ) → t < i .slots → i .load t ≤ lightAt i (sheetOf i p) (suc t)
       light t h =
-          sum-ext (i .modules) (λ k g. ap stepOf (state-row i p (suc t) h k g)) ∙
-          plan-row-light i (i .modules) (countAt 0 p (suc t)) (i .load t) (fit .steps) (rack-at (suc t) h) (fits-at (suc t) h)
+          rw (sum-ext (i .modules) (λ k g. ap stepOf (state-row i p (suc t) h k g)))
+          (plan-row-light i (i .modules) (countAt 0 p (suc t)) (i .load t) (fit .steps) (rack-at (suc t) h) (fits-at (suc t) h))
 
   -- The sheet of a plan whose counts serve the loads serves the show.
   pub plan-sheet-serves : serves i (sheetOf i p) ≡ true

@@ -74,29 +74,29 @@ started-at-most m a b = sum-mono m (λ k h. byte (isOff (a k)) (isOff (b k)))
 
 -- Between two rows of plans none goes on where the second has no more active modules.
 plan-none-started : (i : Instance) (m n l n′ l′ : ℕ) → i .topStep < off → l ≤ n * i .topStep → n′ ≤ n →
-    startedIn m (moduleByte n l) (moduleByte n′ l′) ≡ 0
+    startedIn m (moduleByte i n l) (moduleByte i n′ l′) ≡ 0
 unfolding startedIn
 plan-none-started i m n l n′ l′ steps fits h = sum-const m (λ k _. byte k) ∙ mul-zero m
   where
-    byte : (k : ℕ) → started (isOff (moduleByte n l k)) (isOff (moduleByte n′ l′ k)) ≡ 0
+    byte : (k : ℕ) → started (isOff (moduleByte i n l k)) (isOff (moduleByte i n′ l′ k)) ≡ 0
     byte k =
         ⊎-elim
-        (λ (g : n ≤ k). rw (byte-off n l k g, byte-off n′ l′ k (omega arith)))
+        (λ (g : n ≤ k). rw (byte-off i n l k g, byte-off i n′ l′ k (omega arith)))
         (λ (g : k < n). rw (byte-active i n l fits steps k g))
         (le-or-lt n k)
 
 -- Between two rows of plans just the difference of their counts goes on.
 pub plan-started : (i : Instance) (m n l n′ l′ : ℕ) →
     i .topStep < off → n ≤ m → n′ ≤ m → l ≤ n * i .topStep → l′ ≤ n′ * i .topStep →
-    startedIn m (moduleByte n l) (moduleByte n′ l′) ≡ n′ - n
+    startedIn m (moduleByte i n l) (moduleByte i n′ l′) ≡ n′ - n
 unfolding startedIn stoppedIn
 plan-started i m n l n′ l′ steps rack rack′ fits fits′ = ⊎-elim fewer more (le-or-lt n′ n)
   where
-    fewer : n′ ≤ n → startedIn m (moduleByte n l) (moduleByte n′ l′) ≡ n′ - n
+    fewer : n′ ≤ n → startedIn m (moduleByte i n l) (moduleByte i n′ l′) ≡ n′ - n
     fewer h = omega (arith, plan-none-started i m n l n′ l′ steps fits h)
 
-    more : n < n′ → startedIn m (moduleByte n l) (moduleByte n′ l′) ≡ n′ - n
+    more : n < n′ → startedIn m (moduleByte i n l) (moduleByte i n′ l′) ≡ n′ - n
     more h =
         let none-stopped = plan-none-started i m n′ l′ n l steps fits′ (le-of-lt h) in
-        let balance = switch-balance m (moduleByte n l) (moduleByte n′ l′) in
+        let balance = switch-balance m (moduleByte i n l) (moduleByte i n′ l′) in
         omega (arith, plan-row-active i m n l steps rack fits, plan-row-active i m n′ l′ steps rack′ fits′)

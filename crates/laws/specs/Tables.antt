@@ -1,30 +1,30 @@
--- Tables: what the two tests of a table say, and the line that supports a convex one.
+-- Tables: what convex means, what follows from a step at which a convex table no longer falls, and the line that supports it.
 use Prim.Native.Nat.{ℕ, zero, suc, _+_, _-_, _*_, _≤_, _<_}
 use mathlib.Core.Path.{_≡_}
 use mathlib.Core.Bool.{true}
 use mathlib.Core.Logic.{_↔_, ⊎-elim}
 use lib.Dec.{leb}
 use borrow.Author.Tests.{leb-true, le-leb}
-use native.Mathlib.Nat.{add-zero, le-dest, le-of-lt}
+use native.Mathlib.Nat.{add-zero, le-dest, le-of-lt, mul-le-mul-left}
 use native.Mathlib.Omega.{arith}
 use Rattle.lists.specs.Numbers.{le-or-lt}
 use Rattle.lists.specs.Tests.{every-at, every-all}
-use Rattle.model.specs.Instance.{convexAt, convex, neverFalls}
-use Rattle.theory.specs.Hypotheses.{Convex, NeverFalls}
+use Rattle.model.specs.Instance.{convexAt, convex}
 
--- A table passes a test exactly if it has the property.
+-- Of a table with the entries f 0 to f q no entry lies above the middle of its neighbours.
+abbrev pub Convex : ℕ → (ℕ → ℕ) → Type 0
+Convex q f = (k : ℕ) → k + 1 < q → 2 * f (k + 1) ≤ f k + f (k + 2)
+
+-- Of a table with the entries f 0 to f q no entry lies above the next one.
+abbrev pub NeverFalls : ℕ → (ℕ → ℕ) → Type 0
+NeverFalls q f = (k : ℕ) → k < q → f k ≤ f (k + 1)
+
+-- A table passes the test exactly if it is convex.
 pub convex-test : (q : ℕ) (f : ℕ → ℕ) → convex q f ≡ true ↔ Convex q f
 unfolding convex convexAt
 convex-test q f = (
   λ e k h. leb-true _ _ (every-at (q - 1) (convexAt f) e k (omega arith)),
   λ c. every-all (q - 1) (convexAt f) (λ k h. le-leb _ _ (c k (omega arith))),
-)
-
-pub never-falls-test : (q : ℕ) (f : ℕ → ℕ) → neverFalls q f ≡ true ↔ NeverFalls q f
-unfolding neverFalls
-never-falls-test q f = (
-  λ e k h. leb-true _ _ (every-at q (λ j. leb (f j) (f (j + 1))) e k h),
-  λ c. every-all q (λ j. leb (f j) (f (j + 1))) (λ k h. le-leb _ _ (c k h)),
 )
 
 module _ (q : ℕ) (f : ℕ → ℕ) (c : Convex q f) where
@@ -42,6 +42,18 @@ module _ (q : ℕ) (f : ℕ → ℕ) (c : Convex q f) where
   above-line-up j (suc d) h =
       let here : j + suc d ≡ j + d + 1 = omega arith in
       rw here (omega (arith, above-line-up j d (omega arith), slopes-rise j d (omega arith)))
+
+  -- From a step p on, from which to the next a convex table does not fall, it never falls.
+  pub rises-past : (p : ℕ) → (p < q → f p ≤ f (p + 1)) → (k x : ℕ) → p ≤ k → k ≤ x → x ≤ q → f k ≤ f x
+  rises-past p level k x from to top =
+      ⊎-elim
+      (λ (g : x ≤ k). let same : x ≡ k = omega arith in rw same (omega arith))
+      (λ (g : k < x).
+      let (d, past) = le-dest from in
+      let (e, up) = le-dest to in
+      let next : f k ≤ f (k + 1) = rw (← past) (omega (arith, slopes-rise p d (omega arith), level (omega arith))) in
+      rw (← up) (omega (arith, above-line-up k e (omega arith), mul-le-mul-left e next)))
+      (le-or-lt x k)
 
   -- A convex table lies above the line through two neighbouring entries d steps down from them.
   above-line-down : (k d : ℕ) → k + d < q → f (k + d) + d * f (k + d) ≤ f k + d * f (k + d + 1)

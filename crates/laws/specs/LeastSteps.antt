@@ -1,0 +1,94 @@
+-- G and the active step (document 02, §2): what they are on any table, and on a convex one, where the lowest step says both.
+use Prim.Native.Nat.{ℕ, zero, suc, _+_, _-_, _≤_, _<_, max}
+use mathlib.Core.Path.{_≡_, refl, sym, ap, _∙_}
+use mathlib.Core.Logic.{⊎-elim}
+use native.Mathlib.Nat.{le-of-lt, max-eq-left, max-eq-right}
+use native.Mathlib.Omega.{arith}
+use Rattle.lists.specs.Numbers.{le-or-lt}
+use Rattle.lists.specs.Ranges.{LeastAt, least-at-unique, least-over-below, least-index, least-index-value}
+use Rattle.model.specs.Instance.{Instance}
+use Rattle.model.specs.MoreLight.{leastFrom, activeStep}
+use Rattle.laws.specs.Tables.{Convex, NeverFalls, rises-past}
+
+-- The lowest step: the smallest step of least cost.
+abbrev pub lowestStep : Instance → ℕ
+lowestStep i = activeStep i 0
+
+module _ (i : Instance) where
+  -- G(k) is at most F(k).
+  pub least-from-below : (k : ℕ) → leastFrom i k ≤ i .table k
+  unfolding leastFrom
+  least-from-below k = least-over-below (i .table) k (i .topStep - k) k (omega arith) (omega arith)
+
+  -- G(k) is F of the active step.
+  pub active-cost : (k : ℕ) → i .table (activeStep i k) ≡ leastFrom i k
+  unfolding leastFrom activeStep
+  active-cost k = least-index-value (i .table) k (i .topStep - k)
+
+  -- The active step is the smallest step from k to Q of least cost.
+  pub active-least : (k : ℕ) → k ≤ i .topStep → LeastAt (i .table) k (i .topStep) (activeStep i k)
+  unfolding leastFrom activeStep
+  active-least k h = let top : k + (i .topStep - k) ≡ i .topStep = omega arith in rw top at (least-index (i .table) k (i .topStep - k))
+
+  -- The active step of k is at least k.
+  pub active-from : (k : ℕ) → k ≤ activeStep i k
+  unfolding leastFrom activeStep
+  active-from k = least-index (i .table) k (i .topStep - k) .from
+
+  -- Where the step j is the smallest from k to Q of least cost, it is the active step.
+  pub active-is : {k j : ℕ} → k ≤ i .topStep → LeastAt (i .table) k (i .topStep) j → activeStep i k ≡ j
+  active-is {k} h L = least-at-unique (active-least k h) L
+
+  -- G never falls.
+  pub least-never-falls : NeverFalls (i .topStep) (leastFrom i)
+  unfolding leastFrom
+  least-never-falls k h =
+      let later = active-least (k + 1) (omega arith) in
+      let below = least-over-below (i .table) k (i .topStep - k) (activeStep i (k + 1)) (omega (arith, later .from)) (omega (arith, later .to)) in
+      omega (arith, active-cost (k + 1))
+
+  -- On a convex table.
+  module _ (convex : Convex (i .topStep) (i .table)) where
+    -- Up to the lowest step a module is active at the lowest step.
+    at-lowest : (k : ℕ) → k ≤ lowestStep i → activeStep i k ≡ lowestStep i
+    at-lowest k h =
+        let p = active-least 0 (omega arith) in
+        active-is (omega (arith, p .to))
+        (record { from = h; to = p .to; least = λ x a. p .least x (omega arith); before = λ x a. p .before x (omega arith) })
+
+    -- From the lowest step on a module is active at the step itself.
+    at-itself : (k : ℕ) → lowestStep i ≤ k → k ≤ i .topStep → activeStep i k ≡ k
+    at-itself k from h =
+        let p = active-least 0 (omega arith) in
+        active-is h
+        (record {
+          from = omega arith;
+          to = h;
+          least =
+              λ x a b.
+              rises-past (i .topStep) (i .table) convex (lowestStep i) (λ g. p .least (lowestStep i + 1) (omega arith) (omega arith)) k x from a b;
+          before = λ x a b. absurd (omega arith);
+        })
+
+    -- 'the smallest such j' is the greater of the step and the lowest step.
+    pub active-greater : (k : ℕ) → k ≤ i .topStep → activeStep i k ≡ max k (lowestStep i)
+    active-greater k h =
+        ⊎-elim
+        (λ (g : k ≤ lowestStep i). at-lowest k g ∙ sym (max-eq-right g))
+        (λ (g : lowestStep i < k). at-itself k (le-of-lt g) h ∙ sym (max-eq-left (le-of-lt g)))
+        (le-or-lt k (lowestStep i))
+
+    -- G is convex: up to the lowest step it is level, and from there on it is F.
+    pub least-convex : Convex (i .topStep) (leastFrom i)
+    least-convex k h =
+        ⊎-elim
+        (λ (g : k + 1 ≤ lowestStep i).
+        let level : leastFrom i (k + 1) ≡ leastFrom i k =
+        sym (active-cost (k + 1)) ∙ ap (i .table) (at-lowest (k + 1) g ∙ sym (at-lowest k (omega arith))) ∙ active-cost k in
+        let next : k + 1 + 1 ≡ k + 2 = omega arith in
+        omega (arith, rw next at (least-never-falls (k + 1) h)))
+        (λ (g : lowestStep i < k + 1).
+        let own : (x : ℕ) → k ≤ x → x ≤ i .topStep → i .table x ≡ leastFrom i x =
+        λ x a b. ap (i .table) (sym (at-itself x (omega arith) b)) ∙ active-cost x in
+        omega (arith, convex k h, own k (omega arith) (omega arith), own (k + 2) (omega arith) (omega arith), least-from-below (k + 1)))
+        (le-or-lt (k + 1) (lowestStep i))
