@@ -6,14 +6,16 @@ use native.Mathlib.Omega.{arith}
 use Rattle.model.specs.declared.Refusal.{Refusal}
 use Rattle.model.specs.declared.Answer.{Answer}
 use Rattle.model.specs.declared.Answer.the-variants.{Cost, Refused}
+use Rattle.model.specs.Instance.{instanceOf}
 use Rattle.model.specs.Calls.{checkCard, applies, requestOf, firstRefusal, answer, refusals, successCost, Accepted}
 use Rattle.card.specs.declared.Header.{Header}
 use Rattle.card.specs.declared.Checked.{Checked}
 use Rattle.card.specs.declared.Checked.the-variants.{Valid, Invalid}
-use Rattle.card.specs.Fields.{HeaderOf}
-use Rattle.card.specs.Checking.{firstAmong, frontRefusals, sizeRefusals, bodyRefusals, headerOf, checkedAs, checkedOf, Ready}
+use Rattle.card.specs.Fields.{HeaderOf, Sized}
+use Rattle.card.specs.Checking.{firstAmong, frontRefusals, sizeRefusals, bodyRefusals, headerOf, checkedAs, checkedOf, ConvexTable, Ready}
 use Rattle.laws.specs.FirstRefusal.{first-refused, first-through}
-use Rattle.laws.specs.Acceptance.{modules-range, top-range, slots-range}
+use Rattle.laws.specs.Acceptance.{modules-range, top-range, slots-range, table-convex}
+use Rattle.laws.specs.LeastSteps.{lowestStep}
 
 module _ (s : List ℕ) where
   -- The card's answer tests refusals 1 and 2, then 3 to 5, then 6 to 8.
@@ -53,9 +55,30 @@ module _ (s : List ℕ) where
         pub body-refused : {x : Refusal} → body ≡ Refused x → Invalid x ≡ checkedOf s
         body-refused e = refused (after-size ∙ e)
 
-        pub all-passed : {n : ℕ} (h : Header) → HeaderOf s h → body ≡ Cost n → Valid h ≡ checkedOf s
+        -- Where all three passed, the card is accepted.
+        passed-accepted : {n : ℕ} → body ≡ Cost n → Accepted s
+        unfolding answer successCost
+        passed-accepted e = first-through _ _ _ _ (after-size ∙ e)
+
+        -- So its table is convex.
+        pub passed-convex : {n : ℕ} (h : Header) → Sized s h → body ≡ Cost n → ConvexTable s h
+        passed-convex h given e =
+            record { sized = given; convexity = rw (given .header .top-is) (table-convex s (passed-accepted e)) }
+
+        pub all-passed :
+            {n : ℕ} (h : Header) → HeaderOf s h → body ≡ Cost n → {lowest : ℕ} → lowest ≡ lowestStep (instanceOf s) →
+            Valid
+            (record {
+              modules = h .modules;
+              topStep = h .topStep;
+              slots = h .slots;
+              powerUp = h .powerUp;
+              powerDown = h .powerDown;
+              lowestStep = lowest;
+            }) ≡
+            checkedOf s
         unfolding checkedOf
-        all-passed h given e =
+        all-passed h given e lowest-is =
             rw (after-size, e)
             (ap Valid
             (λ i.
@@ -65,6 +88,7 @@ module _ (s : List ℕ) where
               slots = given .slots-is i;
               powerUp = given .up-is i;
               powerDown = given .down-is i;
+              lowestStep = lowest-is i;
             }))
 
 -- The answer behind a check's result.
@@ -108,4 +132,5 @@ module _ (s : List ℕ) {c : Checked} (is : c ≡ checkedOf s) where
               top-bound = omega (arith, top-range s given .1);
               slots-bound = omega (arith, slots-range s given);
             };
+        lowest-is = refl;
       })

@@ -4,3 +4,4 @@ pub mod CardTests
 pub mod Groups
 pub mod FieldsThere
 pub mod Sizes
+pub mod Lowest

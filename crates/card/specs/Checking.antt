@@ -1,12 +1,15 @@
 -- What checking a card gives.
 use Prim.Native.Nat.{ℕ, _+_, _≤_}
+use mathlib.Core.Path.{_≡_}
+use mathlib.Core.Bool.{true}
 use mathlib.Core.List.{List, [], _∷_}
 use Rattle.model.specs.declared.Refusal.{Refusal}
 use Rattle.model.specs.declared.Refusal.the-variants.{NotACard, Version, RackSize, SlotCount, CardLength, PriceRange, NotConvex, LoadRange}
 use Rattle.model.specs.declared.Answer.{Answer}
 use Rattle.model.specs.declared.Answer.the-variants.{Cost, Refused}
-use Rattle.model.specs.Instance.{instanceOf}
+use Rattle.model.specs.Instance.{instanceOf, convex}
 use Rattle.model.specs.Calls.{checkCard, answer, applies, requestOf, firstRefusal, Accepted}
+use Rattle.laws.specs.LeastSteps.{lowestStep}
 use Rattle.card.specs.declared.Header.{Header}
 use Rattle.card.specs.declared.Checked.{Checked}
 use Rattle.card.specs.declared.Checked.the-variants.{Valid, Invalid}
@@ -17,11 +20,16 @@ pub record ConvexThere (s : List ℕ) (h : Header) (k : ℕ) : Type 0 where
   pub sized : Sized s h
   pub in-table : k + 2 ≤ h .topStep
 
+-- A card that is as long as its header says, with that header and a convex table.
+pub record ConvexTable (s : List ℕ) (h : Header) : Type 0 where
+  pub sized : Sized s h
+  pub convexity : convex (h .topStep) (instanceOf s .table) ≡ true
+
 -- The numbers of a header that have to be from 1 to 200.
 abbrev pub rackOf : Header → List ℕ
 rackOf h = h .modules ∷ h .topStep ∷ []
 
--- The header of a card.
+-- The header of an accepted card.
 abbrev pub headerOf : List ℕ → Header
 headerOf s =
     record {
@@ -30,6 +38,7 @@ headerOf s =
       slots = instanceOf s .slots;
       powerUp = instanceOf s .powerUp;
       powerDown = instanceOf s .powerDown;
+      lowestStep = lowestStep (instanceOf s);
     }
 
 -- The first of some refusals that applies to a card, or the cost 0.
@@ -61,3 +70,9 @@ checkedOf s = checkedAs (answer (checkCard s)) (headerOf s)
 pub record Ready (s : List ℕ) (h : Header) : Type 0 where
   pub accepted : Accepted s
   pub header : HeaderOf s h
+  pub lowest-is : h .lowestStep ≡ lowestStep (instanceOf s)
+
+-- An accepted card, with its header, and a step of its table.
+pub record StepThere (s : List ℕ) (h : Header) (k : ℕ) : Type 0 where
+  pub ready : Ready s h
+  pub in-table : k ≤ instanceOf s .topStep

@@ -7,9 +7,11 @@ ghost use lib.ListN.{length};
 ghost use Rattle.lists.specs.Lists.{sameList};
 ghost use Rattle.lists.specs.Tests.{allOf};
 ghost use Rattle.model.specs.Instance.{instanceOf, headLength, loadPlace, markOf, cardMark, versionOf, rackNumber};
-ghost use Rattle.model.specs.Instance.{convexAt, convex, neverFalls, tableInRange, loadsInRange};
-ghost use Rattle.card.specs.Fields.{Within, ReadAt, HeaderOf, Sized, PlaceNear, EntryThere, TableEntry, LoadThere, SlotLoad};
-ghost use Rattle.card.specs.Checking.{ConvexThere, rackOf, firstAmong, frontRefusals, sizeRefusals, bodyRefusals, checkedOf};
+ghost use Rattle.model.specs.Instance.{convexAt, convex, tableInRange, loadsInRange};
+ghost use Rattle.model.specs.MoreLight.{leastFrom, activeStep};
+ghost use Rattle.laws.specs.LeastSteps.{lowestStep};
+ghost use Rattle.card.specs.Fields.{Within, ReadAt, HeaderOf, Sized, PlaceNear, EntryThere, EntryOf, LoadThere, SlotLoad};
+ghost use Rattle.card.specs.Checking.{ConvexThere, ConvexTable, StepThere, rackOf, firstAmong, frontRefusals, sizeRefusals, bodyRefusals, checkedOf};
 
 // The places of a card's fields: the version, the modules, with which the rest of the head begins, and the table, where the head ends.
 const VERSION_PLACE: usize = 3;
@@ -80,13 +82,14 @@ impl Cursor {
     }
 }
 
-// The numbers of a card's head.
+// The numbers of a card's head, and once the card has been accepted the lowest step of its table, till then 0.
 pub struct Header {
     pub modules: u64,
     pub topStep: u64,
     pub slots: u64,
     pub powerUp: u64,
     pub powerDown: u64,
+    pub lowestStep: u64,
 }
 
 // The answer of the check: the header of an accepted card, or the lowest refusal.
@@ -98,7 +101,7 @@ pub enum Checked {
 // The table's entry F(k).
 pub fn entry(card: &[u8], h: Header, k: u64) -> u64
     requires { ⌜ EntryThere (now card) h k ⌝ }
-    ensures { λ r. ⌜ TableEntry (now (card .entry)) k r ⌝ }
+    ensures { λ r. ⌜ EntryOf (instanceOf (now (card .entry)) .table) k r ⌝ }
 {
     let place = Cursor {
         at: (HEAD_LENGTH + 4 * k) as usize,
@@ -176,6 +179,7 @@ fn read_header(card: &[u8]) -> Header
         slots: slots.value,
         powerUp: power_up.value,
         powerDown: power_down.value,
+        lowestStep: 0,
     }
 }
 
@@ -274,20 +278,20 @@ fn is_convex(card: &[u8], h: Header) -> bool
     true
 }
 
-// F(0) to F(Q) never fall.
-pub fn never_falls(card: &[u8], h: Header) -> bool
-    requires { ⌜ Sized (now card) h ⌝ }
-    ensures { λ r. ⌜ r ≡ neverFalls (h .topStep) (instanceOf (now (card .entry)) .table) ⌝ }
+// The lowest step, which is the smallest step of least cost: where a convex table first does not fall.
+fn lowest_step(card: &[u8], h: Header) -> u64
+    requires { ⌜ ConvexTable (now card) h ⌝ }
+    ensures { λ r. ⌜ r ≡ lowestStep (instanceOf (now (card .entry))) ⌝ }
 {
     let top_step = h.topStep;
     let mut k: u64 = 0;
     while k < top_step {
-        if entry(card, h, k + 1) < entry(card, h, k) {
-            return false;
+        if entry(card, h, k) <= entry(card, h, k + 1) {
+            return k;
         }
         k += 1;
     }
-    true
+    k
 }
 
 fn loads_in_range(card: &[u8], h: Header) -> bool
@@ -346,5 +350,26 @@ pub fn check(card: &[u8]) -> Checked
     if let Answer::Refused(x) = body {
         return Checked::Invalid(x);
     }
-    Checked::Valid(h)
+    let mut accepted = h;
+    accepted.lowestStep = lowest_step(card, h);
+    Checked::Valid(accepted)
+}
+
+// The step at which a module is active for step k: on a convex table the greater of k and the lowest step.
+pub fn active_step(card: &[u8], h: Header, k: u64) -> u64
+    requires { ⌜ StepThere (now card) h k ⌝ }
+    ensures { λ r. ⌜ r ≡ activeStep (instanceOf (now (card .entry))) k ⌝ }
+{
+    if k < h.lowestStep {
+        return h.lowestStep;
+    }
+    k
+}
+
+// G(k), the least F(j) for j from k to Q, which is F of the active step.
+pub fn least_from(card: &[u8], h: Header, k: u64) -> u64
+    requires { ⌜ StepThere (now card) h k ⌝ }
+    ensures { λ r. ⌜ EntryOf (leastFrom (instanceOf (now (card .entry)))) k r ⌝ }
+{
+    entry(card, h, active_step(card, h, k))
 }

@@ -9,6 +9,7 @@ use mir.Val.{Fits}
 use borrow.Author.Tests.{eq-eqb, ne-eqb}
 use Rattle.lists.specs.Division.{quotient-lt}
 use Rattle.model.specs.Instance.{Instance, instanceOf}
+use Rattle.model.specs.MoreLight.{leastFrom}
 use Rattle.model.specs.Counts.{operatingCost}
 use Rattle.laws.specs.Acceptance.{modules-range, top-range, table-range}
 use Rattle.laws.specs.Operating.{operating-bound}
@@ -31,13 +32,13 @@ module _ (i : Instance) (n l : ℕ) where
   unfolding operatingCost
   cost-none e = rw (eq-eqb n 0 e)
 
-  module _ (some : n ≡ 0 → ⊥) {x : ℕ} (x-is : x ≡ i .table (l / n)) where
+  module _ (some : n ≡ 0 → ⊥) {x : ℕ} (x-is : x ≡ leastFrom i (l / n)) where
     pub cost-even : l % n ≡ 0 → n * x ≡ operatingCost i n l
     unfolding operatingCost
     cost-even e = rw (ne-eqb n 0 some, e, x-is, sub-zero) (omega arith)
 
     pub cost-uneven :
-        (l % n ≡ 0 → ⊥) → {y : ℕ} → y ≡ i .table (l / n + 1) → (n - l % n) * x + l % n * y ≡ operatingCost i n l
+        (l % n ≡ 0 → ⊥) → {y : ℕ} → y ≡ leastFrom i (l / n + 1) → (n - l % n) * x + l % n * y ≡ operatingCost i n l
     unfolding operatingCost
     cost-uneven r {y} y-is = rw (ne-eqb n 0 some, ne-eqb (l % n) 0 r, x-is, y-is)
 

@@ -116,7 +116,7 @@ pub fn rounded(count: u64, modules: u64) -> u64
     first_not_below(&counts[..n], count)
 }
 
-// The operating cost of a count (01: 'running cost'): (n - r)F(q) + rF(q + 1) with q = l / n and r = l % n; F(q + 1) is read only if r
+// The operating cost of a count (01: 'running cost'): (n - r)G(q) + rG(q + 1) with q = l / n and r = l % n; G(q + 1) is read only if r
 // is not 0.
 pub fn operating_cost(card: &[u8], h: Header, n: u64, l: u64) -> u64
     requires { ⌜ Served (now card) h n l ⌝ }
@@ -128,10 +128,10 @@ pub fn operating_cost(card: &[u8], h: Header, n: u64, l: u64) -> u64
     let step = l / n;
     let rest = l % n;
     if rest == 0 {
-        return n * card::entry(card, h, step);
+        return n * card::least_from(card, h, step);
     }
     let others = n - rest;
     let next = step + 1;
-    let low = others * card::entry(card, h, step);
-    low + rest * card::entry(card, h, next)
+    let low = others * card::least_from(card, h, step);
+    low + rest * card::least_from(card, h, next)
 }

@@ -1,0 +1,75 @@
+-- The lowest step of a convex table, found by going up as long as the table falls.
+use Prim.Native.Nat.{ℕ, _+_, _≤_, _<_}
+use mathlib.Core.Path.{_≡_, sym, _∙_}
+use mathlib.Core.Bool.{true}
+use mathlib.Core.List.{List}
+use mathlib.Core.Logic.{⊎-elim}
+use native.Mathlib.Nat.{le-of-lt, max-eq-left, max-eq-right}
+use native.Mathlib.Omega.{arith}
+use Rattle.lists.specs.Numbers.{le-or-lt}
+use Rattle.lists.specs.Ranges.{LeastAt}
+use Rattle.model.specs.Instance.{instanceOf}
+use Rattle.model.specs.MoreLight.{activeStep}
+use Rattle.laws.specs.Acceptance.{table-convex}
+use Rattle.laws.specs.Tables.{Convex, convex-test, rises-past}
+use Rattle.laws.specs.LeastSteps.{lowestStep, active-is, active-least, active-greater}
+use Rattle.card.specs.declared.Header.{Header}
+use Rattle.card.specs.Fields.{EntryThere}
+use Rattle.card.specs.Checking.{ConvexTable, StepThere}
+use Rattle.card.proofs.FieldsThere.{entry-there}
+
+-- All steps before k cost more than step k.
+pub record Fallen (f : ℕ → ℕ) (top k : ℕ) : Type 0 where
+  pub within : k ≤ top
+  pub dearer : (x : ℕ) → x < k → f k < f x
+
+pub fallen-none : (f : ℕ → ℕ) (top : ℕ) → Fallen f top 0
+fallen-none f top = record { within = omega arith; dearer = λ x h. absurd (omega arith) }
+
+-- The next step costs less.
+pub fallen-more : {f : ℕ → ℕ} {top k : ℕ} → Fallen f top k → k < top → f (k + 1) < f k → Fallen f top (k + 1)
+fallen-more {f} {top} {k} given h less =
+    record {
+      within = omega arith;
+      dearer =
+          λ x below.
+          ⊎-elim
+          (λ (g : k ≤ x). let same : x ≡ k = omega arith in rw same less)
+          (λ (g : x < k). omega (arith, given .dearer x g))
+          (le-or-lt k x);
+    }
+
+-- The next step does not cost less, or there is none.
+pub fallen-found :
+    {s : List ℕ} {h : Header} {k : ℕ} → ConvexTable s h → Fallen (instanceOf s .table) (h .topStep) k →
+    (k < h .topStep → instanceOf s .table k ≤ instanceOf s .table (k + 1)) → k ≡ lowestStep (instanceOf s)
+fallen-found {s} {h} {k} table given level =
+    let f = instanceOf s .table in
+    let rises = rises-past (h .topStep) f (convex-test _ _ .0 (table .convexity)) k level k in
+    let found : LeastAt f 0 (h .topStep) k =
+    record {
+      from = omega arith;
+      to = given .within;
+      least =
+          λ x _ top.
+          ⊎-elim (λ (g : k ≤ x). rises x (omega arith) g top) (λ (g : x < k). le-of-lt (given .dearer x g)) (le-or-lt k x);
+      before = λ x _. given .dearer x;
+    } in
+    sym (active-is (instanceOf s) (omega arith) (rw (table .sized .header .top-is) at found))
+
+-- A step of the table, and the step at which a module is then active.
+module _ {s : List ℕ} {h : Header} {k : ℕ} (there : StepThere s h k) where
+  step-convex : Convex (instanceOf s .topStep) (instanceOf s .table)
+  step-convex = convex-test _ _ .0 (table-convex s (there .ready .accepted))
+
+  pub raised-to-lowest : k < h .lowestStep → h .lowestStep ≡ activeStep (instanceOf s) k
+  raised-to-lowest below =
+      there .ready .lowest-is ∙ sym (active-greater (instanceOf s) step-convex k (there .in-table) ∙ max-eq-right (omega (arith, there .ready .lowest-is)))
+
+  pub not-raised : h .lowestStep ≤ k → k ≡ activeStep (instanceOf s) k
+  not-raised above =
+      sym (active-greater (instanceOf s) step-convex k (there .in-table) ∙ max-eq-left (omega (arith, there .ready .lowest-is)))
+
+  -- The card has the entry of the active step.
+  pub active-there : {j : ℕ} → j ≡ activeStep (instanceOf s) k → EntryThere s h j
+  active-there is = entry-there (there .ready) (omega (arith, active-least (instanceOf s) k (there .in-table) .to))
