@@ -1,5 +1,5 @@
 -- The lowest step of a convex table, found by going up as long as the table falls.
-use Prim.Native.Nat.{ℕ, _+_, _≤_, _<_}
+use Prim.Native.Nat.{ℕ, _+_, _≤_, _<_, max}
 use mathlib.Core.Path.{_≡_, sym, _∙_}
 use mathlib.Core.Bool.{true}
 use mathlib.Core.List.{List}
@@ -11,11 +11,11 @@ use Rattle.lists.specs.Ranges.{LeastAt}
 use Rattle.model.specs.Instance.{instanceOf}
 use Rattle.model.specs.MoreLight.{activeStep}
 use Rattle.laws.specs.Acceptance.{table-convex}
-use Rattle.laws.specs.Tables.{Convex, convex-test, rises-past}
+use Rattle.laws.specs.Tables.{convex-test, rises-past}
 use Rattle.laws.specs.LeastSteps.{lowestStep, active-is, active-least, active-greater}
 use Rattle.card.specs.declared.Header.{Header}
 use Rattle.card.specs.Fields.{EntryThere}
-use Rattle.card.specs.Checking.{ConvexTable, StepThere}
+use Rattle.card.specs.Checking.{ConvexTable, Ready, StepThere}
 use Rattle.card.proofs.FieldsThere.{entry-there}
 
 -- All steps before k cost more than step k.
@@ -57,19 +57,21 @@ fallen-found {s} {h} {k} table given level =
     } in
     sym (active-is (instanceOf s) (omega arith) (rw (table .sized .header .top-is) at found))
 
--- A step of the table, and the step at which a module is then active.
-module _ {s : List ℕ} {h : Header} {k : ℕ} (there : StepThere s h k) where
-  step-convex : Convex (instanceOf s .topStep) (instanceOf s .table)
-  step-convex = convex-test _ _ .0 (table-convex s (there .ready .accepted))
+-- The step at which a module is active on an accepted card.
+module _ {s : List ℕ} {h : Header} (ready : Ready s h) (k : ℕ) where
+  greater : activeStep (instanceOf s) k ≡ max k (lowestStep (instanceOf s))
+  greater = active-greater (instanceOf s) (convex-test _ _ .0 (table-convex s (ready .accepted))) k
 
   pub raised-to-lowest : k < h .lowestStep → h .lowestStep ≡ activeStep (instanceOf s) k
-  raised-to-lowest below =
-      there .ready .lowest-is ∙ sym (active-greater (instanceOf s) step-convex k (there .in-table) ∙ max-eq-right (omega (arith, there .ready .lowest-is)))
+  raised-to-lowest below = ready .lowest-is ∙ sym (greater ∙ max-eq-right (omega (arith, ready .lowest-is)))
 
   pub not-raised : h .lowestStep ≤ k → k ≡ activeStep (instanceOf s) k
-  not-raised above =
-      sym (active-greater (instanceOf s) step-convex k (there .in-table) ∙ max-eq-left (omega (arith, there .ready .lowest-is)))
+  not-raised above = sym (greater ∙ max-eq-left (omega (arith, ready .lowest-is)))
 
-  -- The card has the entry of the active step.
-  pub active-there : {j : ℕ} → j ≡ activeStep (instanceOf s) k → EntryThere s h j
-  active-there is = entry-there (there .ready) (omega (arith, active-least (instanceOf s) k (there .in-table) .to))
+  -- It is no higher than the step or the top step.
+  pub active-most : activeStep (instanceOf s) k ≤ max k (instanceOf s .topStep)
+  active-most = omega (arith, greater, active-least (instanceOf s) 0 (omega arith) .to)
+
+-- The card has the entry of the step at which a module is active for a step of the table.
+pub active-there : {s : List ℕ} {h : Header} {k j : ℕ} → StepThere s h k → j ≡ activeStep (instanceOf s) k → EntryThere s h j
+active-there {s} {h} {k} there is = entry-there (there .ready) (omega (arith, active-least (instanceOf s) k (there .in-table) .to))

@@ -11,7 +11,7 @@ ghost use Rattle.model.specs.Instance.{convexAt, convex, tableInRange, loadsInR
 ghost use Rattle.model.specs.MoreLight.{leastFrom, activeStep};
 ghost use Rattle.laws.specs.LeastSteps.{lowestStep};
 ghost use Rattle.card.specs.Fields.{Within, ReadAt, HeaderOf, Sized, PlaceNear, EntryThere, EntryOf, LoadThere, SlotLoad};
-ghost use Rattle.card.specs.Checking.{ConvexThere, ConvexTable, StepThere, rackOf, firstAmong, frontRefusals, sizeRefusals, bodyRefusals, checkedOf};
+ghost use Rattle.card.specs.Checking.{ConvexThere, ConvexTable, StepThere, rackOf, firstAmong, frontRefusals, sizeRefusals, bodyRefusals, checkedOf, Ready};
 
 // The places of a card's fields: the version, the modules, with which the rest of the head begins, and the table, where the head ends.
 const VERSION_PLACE: usize = 3;
@@ -357,7 +357,7 @@ pub fn check(card: &[u8]) -> Checked
 
 // The step at which a module is active for step k: on a convex table the greater of k and the lowest step.
 pub fn active_step(card: &[u8], h: Header, k: u64) -> u64
-    requires { ⌜ StepThere (now card) h k ⌝ }
+    requires { ⌜ Ready (now card) h ⌝ }
     ensures { λ r. ⌜ r ≡ activeStep (instanceOf (now (card .entry))) k ⌝ }
 {
     if k < h.lowestStep {

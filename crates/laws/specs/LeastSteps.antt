@@ -5,7 +5,7 @@ use mathlib.Core.Logic.{⊎-elim}
 use native.Mathlib.Nat.{le-of-lt, max-eq-left, max-eq-right}
 use native.Mathlib.Omega.{arith}
 use Rattle.lists.specs.Numbers.{le-or-lt}
-use Rattle.lists.specs.Ranges.{LeastAt, least-at-unique, least-over-below, least-index, least-index-value}
+use Rattle.lists.specs.Ranges.{firstOver, LeastAt, least-at-unique, least-over-below, least-index, least-index-value}
 use Rattle.model.specs.Instance.{Instance}
 use Rattle.model.specs.MoreLight.{leastFrom, activeStep}
 use Rattle.laws.specs.Tables.{Convex, NeverFalls, rises-past}
@@ -47,6 +47,11 @@ module _ (i : Instance) where
       let below = least-over-below (i .table) k (i .topStep - k) (activeStep i (k + 1)) (omega (arith, later .from)) (omega (arith, later .to)) in
       omega (arith, active-cost (k + 1))
 
+  -- Beyond the top step there is nothing to choose from.
+  beyond-top : (k : ℕ) → i .topStep < k → activeStep i k ≡ k
+  unfolding activeStep firstOver
+  beyond-top k h = let none : i .topStep - k ≡ 0 = omega arith in rw none
+
   -- On a convex table.
   module _ (convex : Convex (i .topStep) (i .table)) where
     -- Up to the lowest step a module is active at the lowest step.
@@ -71,11 +76,11 @@ module _ (i : Instance) where
         })
 
     -- 'the smallest such j' is the greater of the step and the lowest step.
-    pub active-greater : (k : ℕ) → k ≤ i .topStep → activeStep i k ≡ max k (lowestStep i)
-    active-greater k h =
+    pub active-greater : (k : ℕ) → activeStep i k ≡ max k (lowestStep i)
+    active-greater k =
         ⊎-elim
         (λ (g : k ≤ lowestStep i). at-lowest k g ∙ sym (max-eq-right g))
-        (λ (g : lowestStep i < k). at-itself k (le-of-lt g) h ∙ sym (max-eq-left (le-of-lt g)))
+        (λ (g : lowestStep i < k). ⊎-elim (at-itself k (le-of-lt g)) (beyond-top k) (le-or-lt k (i .topStep)) ∙ sym (max-eq-left (le-of-lt g)))
         (le-or-lt k (lowestStep i))
 
     -- G is convex: up to the lowest step it is level, and from there on it is F.

@@ -39,7 +39,7 @@ module _ {i : Instance} {p old l : List ℕ} {t : ℕ} (given : Filled i p old t
   -- One slot more is filled, where what the loop has at hand is the slot's.
   pub filled-more :
       {m n load : ℕ} {row : List ℕ} → t < i .slots → m ≡ i .modules → n ≡ getD p t 0 → load ≡ i .load t →
-      row ≡ tabulate (length (midOf (t * m) (t * m + m - t * m) l)) (moduleByte n load) →
+      row ≡ tabulate (length (midOf (t * m) (t * m + m - t * m) l)) (moduleByte i n load) →
       Filled i p old (t + 1) (putMid (t * m) (t * m + m - t * m) l row)
   unfolding slotRow
   filled-more {m} {n} {load} {row} h m-is n-is load-is filled =

@@ -96,13 +96,10 @@ module _ {s : List ℕ} {h : Header} {p : List ℕ} (given : PlanReady s h p) wh
 -- A slot's row has room for its count.
 pub row-fits :
     {s : List ℕ} {h : Header} {p : List ℕ} {t n load : ℕ} (l : List ℕ) (a : ℕ) → PlanReady s h p → t < length p →
-    a + h .modules ≤ length l → n ≡ getD p t 0 → load ≡ instanceOf s .load t → RowFits (midOf a (a + h .modules - a) l) n load
+    a + h .modules ≤ length l → n ≡ getD p t 0 → load ≡ instanceOf s .load t → RowFits s h n load (midOf a (a + h .modules - a) l)
 row-fits {s} {h} {p} {t} {n} {load} l a given below inside e f =
     let slot = slot-served given below e f in
-    record {
-      in-row = omega (arith, part-length a (h .modules) l inside);
-      serves = omega (arith, mul-le-mul-left n (top-range s (given .sized .ready .accepted) .1));
-    }
+    record { served = slot; in-row = omega (arith, slot .in-rack, part-length a (h .modules) l inside) }
 
 -- A slot's cost by what the loop has at hand.
 pub slot-is :

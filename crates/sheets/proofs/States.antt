@@ -6,8 +6,8 @@ use mathlib.Core.List.{List}
 use native.Mathlib.Omega.{arith}
 use lib.ListN.{length, getD}
 use lib.Arith.{digits-lt}
-use lib.Dec.{eqb, ltb}
-use borrow.Author.Tests.{lt-ltb, le-ltb, eq-eqb, ne-eqb}
+use lib.Dec.{leb, ltb}
+use borrow.Author.Tests.{lt-ltb, le-ltb, le-leb, lt-leb}
 use borrow.Rule.Slice.PartMut.{midOf}
 use Rattle.lists.specs.Sums.{sum-ext}
 use Rattle.lists.specs.Parts.{getD-within, part-length, part-at}
@@ -58,8 +58,8 @@ module _
   light-is : x ≡ lightAt (instanceOf s) sheet (suc t)
   light-is = x-is ∙ row-light-is (instanceOf s) sheet (given .size) (given .ready .header .modules-is) (omega arith)
 
-  pub light-failed : (x ≡ y → ⊥) → eqb (lightAt (instanceOf s) sheet (suc t)) (instanceOf s .load t) ≡ false
-  light-failed e = rw (← light-is, ← y-is) (ne-eqb x y e)
+  pub light-failed : x < y → leb (instanceOf s .load t) (lightAt (instanceOf s) sheet (suc t)) ≡ false
+  light-failed less = rw (← light-is, ← y-is) (lt-leb y x less)
 
-  pub light-passed : x ≡ y → eqb (lightAt (instanceOf s) sheet (suc t)) (instanceOf s .load t) ≡ true
-  light-passed e = rw (← light-is, ← y-is) (eq-eqb x y e)
+  pub light-passed : y ≤ x → leb (instanceOf s .load t) (lightAt (instanceOf s) sheet (suc t)) ≡ true
+  light-passed enough = rw (← light-is, ← y-is) (le-leb y x enough)

@@ -10,11 +10,12 @@ use Rattle.model.specs.Plans.{planServes}
 use Rattle.model.specs.Calls.{sheetBytes}
 use Rattle.card.specs.declared.Header.{Header}
 use Rattle.card.specs.Checking.{Ready}
+use Rattle.counts.specs.Serving.{Served}
 
--- The row has room for n active modules, which serve the load l at steps up to 200.
-pub record RowFits (row : List ℕ) (n l : ℕ) : Type 0 where
+-- An accepted card with its header, a count n of its rack that can serve the load l, and a row with room for n active modules.
+pub record RowFits (s : List ℕ) (h : Header) (n l : ℕ) (row : List ℕ) : Type 0 where
+  pub served : Served s h n l
   pub in-row : n ≤ length row
-  pub serves : l ≤ n * 200
 
 -- An accepted card with its header, and a plan with one count for each slot.
 pub record PlanSized (s : List ℕ) (h : Header) (p : List ℕ) : Type 0 where

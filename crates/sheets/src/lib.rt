@@ -14,10 +14,11 @@ ghost use Rattle.sheets.specs.Marks.{rowLight, byteCost, bytesCost, allO
 ghost use Rattle.sheets.specs.SheetRequires.{RowFits, PlanSized, PlanReady, SheetRoom};
 ghost use Rattle.sheets.specs.SheetRequires.{ByteReady, BytesReady, RowShort, RowPriced, SheetSized, SheetReady};
 
-// Fills a slot's row: the first n modules are active, the first l mod n of these at step l div n + 1, the others at l div n.
-fn fill_slot(row: &mut [u8], n: u64, l: u64)
-    requires { ⌜ RowFits (now row) n l ⌝ }
-    ensures { λ _. ⌜ now (row .exit) ≡ tabulate (length (now (row .entry))) (moduleByte n l) ⌝ }
+// Fills a slot's row: the first n modules are active, the first l mod n of these at the active step of l div n + 1, the others at that
+// of l div n.
+fn fill_slot(card: &[u8], h: Header, n: u64, l: u64, row: &mut [u8])
+    requires { ⌜ RowFits (now card) h n l (now row) ⌝ }
+    ensures { λ _. ⌜ now (row .exit) ≡ tabulate (length (now (row .entry))) (moduleByte (instanceOf (now (card .entry))) n l) ⌝ }
 {
     if n == 0 {
         buffers::fill(row, 255);
@@ -25,10 +26,11 @@ fn fill_slot(row: &mut [u8], n: u64, l: u64)
     }
     let active = n as usize;
     let rest = (l % n) as usize;
-    let step = (l / n) as u8;
-    let next = step + 1;
-    buffers::fill(&mut row[..rest], next);
-    buffers::fill(&mut row[rest..active], step);
+    let step = l / n;
+    let low = card::active_step(card, h, step) as u8;
+    let high = card::active_step(card, h, step + 1) as u8;
+    buffers::fill(&mut row[..rest], high);
+    buffers::fill(&mut row[rest..active], low);
     buffers::fill(&mut row[active..], 255);
 }
 
@@ -44,7 +46,7 @@ pub fn write_sheet(card: &[u8], h: Header, plan: &[u8], sheet: &mut [u8])
         let l = card::load(card, h, t as u64);
         let start = t * modules;
         let end = start + modules;
-        fill_slot(&mut sheet[start..end], n, l);
+        fill_slot(card, h, n, l, &mut sheet[start..end]);
         t += 1;
     }
 }
@@ -163,7 +165,7 @@ fn slot_light(row: &[u8]) -> u64
     light as u64
 }
 
-// In every slot the steps of the active modules sum to the load.
+// In every slot the steps of the active modules sum to the load or more.
 pub fn sheet_light(card: &[u8], h: Header, sheet: &[u8]) -> bool
     requires { ⌜ SheetSized (now card) h (now sheet) ⌝ }
     ensures { λ r. ⌜ r ≡ sheetLight (instanceOf (now (card .entry))) (now (sheet .entry)) ⌝ }
@@ -175,7 +177,7 @@ pub fn sheet_light(card: &[u8], h: Header, sheet: &[u8]) -> bool
         let start = t * modules;
         let end = start + modules;
         let light = slot_light(&sheet[start..end]);
-        if light != card::load(card, h, t as u64) {
+        if light < card::load(card, h, t as u64) {
             return false;
         }
         t += 1;

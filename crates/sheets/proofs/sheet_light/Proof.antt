@@ -1,7 +1,7 @@
 use Prim.Native.Nat.{suc, _-_}
 use mathlib.Core.Path.{_≡_}
 use native.Mathlib.Omega.{arith}
-use lib.Dec.{eqb}
+use lib.Dec.{leb}
 use borrow.Author.Needs.{needs}
 use Rattle.lists.specs.Tests.{Passed, passed-none, passed-more, passed-all, passed-not}
 use Rattle.model.specs.Instance.{instanceOf}
@@ -14,7 +14,7 @@ use Rattle.sheets.proofs.sheet_light.Tie as tie
 
 abbrev Inv-loop : tie.InvT-loop
 Inv-loop card h sheet modules slots t₀ t =
-    Passed (instanceOf card .slots) (λ u. eqb (lightAt (instanceOf card) sheet (suc u)) (instanceOf card .load u)) t
+    Passed (instanceOf card .slots) (λ u. leb (instanceOf card .load u) (lightAt (instanceOf card) sheet (suc u))) t
 
 abbrev μ-loop : tie.MeasureT-loop
 μ-loop card h sheet modules slots t₀ t = slots - t
@@ -49,9 +49,7 @@ load-requires c κs = record { sized = search sized; in-show = search needs }
 
 returns : tie.Need-returns Inv-loop μ-loop
 unfolding sheetLight
-returns c =
-    let differ : c .before .before .slot-light .result ≡ c .before .load .result → ⊥ = λ e. omega arith in
-    passed-not (c .before .before .before .before .before .loop .inv) (search in-header) (search light-failed)
+returns c = passed-not (c .before .before .before .before .before .loop .inv) (search in-header) (search light-failed)
 
 loop-less : tie.Need-loop-less Inv-loop μ-loop
 loop-less c = omega arith
