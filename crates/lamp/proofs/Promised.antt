@@ -20,7 +20,7 @@ use Rattle.theory.specs.CountLists.{planner-counts-ascending}
 use Rattle.theory.specs.Condition3.{accepted-plannable, least-sheet, planner-bound}
 use Rattle.theory.specs.Refusals.{succeeded}
 use Rattle.theory.specs.PracticeCards.{practice-writes, practice-enough}
-use Rattle.theory.specs.Outcomes.{written-taken, mark-number, made-marked, best-fits, plan-at-exit, planner-on, planner-table}
+use Rattle.theory.specs.Outcomes.{written-taken, mark-number, made-marked, best-fits, plan-at-exit, planner-on}
 
 -- What is given of an answer is given of an equal one.
 pub gives-as : {a b : Answer} {number cost : ℕ} → a ≡ b → NumbersOf a number cost → NumbersOf b number cost
@@ -89,8 +89,7 @@ module _ (k : Planner) (c p w : List ℕ) {number cost : ℕ} (given : Gives (pl
       record { sheet-serves = λ e. rw (taken is e) (best-sheet e .0); sheet-costs = λ e. rw (taken is e) (best-sheet e .1) }
 
   at-most : AtMostTimes (ratioOf k) c number cost
-  at-most e s served =
-      rw (cost-of e) (planner-bound k (accepted-plannable c (accepted e)) (planner-table k c p w (success e)) s served)
+  at-most e s served = rw (cost-of e) (planner-bound k (accepted-plannable c (accepted e)) s served)
 
 -- A planner's answer and buffers at exit bring condition 3 with them.
 pub plans :

@@ -82,7 +82,7 @@ pub extern "C" fn lamp_plan_exact(card: &[u8], plan: &mut [u8], work: &mut [u8])
     to_c(planners::plan_show(PlannerKind::Exact, card, plan, work))
 }
 
-// The least plan with counts 0, the powers of two up to m, and m: refusals 1 to 10.
+// The least plan with counts 0, the powers of two up to m, and m: refusals 1 to 8, 10.
 #[no_mangle]
 pub extern "C" fn lamp_plan_coarse(card: &[u8], plan: &mut [u8], work: &mut [u8]) -> LampAnswer
     ensures outcome { λ r. ⌜ Gives (planShow coarse (now (card .entry)) (now (plan .entry)) (now (work .entry))) (r .number) (r .cost) ⌝ }

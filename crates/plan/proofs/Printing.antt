@@ -10,7 +10,7 @@ use Rattle.model.specs.declared.Answer.the-variants.{Cost, Refused}
 use Rattle.model.specs.Answers.{refusalNumber}
 use Rattle.model.specs.Instance.{Instance, instanceOf}
 use Rattle.model.specs.Plans.{sheetOf}
-use Rattle.model.specs.Planners.{exact, workBytes, plannerRefusals, plannedBy}
+use Rattle.model.specs.Planners.{exact, workBytes, plannedBy}
 use Rattle.model.specs.Listing.{listing, refusedLine, exactListing, printed, printedFor}
 use Rattle.model.specs.Calls.{planShow, makeSheet, answer, requestOf, refusals, successCost, buffersOf, sheetBytes, sheetBuffer, planBuffer}
 use Rattle.model.specs.Calls.{firstRefusal, applies, anyShort, planAtExit, sheetAtExit}
@@ -38,7 +38,7 @@ accepted-text s is e room = record { ready = ready s is e; text = room }
 -- The planner's answer depends on the lengths of its buffers alone.
 same-lengths :
     (s p w q v : List ℕ) → length p ≡ length q → length w ≡ length v → answer (planShow exact s p w) ≡ answer (planShow exact s q v)
-unfolding answer requestOf refusals plannerRefusals successCost buffersOf firstRefusal applies anyShort
+unfolding answer requestOf refusals successCost buffersOf firstRefusal applies anyShort
 same-lengths s p w q v e d = rw (e, d)
 
 -- The program's areas, and the planner's answer.

@@ -1,20 +1,19 @@
--- The answer of a planner, by its tests on the table and the buffers, and its buffers at exit.
+-- The answer of a planner, by its tests on the buffers, and its buffers at exit.
 use Prim.Native.Nat.{ℕ, _≤_, _<_}
 use mathlib.Core.Path.{_≡_, sym, ap, _∙_}
-use mathlib.Core.Bool.{true, false}
 use mathlib.Core.List.{List, _++_}
 use native.Mathlib.Omega.{arith}
 use lib.ListN.{length, take, drop, replicate, length-replicate}
 use lib.Seq.{length-take-le}
 use borrow.Author.Tests.{lt-ltb, le-ltb}
 use Rattle.model.specs.declared.Refusal.{Refusal}
-use Rattle.model.specs.declared.Refusal.the-variants.{NotMonotone, BufferTooShort}
+use Rattle.model.specs.declared.Refusal.the-variants.{BufferTooShort}
 use Rattle.model.specs.declared.Answer.{Answer}
 use Rattle.model.specs.declared.Answer.the-variants.{Cost, Refused}
 use Rattle.model.specs.Instance.{instanceOf}
-use Rattle.model.specs.Planners.{Planner, workBytes, tableAllowed, plannedBy, plannedCost}
+use Rattle.model.specs.Planners.{Planner, workBytes, plannedBy, plannedCost}
 use Rattle.model.specs.Calls.{planShow, answer, buffersOf, anyShort, planAtExit, workAtExit, atExit}
-use Rattle.theory.specs.Outcomes.{planner-refused, planner-falls, planner-short, planner-cost, best-fits, plan-at-exit, work-at-exit}
+use Rattle.theory.specs.Outcomes.{planner-refused, planner-short, planner-cost, best-fits, plan-at-exit, work-at-exit}
 use Rattle.card.specs.declared.Header.{Header}
 use Rattle.card.specs.declared.Checked.{Checked}
 use Rattle.card.specs.declared.Checked.the-variants.{Invalid}
@@ -37,56 +36,52 @@ module _ (k : Planner) (s p w : List ℕ) where
   plan-refused is e = planned-kept (planner-refused k s p w (refused-answer s is e))
 
   module _ {h : Header} (r : Ready s h) where
-    pub plan-falls : tableAllowed k (instanceOf s) ≡ false → Planned k s p w (Refused NotMonotone) p w
-    plan-falls falls = planned-kept (planner-falls k s p w (r .accepted) falls)
+    pub plan-short : length p < h .slots → Planned k s p w (Refused BufferTooShort) p w
+    unfolding buffersOf anyShort
+    plan-short less =
+        planned-kept
+        (planner-short k s p w (r .accepted) (rw (lt-ltb (length p) (instanceOf s .slots) (omega (arith, r .header .slots-is)))))
 
-    module _ (allowed : tableAllowed k (instanceOf s) ≡ true) where
-      pub plan-short : length p < h .slots → Planned k s p w (Refused BufferTooShort) p w
+    module _ (plan-room : h .slots ≤ length p) {n : ℕ} (n-is : n ≡ workBytes k (instanceOf s)) where
+      roomy : instanceOf s .slots ≤ length p
+      roomy = omega (arith, r .header .slots-is)
+
+      pub work-short : length w < n → Planned k s p w (Refused BufferTooShort) p w
       unfolding buffersOf anyShort
-      plan-short less =
+      work-short less =
           planned-kept
-          (planner-short k s p w (r .accepted) allowed (rw (lt-ltb (length p) (instanceOf s .slots) (omega (arith, r .header .slots-is)))))
+          (planner-short k s p w (r .accepted)
+          (rw (le-ltb _ _ roomy, lt-ltb (length w) (workBytes k (instanceOf s)) (omega arith))))
 
-      module _ (plan-room : h .slots ≤ length p) {n : ℕ} (n-is : n ≡ workBytes k (instanceOf s)) where
-        roomy : instanceOf s .slots ≤ length p
-        roomy = omega (arith, r .header .slots-is)
+      module _ (work-room : n ≤ length w) where
+        -- The parts of the buffers that are lent on.
+        pub parts-lent : Buffers k s h (take (h .slots) p) (take n w)
+        parts-lent =
+            record {
+              ready = r;
+              plan-size = length-take-le (h .slots) p plan-room ∙ r .header .slots-is;
+              work-room = omega (arith, length-take-le n w work-room);
+            }
 
-        pub work-short : length w < n → Planned k s p w (Refused BufferTooShort) p w
+        cost-given : answer (planShow k s p w) ≡ Cost (plannedCost k (instanceOf s))
         unfolding buffersOf anyShort
-        work-short less =
-            planned-kept
-            (planner-short k s p w (r .accepted) allowed
-            (rw (le-ltb _ _ roomy, lt-ltb (length w) (workBytes k (instanceOf s)) (omega arith))))
+        cost-given =
+            planner-cost k s p w (r .accepted)
+            (rw (le-ltb _ _ roomy, le-ltb (length w) (workBytes k (instanceOf s)) (omega arith)))
 
-        module _ (work-room : n ≤ length w) where
-          -- The parts of the buffers that are lent on.
-          pub parts-lent : Buffers k s h (take (h .slots) p) (take n w)
-          parts-lent =
-              record {
-                ready = r;
-                plan-size = length-take-le (h .slots) p plan-room ∙ r .header .slots-is;
-                work-room = omega (arith, length-take-le n w work-room);
-              }
-
-          cost-given : answer (planShow k s p w) ≡ Cost (plannedCost k (instanceOf s))
-          unfolding buffersOf anyShort
-          cost-given =
-              planner-cost k s p w (r .accepted) allowed
-              (rw (le-ltb _ _ roomy, le-ltb (length w) (workBytes k (instanceOf s)) (omega arith)))
-
-          -- After a success the parts have come back as the planner's plan and as zeros.
-          pub plan-done :
-              {cost : ℕ} {plan work : List ℕ} →
-              (cost ≡ plannedCost k (instanceOf s)) ×
-              ((plan ≡ plannedBy k (instanceOf s)) × (work ≡ replicate (length (take n w)) 0)) →
-              Planned k s p w (Cost cost) (plan ++ drop (h .slots) p) (work ++ drop n w)
-          unfolding atExit
-          plan-done (cost-is, (plan-is, cleared)) =
-              let size = best-fits k s (r .accepted) .slotwise ∙ sym (r .header .slots-is) in
-              let zeros = length-take-le n w work-room ∙ n-is in (
-                ap Cost cost-is ∙ sym cost-given,
-                (
-                  rw (plan-at-exit k s p w, cost-given, plan-is, size),
-                  rw (work-at-exit k s p w, cost-given, cleared, zeros, length-replicate {A = ℕ} (workBytes k (instanceOf s)) 0, n-is),
-                ),
-              )
+        -- After a success the parts have come back as the planner's plan and as zeros.
+        pub plan-done :
+            {cost : ℕ} {plan work : List ℕ} →
+            (cost ≡ plannedCost k (instanceOf s)) ×
+            ((plan ≡ plannedBy k (instanceOf s)) × (work ≡ replicate (length (take n w)) 0)) →
+            Planned k s p w (Cost cost) (plan ++ drop (h .slots) p) (work ++ drop n w)
+        unfolding atExit
+        plan-done (cost-is, (plan-is, cleared)) =
+            let size = best-fits k s (r .accepted) .slotwise ∙ sym (r .header .slots-is) in
+            let zeros = length-take-le n w work-room ∙ n-is in (
+              ap Cost cost-is ∙ sym cost-given,
+              (
+                rw (plan-at-exit k s p w, cost-given, plan-is, size),
+                rw (work-at-exit k s p w, cost-given, cleared, zeros, length-replicate {A = ℕ} (workBytes k (instanceOf s)) 0, n-is),
+              ),
+            )

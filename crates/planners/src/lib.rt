@@ -8,7 +8,7 @@ ghost use mathlib.Core.Path.{_≡_};
 ghost use lib.ListN.{length, replicate};
 ghost use Rattle.model.specs.Instance.{instanceOf};
 ghost use Rattle.model.specs.Plans.{leastPlan, leastCost};
-ghost use Rattle.model.specs.Planners.{workBytes, tableAllowed, plannedBy, plannedCost};
+ghost use Rattle.model.specs.Planners.{workBytes, plannedBy, plannedCost};
 ghost use Rattle.model.specs.Calls.{planShow, answer, planAtExit, workAtExit};
 ghost use Rattle.card.specs.Checking.{Ready};
 ghost use Rattle.counts.specs.AllowedCounts.{plannerOf};
@@ -85,17 +85,6 @@ fn work_bytes(kind: PlannerKind, card: &[u8], h: Header) -> usize
     }
 }
 
-// The planner takes the card's table.
-fn table_allowed(kind: PlannerKind, card: &[u8], h: Header) -> bool
-    requires { ⌜ Ready (now card) h ⌝ }
-    ensures { λ r. ⌜ r ≡ tableAllowed (plannerOf kind) (instanceOf (now (card .entry))) ⌝ }
-{
-    match kind {
-        PlannerKind::Exact => true,
-        PlannerKind::Coarse => card::never_falls(card, h),
-    }
-}
-
 // A planner on an accepted card.
 pub fn plan_show_on(
     kind: PlannerKind,
@@ -111,9 +100,6 @@ pub fn plan_show_on(
 {
     let slots = h.slots as usize;
     let asked = work_bytes(kind, card, h);
-    if !table_allowed(kind, card, h) {
-        return Answer::Refused(Refusal::NotMonotone);
-    }
     if plan.len() < slots {
         return Answer::Refused(Refusal::BufferTooShort);
     }
@@ -123,7 +109,7 @@ pub fn plan_show_on(
     Answer::Cost(plan_by(kind, card, h, &mut plan[..slots], &mut work[..asked]))
 }
 
-// A planner: refusals 1 to 8, 10, for the coarse planner also 9.
+// A planner: refusals 1 to 8 and 10.
 pub fn plan_show(kind: PlannerKind, card: &[u8], plan: &mut [u8], work: &mut [u8]) -> Answer
     ensures { λ r. ⌜ r ≡ answer (planShow (plannerOf kind) (now (card .entry)) (now (plan .entry)) (now (work .entry))) ⌝ }
     ensures { λ r. ⌜ now (plan .exit) ≡ planAtExit (planShow (plannerOf kind) (now (card .entry)) (now (plan .entry)) (now (work .entry))) ⌝ }
