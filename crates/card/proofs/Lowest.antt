@@ -11,12 +11,10 @@ use Rattle.lists.specs.Ranges.{LeastAt}
 use Rattle.model.specs.Instance.{instanceOf}
 use Rattle.model.specs.MoreLight.{activeStep}
 use Rattle.laws.specs.Acceptance.{table-convex}
-use Rattle.laws.specs.Tables.{convex-test, rises-past}
+use Rattle.laws.specs.Tables.{Convex, convex-test, rises-past}
 use Rattle.laws.specs.LeastSteps.{lowestStep, active-is, active-least, active-greater}
 use Rattle.card.specs.declared.Header.{Header}
-use Rattle.card.specs.Fields.{EntryThere}
-use Rattle.card.specs.Checking.{ConvexTable, Ready, StepThere}
-use Rattle.card.proofs.FieldsThere.{entry-there}
+use Rattle.card.specs.Checking.{ConvexTable, Ready}
 
 -- All steps before k cost more than step k.
 pub record Fallen (f : ℕ → ℕ) (top k : ℕ) : Type 0 where
@@ -57,10 +55,18 @@ fallen-found {s} {h} {k} table given level =
     } in
     sym (active-is (instanceOf s) (omega arith) (rw (table .sized .header .top-is) at found))
 
+-- The lowest step is a step of the table.
+pub lowest-in-table : {s : List ℕ} {h : Header} → Ready s h → h .lowestStep ≤ instanceOf s .topStep
+lowest-in-table {s} ready = omega (arith, ready .lowest-is, active-least (instanceOf s) 0 (omega arith) .to)
+
+-- The table of an accepted card is convex.
+pub convex-table : {s : List ℕ} {h : Header} → Ready s h → Convex (instanceOf s .topStep) (instanceOf s .table)
+convex-table {s} ready = convex-test _ _ .0 (table-convex s (ready .accepted))
+
 -- The step at which a module is active on an accepted card.
 module _ {s : List ℕ} {h : Header} (ready : Ready s h) (k : ℕ) where
   greater : activeStep (instanceOf s) k ≡ max k (lowestStep (instanceOf s))
-  greater = active-greater (instanceOf s) (convex-test _ _ .0 (table-convex s (ready .accepted))) k
+  greater = active-greater (instanceOf s) (convex-table ready) k
 
   pub raised-to-lowest : k < h .lowestStep → h .lowestStep ≡ activeStep (instanceOf s) k
   raised-to-lowest below = ready .lowest-is ∙ sym (greater ∙ max-eq-right (omega (arith, ready .lowest-is)))
@@ -70,8 +76,4 @@ module _ {s : List ℕ} {h : Header} (ready : Ready s h) (k : ℕ) where
 
   -- It is no higher than the step or the top step.
   pub active-most : activeStep (instanceOf s) k ≤ max k (instanceOf s .topStep)
-  active-most = omega (arith, greater, active-least (instanceOf s) 0 (omega arith) .to)
-
--- The card has the entry of the step at which a module is active for a step of the table.
-pub active-there : {s : List ℕ} {h : Header} {k j : ℕ} → StepThere s h k → j ≡ activeStep (instanceOf s) k → EntryThere s h j
-active-there {s} {h} {k} there is = entry-there (there .ready) (omega (arith, active-least (instanceOf s) k (there .in-table) .to))
+  active-most = omega (arith, greater, ready .lowest-is, lowest-in-table ready)

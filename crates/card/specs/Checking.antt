@@ -71,8 +71,3 @@ pub record Ready (s : List ℕ) (h : Header) : Type 0 where
   pub accepted : Accepted s
   pub header : HeaderOf s h
   pub lowest-is : h .lowestStep ≡ lowestStep (instanceOf s)
-
--- An accepted card, with its header, and a step of its table.
-pub record StepThere (s : List ℕ) (h : Header) (k : ℕ) : Type 0 where
-  pub ready : Ready s h
-  pub in-table : k ≤ instanceOf s .topStep

@@ -44,9 +44,9 @@ pub record EntryThere (s : List ℕ) (h : Header) (k : ℕ) : Type 0 where
   pub sized : Sized s h
   pub in-table : k ≤ h .topStep
 
--- The value is entry k of a table, F or G, and below 2 to the 32, as each entry of a card is.
-pub record EntryOf (table : ℕ → ℕ) (k value : ℕ) : Type 0 where
-  pub is : value ≡ table k
+-- The value is the table's entry F(k), which is below 2 to the 32 on any card.
+pub record TableEntry (s : List ℕ) (k value : ℕ) : Type 0 where
+  pub is : value ≡ instanceOf s .table k
   pub bound : value < 256 ^ 4
 
 -- The card has the load of slot t.

@@ -8,10 +8,10 @@ ghost use Rattle.lists.specs.Lists.{sameList};
 ghost use Rattle.lists.specs.Tests.{allOf};
 ghost use Rattle.model.specs.Instance.{instanceOf, headLength, loadPlace, markOf, cardMark, versionOf, rackNumber};
 ghost use Rattle.model.specs.Instance.{convexAt, convex, tableInRange, loadsInRange};
-ghost use Rattle.model.specs.MoreLight.{leastFrom, activeStep};
+ghost use Rattle.model.specs.MoreLight.{activeStep};
 ghost use Rattle.laws.specs.LeastSteps.{lowestStep};
-ghost use Rattle.card.specs.Fields.{Within, ReadAt, HeaderOf, Sized, PlaceNear, EntryThere, EntryOf, LoadThere, SlotLoad};
-ghost use Rattle.card.specs.Checking.{ConvexThere, ConvexTable, StepThere, rackOf, firstAmong, frontRefusals, sizeRefusals, bodyRefusals, checkedOf, Ready};
+ghost use Rattle.card.specs.Fields.{Within, ReadAt, HeaderOf, Sized, PlaceNear, EntryThere, TableEntry, LoadThere, SlotLoad};
+ghost use Rattle.card.specs.Checking.{ConvexThere, ConvexTable, rackOf, firstAmong, frontRefusals, sizeRefusals, bodyRefusals, checkedOf, Ready};
 
 // The places of a card's fields: the version, the modules, with which the rest of the head begins, and the table, where the head ends.
 const VERSION_PLACE: usize = 3;
@@ -101,7 +101,7 @@ pub enum Checked {
 // The table's entry F(k).
 pub fn entry(card: &[u8], h: Header, k: u64) -> u64
     requires { ⌜ EntryThere (now card) h k ⌝ }
-    ensures { λ r. ⌜ EntryOf (instanceOf (now (card .entry)) .table) k r ⌝ }
+    ensures { λ r. ⌜ TableEntry (now (card .entry)) k r ⌝ }
 {
     let place = Cursor {
         at: (HEAD_LENGTH + 4 * k) as usize,
@@ -364,12 +364,4 @@ pub fn active_step(card: &[u8], h: Header, k: u64) -> u64
         return h.lowestStep;
     }
     k
-}
-
-// G(k), the least F(j) for j from k to Q, which is F of the active step.
-pub fn least_from(card: &[u8], h: Header, k: u64) -> u64
-    requires { ⌜ StepThere (now card) h k ⌝ }
-    ensures { λ r. ⌜ EntryOf (leastFrom (instanceOf (now (card .entry)))) k r ⌝ }
-{
-    entry(card, h, active_step(card, h, k))
 }

@@ -1,19 +1,21 @@
 -- A load shared by n modules: quotient and remainder stay in the table, and the cost is the definition's.
 use Prim.Native.Nat.{ℕ, _+_, _-_, _*_, _/_, _%_, _^_, _≤_, _<_}
-use mathlib.Core.Path.{_≡_}
+use mathlib.Core.Path.{_≡_, sym, _∙_}
 use mathlib.Core.List.{List}
-use native.Mathlib.Nat.{sub-zero, pos-of-ne-zero, mod-lt, div-le-of-le-mul, mul-le-mul}
+use native.Mathlib.Nat.{le-of-lt, sub-zero, pos-of-ne-zero, mod-lt, div-le-of-le-mul, mul-le-mul}
 use native.Mathlib.Omega.{arith}
 use mir.Syntax.{w64}
 use mir.Val.{Fits}
-use borrow.Author.Tests.{eq-eqb, ne-eqb}
-use Rattle.lists.specs.Division.{quotient-lt}
+use borrow.Author.Tests.{eq-eqb}
+use Rattle.lists.specs.Division.{quotient-lt, part-and-rest}
 use Rattle.model.specs.Instance.{Instance, instanceOf}
 use Rattle.model.specs.MoreLight.{leastFrom}
 use Rattle.model.specs.Counts.{operatingCost}
 use Rattle.laws.specs.Acceptance.{modules-range, top-range, table-range}
-use Rattle.laws.specs.Operating.{operating-bound}
+use Rattle.laws.specs.LeastSteps.{lowestStep, least-level, least-itself}
+use Rattle.laws.specs.Operating.{operating-some, operating-bound}
 use Rattle.card.specs.declared.Header.{Header}
+use Rattle.card.proofs.Lowest.{convex-table}
 use Rattle.counts.specs.Serving.{Served}
 
 module _ (n l : ℕ) (some : n ≡ 0 → ⊥) where
@@ -27,20 +29,40 @@ module _ (n l : ℕ) (some : n ≡ 0 → ⊥) where
   pub next-within : (q : ℕ) → l ≤ n * q → (l % n ≡ 0 → ⊥) → l / n + 1 ≤ q
   next-within q h r = omega (arith, quotient-lt n l q h (pos-of-ne-zero r))
 
-module _ (i : Instance) (n l : ℕ) where
-  pub cost-none : n ≡ 0 → 0 ≡ operatingCost i n l
-  unfolding operatingCost
-  cost-none e = rw (eq-eqb n 0 e)
+pub cost-none : (i : Instance) (n l : ℕ) → n ≡ 0 → 0 ≡ operatingCost i n l
+unfolding operatingCost
+cost-none i n l e = rw (eq-eqb n 0 e)
 
-  module _ (some : n ≡ 0 → ⊥) {x : ℕ} (x-is : x ≡ leastFrom i (l / n)) where
-    pub cost-even : l % n ≡ 0 → n * x ≡ operatingCost i n l
-    unfolding operatingCost
-    cost-even e = rw (ne-eqb n 0 some, e, x-is, sub-zero) (omega arith)
+-- The cost of a count above 0 on an accepted card, as the code works it out.
+module _ {s : List ℕ} {h : Header} {n l : ℕ} (p : Served s h n l) (some : n ≡ 0 → ⊥) where
+  abbrev show : Instance
+  show = instanceOf s
 
-    pub cost-uneven :
-        (l % n ≡ 0 → ⊥) → {y : ℕ} → y ≡ leastFrom i (l / n + 1) → (n - l % n) * x + l % n * y ≡ operatingCost i n l
-    unfolding operatingCost
-    cost-uneven r {y} y-is = rw (ne-eqb n 0 some, ne-eqb (l % n) 0 r, x-is, y-is)
+  abbrev lowest : ℕ
+  lowest = lowestStep show
+
+  cost-by-least : operatingCost show n l ≡ (n - l % n) * leastFrom show (l / n) + l % n * leastFrom show (l / n + 1)
+  cost-by-least = operating-some show n l (pos-of-ne-zero some)
+
+  -- Below the lowest step all modules are at the lowest step.
+  pub cost-level : l / n < h .lowestStep → {x : ℕ} → x ≡ show .table (h .lowestStep) → n * x ≡ operatingCost show n l
+  cost-level below {x} x-is =
+      let value : show .table lowest ≡ x = sym (rw (p .ready .lowest-is) at x-is) in
+      let level : (k : ℕ) → k ≤ h .lowestStep → leastFrom show k ≡ x =
+      λ k to. least-level show (convex-table (p .ready)) k (omega (arith, p .ready .lowest-is)) ∙ value in
+      rw (cost-by-least, level (l / n) (omega arith), level (l / n + 1) (omega arith))
+      (omega (arith, part-and-rest n (l % n) x (le-of-lt (rest-below n l some))))
+
+  -- From the lowest step on G is F.
+  module _ (above : h .lowestStep ≤ l / n) {x : ℕ} (x-is : x ≡ show .table (l / n)) where
+    own : (k : ℕ) → l / n ≤ k → leastFrom show k ≡ show .table k
+    own k from = least-itself show (convex-table (p .ready)) k (omega (arith, p .ready .lowest-is))
+
+    pub cost-even : l % n ≡ 0 → n * x ≡ operatingCost show n l
+    cost-even e = rw (cost-by-least, own (l / n) (omega arith), e, x-is, sub-zero) (omega arith)
+
+    pub cost-uneven : {y : ℕ} → y ≡ show .table (l / n + 1) → (n - l % n) * x + l % n * y ≡ operatingCost show n l
+    cost-uneven y-is = rw (cost-by-least, own (l / n) (omega arith), own (l / n + 1) (omega arith), x-is, y-is)
 
 -- A product of a count and an entry is small, and so is the sum of two.
 module _ {s : List ℕ} {h : Header} {n l : ℕ} (p : Served s h n l) where

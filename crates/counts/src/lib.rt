@@ -116,8 +116,8 @@ pub fn rounded(count: u64, modules: u64) -> u64
     first_not_below(&counts[..n], count)
 }
 
-// The operating cost of a count (01: 'running cost'): (n - r)G(q) + rG(q + 1) with q = l / n and r = l % n; G(q + 1) is read only if r
-// is not 0.
+// The operating cost of a count (01: 'running cost'): (n - r)G(q) + rG(q + 1) with q = l / n and r = l % n. Below the lowest step both
+// are F of that step, and from there on G is F; F(q + 1) is read only if r is not 0.
 pub fn operating_cost(card: &[u8], h: Header, n: u64, l: u64) -> u64
     requires { ⌜ Served (now card) h n l ⌝ }
     ensures { λ r. ⌜ r ≡ operatingCost (instanceOf (now (card .entry))) n l ⌝ }
@@ -127,11 +127,15 @@ pub fn operating_cost(card: &[u8], h: Header, n: u64, l: u64) -> u64
     }
     let step = l / n;
     let rest = l % n;
+    let lowest = h.lowestStep;
+    if step < lowest {
+        return n * card::entry(card, h, lowest);
+    }
     if rest == 0 {
-        return n * card::least_from(card, h, step);
+        return n * card::entry(card, h, step);
     }
     let others = n - rest;
     let next = step + 1;
-    let low = others * card::least_from(card, h, step);
-    low + rest * card::least_from(card, h, next)
+    let low = others * card::entry(card, h, step);
+    low + rest * card::entry(card, h, next)
 }

@@ -47,12 +47,7 @@ module _ (i : Instance) where
       let below = least-over-below (i .table) k (i .topStep - k) (activeStep i (k + 1)) (omega (arith, later .from)) (omega (arith, later .to)) in
       omega (arith, active-cost (k + 1))
 
-  -- Beyond the top step there is nothing to choose from.
-  beyond-top : (k : ℕ) → i .topStep < k → activeStep i k ≡ k
-  unfolding activeStep firstOver
-  beyond-top k h = let none : i .topStep - k ≡ 0 = omega arith in rw none
-
-  -- On a convex table.
+  -- On a convex table, by the lowest step.
   module _ (convex : Convex (i .topStep) (i .table)) where
     -- Up to the lowest step a module is active at the lowest step.
     at-lowest : (k : ℕ) → k ≤ lowestStep i → activeStep i k ≡ lowestStep i
@@ -61,39 +56,42 @@ module _ (i : Instance) where
         active-is (omega (arith, p .to))
         (record { from = h; to = p .to; least = λ x a. p .least x (omega arith); before = λ x a. p .before x (omega arith) })
 
-    -- From the lowest step on a module is active at the step itself.
-    at-itself : (k : ℕ) → lowestStep i ≤ k → k ≤ i .topStep → activeStep i k ≡ k
-    at-itself k from h =
+    -- From the lowest step on a module is active at the step itself, also beyond the top step, where there is no other.
+    at-itself : (k : ℕ) → lowestStep i ≤ k → activeStep i k ≡ k
+    unfolding activeStep firstOver
+    at-itself k from =
         let p = active-least 0 (omega arith) in
-        active-is h
-        (record {
-          from = omega arith;
-          to = h;
-          least =
-              λ x a b.
-              rises-past (i .topStep) (i .table) convex (lowestStep i) (λ g. p .least (lowestStep i + 1) (omega arith) (omega arith)) k x from a b;
-          before = λ x a b. absurd (omega arith);
-        })
+        let rises = rises-past (i .topStep) (i .table) convex (lowestStep i) (λ g. p .least (lowestStep i + 1) (omega arith) (omega arith)) in
+        ⊎-elim
+        (λ (h : k ≤ i .topStep).
+        active-is h (record { from = omega arith; to = h; least = λ x. rises k x from; before = λ x a b. absurd (omega arith) }))
+        (λ (h : i .topStep < k). let none : i .topStep - k ≡ 0 = omega arith in rw none)
+        (le-or-lt k (i .topStep))
 
     -- 'the smallest such j' is the greater of the step and the lowest step.
     pub active-greater : (k : ℕ) → activeStep i k ≡ max k (lowestStep i)
     active-greater k =
         ⊎-elim
         (λ (g : k ≤ lowestStep i). at-lowest k g ∙ sym (max-eq-right g))
-        (λ (g : lowestStep i < k). ⊎-elim (at-itself k (le-of-lt g)) (beyond-top k) (le-or-lt k (i .topStep)) ∙ sym (max-eq-left (le-of-lt g)))
+        (λ (g : lowestStep i < k). at-itself k (le-of-lt g) ∙ sym (max-eq-left (le-of-lt g)))
         (le-or-lt k (lowestStep i))
 
-    -- G is convex: up to the lowest step it is level, and from there on it is F.
+    -- Up to the lowest step G is level.
+    pub least-level : (k : ℕ) → k ≤ lowestStep i → leastFrom i k ≡ i .table (lowestStep i)
+    least-level k h = sym (active-cost k) ∙ ap (i .table) (at-lowest k h)
+
+    -- From the lowest step on G is F.
+    pub least-itself : (k : ℕ) → lowestStep i ≤ k → leastFrom i k ≡ i .table k
+    least-itself k h = sym (active-cost k) ∙ ap (i .table) (at-itself k h)
+
+    -- So G is convex.
     pub least-convex : Convex (i .topStep) (leastFrom i)
     least-convex k h =
         ⊎-elim
         (λ (g : k + 1 ≤ lowestStep i).
-        let level : leastFrom i (k + 1) ≡ leastFrom i k =
-        sym (active-cost (k + 1)) ∙ ap (i .table) (at-lowest (k + 1) g ∙ sym (at-lowest k (omega arith))) ∙ active-cost k in
         let next : k + 1 + 1 ≡ k + 2 = omega arith in
-        omega (arith, rw next at (least-never-falls (k + 1) h)))
+        omega (arith, least-level k (omega arith), least-level (k + 1) g, rw next at (least-never-falls (k + 1) h)))
         (λ (g : lowestStep i < k + 1).
-        let own : (x : ℕ) → k ≤ x → x ≤ i .topStep → i .table x ≡ leastFrom i x =
-        λ x a b. ap (i .table) (sym (at-itself x (omega arith) b)) ∙ active-cost x in
-        omega (arith, convex k h, own k (omega arith) (omega arith), own (k + 2) (omega arith) (omega arith), least-from-below (k + 1)))
+        let own : (x : ℕ) → k ≤ x → leastFrom i x ≡ i .table x = λ x a. least-itself x (omega arith) in
+        omega (arith, convex k h, own k (omega arith), own (k + 1) (omega arith), own (k + 2) (omega arith)))
         (le-or-lt (k + 1) (lowestStep i))
