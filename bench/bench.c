@@ -10,7 +10,7 @@
 #include "lamp.h"
 #include "plain.h"
 
-enum { ROUNDS = 60, STARTS = 10000, PRACTICE = 4 };
+enum { ROUNDS = 60, STARTS = 10000, PRACTICE = 4, LOWEST = 80 };
 
 static uint8_t card[LAMP_MAX_CARD], plan[LAMP_MAX_PLAN], work[LAMP_MAX_EXACT_WORK], sheet[LAMP_MAX_SHEET];
 static uint8_t practice[LAMP_MAX_PRACTICE], practice_of_c[LAMP_MAX_PRACTICE];
@@ -35,6 +35,13 @@ static void make_card(uint64_t m, uint64_t q, uint64_t t)
         put(17 + 4 * (q + 1) + 2 * k, (state >> 20) % (m * q + 1), 2);
     }
     card_len = 17 + 4 * (q + 1) + 2 * t;
+}
+
+/* The same card with a convex table that falls up to step LOWEST and rises from there on. */
+static void put_falling_table(void)
+{
+    for (int64_t k = 0; k <= card[6]; k++)
+        put(17 + 4 * (size_t)k, (uint64_t)(400 + (k - LOWEST) * (k - LOWEST)), 4);
 }
 
 static double now(void)
@@ -89,12 +96,17 @@ static struct lamp_answer run(int which, int plain)
     }
 }
 
-/* The fastest round of the library and of C, in microseconds. */
+/* The fastest round of the library and of C, in microseconds. They give the same answer, plan and sheet. */
 static void measure(int which, double best[2])
 {
+    static uint8_t first_plan[sizeof plan], first_sheet[sizeof sheet];
     best[0] = best[1] = 1e18;
-    struct lamp_answer first = run(which, 0), second = run(which, 1);
-    if (first.number != second.number || first.cost != second.cost) {
+    struct lamp_answer first = run(which, 0);
+    memcpy(first_plan, plan, sizeof plan);
+    memcpy(first_sheet, sheet, sizeof sheet);
+    struct lamp_answer second = run(which, 1);
+    if (first.number != second.number || first.cost != second.cost || memcmp(first_plan, plan, sizeof plan) ||
+        memcmp(first_sheet, sheet, sizeof sheet)) {
         printf("the two disagree: %" PRIu64 " %" PRIu64 "\n", first.cost, second.cost);
         exit(1);
     }
@@ -115,23 +127,34 @@ static void print_line(const char *name, const double best[2])
     printf("%-8s %10.1f %10.1f %8.2f\n", name, best[0], best[1], best[0] / best[1]);
 }
 
-int main(void)
+/* Measures the planners, the sheet and marking on the card, and gives the exact planner's time. */
+static double measure_card(void)
 {
     static const char *names[] = {"exact", "coarse", "sheet", "marking"};
-    double best[2], whole = 0;
-    modules = 200, slots = 1024;
-    make_card(modules, 200, slots);
-    printf("m 200, Q 200, T 1,024 (microseconds, fastest of %d)\n", ROUNDS);
-    printf("%-8s %10s %10s %8s\n", "call", "library", "C -O3", "ratio");
+    double best[2], exact = 0;
     for (int which = 0; which < 4; which++) {
         /* sheet and marking take the plan and the sheet of the exact plan */
         if (which == 2)
             run(0, 0);
         measure(which, best);
         if (which == 0)
-            whole = best[0];
+            exact = best[0];
         print_line(names[which], best);
     }
+    return exact;
+}
+
+int main(void)
+{
+    double best[2];
+    modules = 200, slots = 1024;
+    make_card(modules, 200, slots);
+    printf("m 200, Q 200, T 1,024 (microseconds, fastest of %d)\n", ROUNDS);
+    printf("%-8s %10s %10s %8s\n", "call", "library", "C -O3", "ratio");
+    double whole = measure_card();
+    put_falling_table();
+    printf("the same with a table that falls up to step %d\n", LOWEST);
+    measure_card();
     compare_practice();
     measure(PRACTICE, best);
     printf("the cards of starts 1 to 10,000\n");

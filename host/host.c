@@ -48,7 +48,7 @@ static const char *words(enum lamp_refusal refusal)
     case LAMP_LOAD_RANGE:
         return "a load above m * Q";
     case LAMP_NOT_MONOTONE:
-        return "F(k + 1) < F(k) somewhere; coarse planner only";
+        return "never given; before release 2.0.0 a table that falls, coarse planner only";
     case LAMP_BUFFER_TOO_SHORT:
         return "a buffer shorter than asked for";
     case LAMP_WRONG_LENGTH:
@@ -56,7 +56,7 @@ static const char *words(enum lamp_refusal refusal)
     case LAMP_ENTRY_RANGE:
         return "a count above m, or a sheet byte from Q + 1 to 254";
     case LAMP_LOAD_NOT_SERVED:
-        return "a slot's steps do not sum to its load, or a count cannot serve its load";
+        return "a slot has too little light, or a count cannot serve its load";
     case LAMP_ZERO_START:
         return "start 0 of a practice card";
     }

@@ -68,6 +68,15 @@ static void put(size_t at, uint64_t value, size_t bytes)
         card[at + k] = (uint8_t)(value >> (8 * k));
 }
 
+/* A convex table from 0 to its bound: it rises all the way, or it falls all the way. */
+static void put_table(int falling)
+{
+    for (uint64_t k = 0; k <= TOP_STEP; k++) {
+        uint64_t from = falling ? TOP_STEP - k : k;
+        put(TABLE_AT + 4 * k, ENTRY * from * from / (TOP_STEP * TOP_STEP), 4);
+    }
+}
+
 /* The largest show: every field at its bound, a rising convex table that ends at its bound, changing loads. */
 static void make_card(void)
 {
@@ -78,8 +87,7 @@ static void make_card(void)
     put(7, SLOTS, 2);
     put(9, PRICE, 4);
     put(13, PRICE, 4);
-    for (uint64_t k = 0; k <= TOP_STEP; k++)
-        put(TABLE_AT + 4 * k, ENTRY * k * k / (TOP_STEP * TOP_STEP), 4);
+    put_table(0);
     for (uint64_t slot = 0; slot < SLOTS; slot++) /* the first load is at its bound */
         put(LOADS_AT + 2 * slot, (MODULES * TOP_STEP + slot * 7919) % (MODULES * TOP_STEP + 1), 2);
 }
@@ -218,7 +226,8 @@ static size_t stack_of(void (*function)(void))
 }
 
 /* Each call, the work bytes that it is given, and which of the given numbers makes it refuse when it is one less. The
- * order matters: the sheet is made from the exact plan, and then it is marked. */
+ * order matters: the sheet is made from the exact plan, and then it is marked. The two calls that read no card come
+ * last. */
 static const struct call {
     const char *name;
     void (*make)(void);
@@ -228,13 +237,14 @@ static const struct call {
 } calls[] = {
     {"lamp_check_card", check_card, 0, &given.card_len, LAMP_CARD_LENGTH},
     {"lamp_running_cost", running_cost, 0, &given.count, LAMP_LOAD_NOT_SERVED},
-    {"lamp_rounded_count", rounded_count, 0, &given.modules, LAMP_ENTRY_RANGE},
     {"lamp_plan_coarse", plan_coarse, LAMP_MAX_COARSE_WORK, &given.work_len, LAMP_BUFFER_TOO_SHORT},
     {"lamp_plan_exact", plan_exact, LAMP_MAX_EXACT_WORK, &given.work_len, LAMP_BUFFER_TOO_SHORT},
     {"lamp_sheet", make_sheet, 0, &given.sheet_len, LAMP_BUFFER_TOO_SHORT},
     {"lamp_mark", mark, 0, &given.sheet_len, LAMP_WRONG_LENGTH},
+    {"lamp_rounded_count", rounded_count, 0, &given.modules, LAMP_ENTRY_RANGE},
     {"lamp_practice_card", practice_card, 0, &given.practice_len, LAMP_BUFFER_TOO_SHORT},
 };
+enum { CALLS = sizeof calls / sizeof calls[0], CALLS_ON_A_CARD = CALLS - 2 };
 
 /* Gives the calls the largest show, with buffers of just the header's sizes. */
 static void give_largest(size_t work_len)
@@ -259,8 +269,9 @@ static size_t work_bytes_left(size_t length)
     return left;
 }
 
-/* Makes a call on the largest show, then with one of its numbers one less, and compares its answers and its stack. */
-static void measure(const struct call *call)
+/* Makes a call on the largest show, then with one of its numbers one less, and compares its answers and its stack.
+ * `show` says which table the show has. */
+static void measure(const struct call *call, const char *show)
 {
     size_t accepted, refused;
 
@@ -274,7 +285,7 @@ static void measure(const struct call *call)
     refused = stack_of(call->make);
     compare(call->name, "number when it refuses", answer.number, call->refusal);
 
-    printf("%s: %zu bytes of stack on the largest show, %zu when it refuses\n", call->name, accepted, refused);
+    printf("%s: %zu bytes of stack on %s, %zu when it refuses\n", call->name, accepted, show, refused);
     compare_range(call->name, "stack", accepted, 1, LAMP_MAX_STACK);
     compare_range(call->name, "stack when it refuses", refused, 1, LAMP_MAX_STACK);
 }
@@ -358,8 +369,11 @@ static void compare_with_library(void)
     compare_bounds();
     compare_range("a function of known size", "stack", stack_of(write_known_bytes), KNOWN_BYTES,
                   KNOWN_BYTES + KNOWN_FRAME);
-    for (size_t k = 0; k < sizeof calls / sizeof calls[0]; k++)
-        measure(&calls[k]);
+    for (size_t k = 0; k < CALLS; k++)
+        measure(&calls[k], "the largest show");
+    put_table(1);
+    for (size_t k = 0; k < CALLS_ON_A_CARD; k++)
+        measure(&calls[k], "the largest show with a falling table");
     compare_plan_length();
     compare_empty();
     compare("the longest start", "bytes of the practice card", practice_length(LONGEST_START), LAMP_MAX_PRACTICE);

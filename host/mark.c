@@ -1,5 +1,5 @@
-/* A small host: marks the two sheets of document 01's example D and two that are refused, then plans the card and marks
- * the planner's own sheet.
+/* A small host: marks the two sheets of document 01's example D, one with more light than the load of slot 3, and two
+ * that are refused, the first for too little light in slot 3; then plans the card and marks the planner's own sheet.
  *
  *   gcc -std=c11 -Wall -Wextra -Werror -Iinclude host/mark.c target/staticlib/liblamp.a -o target/host/mark
  */
@@ -44,6 +44,8 @@ int main(void)
     sheet[8] = 0;
     print(lamp_mark(card, sizeof card, sheet, sizeof sheet));
     sheet[8] = 1;
+    print(lamp_mark(card, sizeof card, sheet, sizeof sheet));
+    sheet[6] = 0;
     print(lamp_mark(card, sizeof card, sheet, sizeof sheet));
     sheet[8] = 3;
     print(lamp_mark(card, sizeof card, sheet, sizeof sheet));

@@ -8,11 +8,11 @@
  * WHAT THE LIBRARY DOES
  *
  * A rack has m identical modules. A show has T slots. In each slot a module is off, or it is active at a
- * step from 0 to Q. Each slot has a load, and the steps of its active modules must sum to that load
- * exactly. An active module costs points in each slot, and switching a module on or off costs points too.
- * The library finds how many modules should be active in each slot, and at which steps, so that the whole
- * show costs the least. It also gives the cost of any other choice, and it makes practice cards, each
- * from a number.
+ * step from 0 to Q. Each slot has a load, and the steps of its active modules must sum to at least that
+ * load. More light is allowed, because the projectors have a shutter. An active module costs points in
+ * each slot, and switching a module on or off costs points too. The library finds how many modules should
+ * be active in each slot, and at which steps, so that the whole show costs the least. It also gives the
+ * cost of any other choice, and it makes practice cards, each from a number.
  *
  *
  * HOW TO LINK IT
@@ -45,8 +45,12 @@
  *   step    The light of an active module, from 0 to Q. A module at step 0 is active, and it costs F(0).
  *   off     A module that is not active is off. It gives no light and costs nothing. All modules are off
  *           before slot 1 and after slot T.
- *   load    The sum of steps that a slot must get.
+ *   light   The light of a slot is the sum of the steps of its active modules.
+ *   load    The light that a slot must get at least.
  *   F(k)    The cost of one active module at step k for one slot. F(0) to F(Q) are the table.
+ *   G(k)    The least of F(k) to F(Q): the least that a module costs which gives step k or more.
+ *   B(k)    The step that is burnt for k: the smallest step j from k to Q with F(j) = G(k). TABLES THAT
+ *           FALL below has an example of G and B.
  *   count   How many modules are active in a slot, from 0 to m.
  *   plan    T bytes: the count of each slot, slot 1 first.
  *   sheet   m * T bytes: one for each slot and module, slot by slot, module 1 first. The byte of module j
@@ -93,10 +97,33 @@
  * warm-up, and one that is active in slot T its cool-down. Each module is charged by itself: if module 1
  * stops and module 2 starts in its place, both changes are charged, though the count stays the same.
  *
+ * A step is charged as it stands in the sheet, also where a higher step would cost less.
+ *
  * A sheet serves the show if it has m * T bytes, each byte is 0 to Q or LAMP_OFF, and in every slot the
- * steps of the active modules sum to the load.
+ * steps of the active modules sum to at least the load.
  *
  * The largest cost of a sheet that serves is below 1.03 * 10^14 points, so every cost fits uint64_t.
+ *
+ *
+ * TABLES THAT FALL
+ *
+ * A table may fall at first: then a module costs less at a higher step. Since more light than the load is
+ * allowed, a module that has to give step k may be active at any higher step, and is so if that costs
+ * less. G(k), the least of F(k) to F(Q), is what it then costs, and B(k), the smallest step j from k to Q
+ * with F(j) = G(k), is the step at which it is active in the sheets that the library makes. For example,
+ * with Q = 3:
+ *
+ *   k      0   1   2   3
+ *   F(k)   6   2   2   5     the table
+ *   G(k)   2   2   2   5     the least entry from here to the right
+ *   B(k)   1   1   2   3     the first step from here to the right that has this entry
+ *
+ * B(0) is 1 and not 2: of two steps that cost the same, the smaller is taken. B(3) is 3: a module that
+ * has to give step 3 cannot be darker, however cheap step 2 is.
+ *
+ * There is a short way to both. Let p be the smallest step with the least entry of the whole table (here
+ * p = 1). Because the table is convex, B(k) is k or p, whichever is greater, and G(k) is F(B(k)). G never
+ * falls. If the table never falls, then p is 0, B(k) is k and G(k) is F(k).
  *
  *
  * THE SHEET OF A PLAN
@@ -105,20 +132,36 @@
  * every load of an accepted card. A plan serves the show if each count can serve the load of its slot.
  *
  * The sheet of a plan is filled slot by slot. In a slot with count n > 0 and load L let q = L / n and let
- * r = L % n. Modules 1 to n are active: the first r at step q + 1, the others at step q. The rest are
- * off. In a slot with count 0 all modules are off. A plan costs what its sheet costs.
+ * r = L % n. Modules 1 to n are active: the first r at step B(q + 1), the others at step B(q). The rest
+ * are off. In a slot with count 0 all modules are off. A plan costs what its sheet costs.
+ *
+ * So the light of a slot with a count above 0 is its load, unless q is less than p: then all its active
+ * modules are at step p, and its light is more than its load. With load 0, for example, they are at B(0).
+ *
+ * An example with the table above, in hex: m = 4, Q = 3, T = 4, warm-up price 3, cool-down price 2,
+ * F = 6 2 2 5, loads 7 2 0 8. It is samples/falls-first.card.
+ *     44 4C 53 01 00 04 03 04 00 03 00 00 00 02 00 00 00 06 00 00 00 02 00 00 00 02 00 00 00 05 00 00 00
+ *     07 00 02 00 00 00 08 00
+ * lamp_plan_exact gives cost 48 and the plan 3 3 3 3. Of that plan lamp_sheet makes this sheet:
+ *     3 2 2 255
+ *     1 1 1 255
+ *     1 1 1 255
+ *     3 3 2 255
+ * Slot 2 has load 2, so q = 0 and r = 2: two modules are at B(1) and one at B(0), all at step 1. They
+ * give light 3 for load 2. Slot 3 has light 3 for load 0. The active modules cost 9 + 6 + 6 + 12 points,
+ * the three warm-ups 9 and the three cool-downs 6. lamp_plan_coarse gives cost 52 and the plan 4 4 4 4.
  *
  *
  * THE TWO PLANNERS
  *
  * lamp_plan_exact gives a plan of least cost. It is proved that no sheet that serves the show costs less.
- * This holds for all sheets that serve, whichever modules they have active and however they spread the
- * light, and not only for sheets of plans.
+ * This holds for all sheets that serve, whichever modules they have active, however they spread the light
+ * and however much more of it they give than the loads, and not only for sheets of plans.
  *
  * lamp_plan_coarse gives a plan of least cost among the plans that use allowed counts only. The allowed
- * counts are 0, each power of two up to m, and m itself. For this planner the card's table must never
- * fall: F(k) <= F(k + 1) for 0 <= k < Q. If it falls somewhere, the call gives refusal 9. It is proved
- * that the plan's cost is at most twice the least cost of any sheet that serves the show.
+ * counts are 0, each power of two up to m, and m itself. It is proved that the plan's cost is at most
+ * twice the least cost of any sheet that serves the show. Both planners take every accepted card, also
+ * one whose table falls.
  *
  * Several plans may have the least cost. Both planners then give the one with the smallest count in slot
  * T; among those the one with the smallest count in slot T - 1; and so on back to slot 1.
@@ -168,10 +211,11 @@
  * and its T is card[7] (card[8] is 0), so it has 17 + 4 * (card[6] + 1) + 2 * card[7] bytes. The other
  * calls are given the card with this length, even if it lies in a longer array.
  *
- * It is proved that every practice card is accepted and that its table never falls. So both planners plan
- * it, with buffers long enough. It is proved that no practice card is longer than LAMP_MAX_PRACTICE, that
- * no draw from a start above 0 gives 0, and that two different starts never give the same number in draws
- * of the same place. From start 0 every draw would give 0, so start 0 is refused, by 14.
+ * It is proved that every practice card is accepted. So both planners plan it, with buffers long enough.
+ * No difference is below 0, so its table never falls. It is proved that no practice card is longer than
+ * LAMP_MAX_PRACTICE, that no draw from a start above 0 gives 0, and that two different starts never give
+ * the same number in draws of the same place. From start 0 every draw would give 0, so start 0 is
+ * refused, by 14.
  *
  * If a host gives a number of more than 32 bits as the start, C takes its low 32 bits: 4,294,967,296
  * becomes 0, and -5 becomes 4,294,967,291. So a host that reads a start from its user first looks whether
@@ -186,6 +230,11 @@
  * serve (13). Only lamp_practice_card has an order of its own: it tests 14 before 10, so start 0 gives 14
  * with every buffer, also with one of length 0. The comment at each call below has its refusals in the
  * order in which they are tested. No call sets errno.
+ *
+ * Number 9 is never given, by any call, which is proved. Before release 2.0.0 a slot had to get its load
+ * exactly, and lamp_plan_coarse refused a table that falls by 9. Now it reads G in the place of F, and G
+ * never falls. The name LAMP_NOT_MONOTONE stays, so that a host which has a case for it compiles, and no
+ * later refusal will get the number 9.
  *
  *
  * BUFFERS
@@ -251,7 +300,7 @@ extern "C" {
 #endif
 
 /* The release of this library. */
-#define LAMP_RELEASE "1.1.0"
+#define LAMP_RELEASE "2.0.0"
 
 /* The version of the cards that this library accepts, and of those that it makes. */
 #define LAMP_CARD_VERSION 1
@@ -292,11 +341,11 @@ enum lamp_refusal {
     LAMP_PRICE_RANGE = 6,       /* price: a price or F entry above its bound */
     LAMP_NOT_CONVEX = 7,        /* bend: table not convex */
     LAMP_LOAD_RANGE = 8,        /* glare: a load above m * Q */
-    LAMP_NOT_MONOTONE = 9,      /* slope: F(k + 1) < F(k) somewhere; coarse planner only */
+    LAMP_NOT_MONOTONE = 9,      /* slope: never given; before release 2.0.0 a table that falls, coarse planner only */
     LAMP_BUFFER_TOO_SHORT = 10, /* desk: a buffer shorter than asked for */
     LAMP_WRONG_LENGTH = 11,     /* roll: a handed-in plan is not T bytes, or a sheet not m * T */
     LAMP_ENTRY_RANGE = 12,      /* entry: a count above m, or a sheet byte from Q + 1 to 254 */
-    LAMP_LOAD_NOT_SERVED = 13,  /* light: a slot's steps do not sum to its load, or a count cannot serve its load */
+    LAMP_LOAD_NOT_SERVED = 13,  /* light: a slot has too little light, or a count cannot serve its load */
     LAMP_ZERO_START = 14        /* start: start 0 of a practice card */
 };
 
@@ -308,9 +357,10 @@ enum lamp_refusal {
  * Refusals:  1 to 8. Every other call that reads a card makes these checks too. */
 struct lamp_answer lamp_check_card(const uint8_t *card, size_t card_len);
 
-/* The running cost of one slot: what `count` active modules cost in a slot with load `load`, without any
- * warm-up or cool-down. With n = count, q = load / n and r = load % n it is (n - r) * F(q) plus, if r is
- * not 0, r * F(q + 1). It is 0 for count 0 and load 0. The load need not be one of the card's.
+/* The running cost of one slot: what `count` active modules cost in a slot with load `load`, as the sheet
+ * of a plan has them, without any warm-up or cool-down. With n = count, q = load / n and r = load % n it
+ * is (n - r) * G(q) plus, if r is not 0, r * G(q + 1). It is 0 for count 0 and load 0. The load need not
+ * be one of the card's. With the table 6 2 2 5, count 3 and load 2 cost G(0) + 2 * G(1) = 6 points.
  *
  * Reads:     card.
  * Writes:    nothing.
@@ -339,10 +389,10 @@ struct lamp_answer lamp_plan_exact(const uint8_t *card, size_t card_len, uint8_t
  * Writes:    plan, work.
  * Asks for:  T bytes of plan, 10 * T bytes of work.
  * Success:   the plan's cost. The first T bytes of plan hold the plan, the first 10 * T bytes of work are
- *            zero, and all further bytes are as they were. An accepted card whose table never falls is
- *            always planned, with buffers long enough.
- * Refusals:  1 to 8; 9 if F(k + 1) < F(k) for some k; 10 if plan_len or work_len is less than asked for.
- *            All bytes of plan and work are as they were. */
+ *            zero, and all further bytes are as they were. An accepted card with buffers long enough is
+ *            always planned.
+ * Refusals:  1 to 8; 10 if plan_len or work_len is less than asked for. All bytes of plan and work are as
+ *            they were. */
 struct lamp_answer lamp_plan_coarse(const uint8_t *card, size_t card_len, uint8_t *plan, size_t plan_len, uint8_t *work,
                                     size_t work_len);
 
@@ -358,13 +408,15 @@ struct lamp_answer lamp_plan_coarse(const uint8_t *card, size_t card_len, uint8_
 struct lamp_answer lamp_sheet(const uint8_t *card, size_t card_len, const uint8_t *plan, size_t plan_len,
                               uint8_t *sheet, size_t sheet_len);
 
-/* Marks a sheet: checks that it serves the show, and gives its cost.
+/* Marks a sheet: checks that it serves the show, and gives its cost. Each step is charged F(step), as it
+ * is handed in.
  *
  * Reads:     card, sheet. sheet_len must be m * T.
  * Writes:    nothing.
  * Success:   the sheet serves the show; its cost.
- * Refusals:  1 to 8; 11 if sheet_len is not m * T; 12 if a byte is from Q + 1 to 254; 13 if the steps of
- *            a slot do not sum to its load. */
+ * Refusals:  1 to 8; 11 if sheet_len is not m * T; 12 if a byte is from Q + 1 to 254; 13 if a slot has
+ *            too little light, that is, the steps of its active modules sum to less than its load. More
+ *            light than the load is accepted. */
 struct lamp_answer lamp_mark(const uint8_t *card, size_t card_len, const uint8_t *sheet, size_t sheet_len);
 
 /* The rounded count: the smallest count not below `count` that lamp_plan_coarse may use in a rack of

@@ -71,6 +71,14 @@ expect("an entry", card(table=(1, 2, 1000001)), refused(6))
 expect("a table that is not convex", card(table=(0, 2, 3)), refused(7))
 expect("a load", card(loads=(7,)), refused(8))
 
+# Tables that fall: a module burns at its share or at a higher step that costs less, and at the smallest of several that cost the same.
+steps = b"slot 1: 2 - -\nslot 2: 2 2 2\nslot 3: - - -\n"
+expect("a table that falls up to the top step", card(table=(4, 2, 1), loads=(1, 6, 0)), b"cost 19\nplan 1 3 0\n" + steps)
+steps = b"plan 1 1 1\nslot 1: 2\nslot 2: 1\nslot 3: 1\n"
+for table, cost in (((5, 1, 9), 29), ((5, 1, 1), 21)):
+    falling = card(m=1, up=9, down=9, table=table, loads=(2, 0, 1))
+    expect(f"a dark slot, table {table}", falling, b"cost %d\n" % cost + steps)
+
 flat = [0] * 201
 largest = card(m=1, q=200, table=flat, loads=(0,) * 1024)
 assert len(largest) == 2869

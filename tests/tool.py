@@ -109,24 +109,52 @@ def words_of_plan(data):
     return said.partition(b"\n")[0] + b"\n"
 
 
+ACCEPTED = ("a", "e", "empty", "falls-first", "keep-burning", "v-shaped")
+EXACT = b"# exact plan: no sheet that serves the show costs less\n"
+COARSE = b"# coarse plan: at most twice the least cost, NOT the key of the exact plan\n"
+BRIGHTER = "slots with more light than their load, because that costs less: "
+
+
 def keys():
-    for name in ("a", "e", "empty", "keep-burning", "v-shaped"):
+    for name in ACCEPTED:
         wanted = (SAMPLES / f"{name}.out").read_bytes()
         status, out, err = lamp("key", SAMPLES / f"{name}.card")
-        head, _, listing = out.partition(b"# exact plan: no sheet that serves the show costs less\n")
-        expect(f"key of {name}", (status, listing, err), 0, wanted)
+        head, _, listing = out.partition(EXACT)
+        brighter = f"# {BRIGHTER}2 to 3\n".encode() if name == "falls-first" else b""
+        expect(f"key of {name}", (status, listing, err), 0, brighter + wanted)
         expect(f"show before the key of {name}", (0, head, b""), 0, lamp("show", SAMPLES / f"{name}.card")[1] + b"\n")
-    status, out, _ = lamp("key", "--coarse", SAMPLES / "e.card")
-    require("coarse key", status == 0 and b"coarse plan: at most twice the least cost, NOT" in out and b"\ncost 8\nplan 8 8 8\n" in out)
-    falls = "refused 9: table falls somewhere; coarse plan only"
+    coarse_keys()
     for command in ("key", "page", "picture"):
-        falling = lamp(command, SAMPLES / "v-shaped.card", "--coarse")
-        expect(f"{command} of a falling table", falling, 1, b"", falls, "F(1) 1 is below F(0) 5")
         refused = lamp(command, SAMPLES / "not-convex.card")
         expect(f"{command} of a refused card", refused, 1, b"", f"lamp: {SAMPLES}/not-convex.card: refused 7: table not convex")
+    many = card(m=1, q=2, up=100, down=100, table=(5, 1, 9), loads=(1, 0, 0, 1) * 13)
+    runs = f"{BRIGHTER}2 to 3, 6 to 7, 10 to 11, 14 to 15, 18 to 19, 22 to 23, 26 to 27, 30 to 31, 34 to 35, 38 to 39, and 6 more"
+    require("many slots brighter than their load", f"\n# {runs}\ncost 252\n".encode() in lamp("key", "-", data=many)[1])
     beyond = card(m=200, loads=(3,) * 327)
     status, out, _ = lamp("key", "-", data=beyond)
     require("m 200, T 327", status == 0 and len(out.splitlines()) == 7 + 32 + 2 + 2 + 327)
+
+
+def coarse_keys():
+    """The coarse planner takes every accepted card, also one whose table falls."""
+    brighter = f"# {BRIGHTER}2 to 3\n".encode()
+    falling = b"cost 52\nplan 4 4 4 4\nslot 1: 2 2 2 1\nslot 2: 1 1 1 1\nslot 3: 1 1 1 1\nslot 4: 2 2 2 2\n"
+    listings = {
+        "e": b"cost 8\nplan 8 8 8\nslot 1: 1 1 1 1 1 0 0 0\nslot 2: 1 1 1 0 0 0 0 0\nslot 3: 1 1 1 1 1 0 0 0\n",
+        "v-shaped": b"cost 2\nplan 2\nslot 1: 1 1\n",
+        "falls-first": brighter + falling,
+    }
+    for name, wanted in listings.items():
+        status, out, err = lamp("key", "--coarse", SAMPLES / f"{name}.card")
+        head, _, listing = out.partition(COARSE)
+        expect(f"coarse key of {name}", (status, listing, err), 0, wanted)
+        expect(f"show before the coarse key of {name}", (0, head, b""), 0, lamp("show", SAMPLES / f"{name}.card")[1] + b"\n")
+    for name, cost in {"v-shaped": b"2", "falls-first": b"52"}.items():
+        for command in ("page", "picture"):
+            status, out, err = lamp(command, "--coarse", SAMPLES / f"{name}.card")
+            require(f"coarse {command} of {name}", status == 0 and b"Coarse plan, cost %s" % cost in out and not err)
+    accepted = b"accepted: 2 modules, top step 2, 1 slot, warm-up 0, cool-down 0\n"
+    expect("a falling table, checked", lamp("check", SAMPLES / "v-shaped.card"), 0, accepted)
 
 
 D_BYTES = bytes([2, 2, 2, 255, 0, 255, 2, 255, 255])
@@ -141,6 +169,32 @@ def marks():
     expect("D as bytes", lamp("mark", "--bytes", a, "-", data=D_BYTES), 0, b"cost 37\nleast 32\nabove 5\n")
     expect("no slot", lamp("mark", SAMPLES / "empty.card", "-"), 0, b"cost 0\nleast 0\nabove 0\n")
     require("a refused card", lamp("mark", SAMPLES / "not-convex.card", sheet)[1].startswith(b"refused 7: table not convex\n"))
+    more_light()
+
+
+def more_light():
+    """A sheet with more light than the loads is accepted, and each step is charged as it stands, also where a higher one costs less."""
+    a, falling = SAMPLES / "a.card", SAMPLES / "falls-first.card"
+    light = WORDS[2].encode()
+    for name, path, text, cost, least in (
+        ("slot 3 of D", a, b"2 2 2\n- 0 -\n2 - 1\n", 44, 32),
+        ("slot 2 of D", a, b"2 2 2\n- 1 -\n2 - -\n", 38, 32),
+        ("all at the top", a, b"2 2 2\n2 2 2\n2 2 2\n", 51, 32),
+        ("the planner's sheet", falling, b"3 2 2 -\n1 1 1 -\n1 1 1 -\n3 3 2 -\n", 48, 48),
+        ("the loads and no more", falling, b"3 2 2 -\n1 1 0 -\n0 0 0 -\n3 3 2 -\n", 64, 48),
+        ("another step that costs the same", falling, b"3 2 2 -\n2 2 2 -\n1 2 1 -\n3 3 2 -\n", 48, 48),
+        ("the top step in dark slots", falling, b"3 2 2 -\n3 3 3 -\n3 3 3 -\n3 3 2 -\n", 66, 48),
+    ):
+        wanted = b"cost %d\nleast %d\nabove %d\n" % (cost, least, cost - least)
+        expect(f"more light: {name}", lamp("mark", path, "-", data=text), 0, wanted)
+        bytes_of = bytes(255 if step == "-" else int(step) for step in text.decode().split())
+        expect(f"more light, as bytes: {name}", lamp("mark", "--bytes", path, "-", data=bytes_of), 0, wanted)
+    darker = b"3 2 2 -\n1 0 0 -\n0 0 0 -\n3 3 1 -\n"
+    places = b"  slot 2: light 1 where the load is 2, 1 too little (line 2)\n  slot 4: light 7 where the load is 8, 1 too little (line 4)\n"
+    expect("one step darker", lamp("mark", falling, "-", data=darker), 1, light + places)
+    mixed = b"3 3 3 3\n3 3 3 3\n3 3 3 3\n1 1 1 -\n"
+    place = b"  slot 4: light 3 where the load is 8, 5 too little (line 4)\n"
+    expect("much light before a dark slot", lamp("mark", falling, "-", data=mixed), 1, light + place)
 
 
 def refused_sheets():
@@ -157,8 +211,8 @@ def refused_sheets():
         b"2 2 2\n- 0 -\n2 - -\n2 -\n": length + b"  4 slots where the show has 3\n",
         b"2 2 2\n- 3 -\n2 - 9\n": entry
         + b"  slot 2, module 2: step 3, above 2 (line 2, column 3)\n  slot 3, module 3: step 9, above 2 (line 3, column 5)\n",
-        b"2 2 1\n- 1 -\n2 - -\n": light
-        + b"  slot 1: light 5 where the load is 6, 1 too little (line 1)\n  slot 2: light 1 where the load is 0, 1 too much (line 2)\n",
+        b"2 2 1\n- 1 -\n0 - -\n": light
+        + b"  slot 1: light 5 where the load is 6, 1 too little (line 1)\n  slot 3: light 0 where the load is 2, 2 too little (line 3)\n",
     }
     for text, wanted in refusals.items():
         expect(f"sheet {text!r}", lamp("mark", a, "-", data=text), 1, wanted)
@@ -190,7 +244,7 @@ def no_sheets():
 WORDS = (
     "refused 11: a handed-in plan or sheet of another length than the show has\n",
     "refused 12: a count above the modules, or a step above the top step\n",
-    "refused 13: a slot's steps do not sum to its load, or a count cannot serve its load\n",
+    "refused 13: a slot has too little light, or a count cannot serve its load\n",
 )
 
 
@@ -199,6 +253,11 @@ def numbers():
     expect("B", lamp("cost", a, "3", "4"), 0, b"8\n")
     expect("C", lamp("cost", a, "2", "5"), 1, b"", "refused 13", "2 modules can give 4 steps, not 5")
     expect("C, count 0", lamp("cost", a, "0", "0"), 0, b"0\n")
+    falling = SAMPLES / "falls-first.card"
+    for count, load, cost in ((3, 2, 6), (3, 0, 6), (1, 0, 2), (1, 2, 2), (1, 3, 5), (3, 8, 12), (4, 12, 20), (0, 0, 0)):
+        expect(f"a falling table, {count} and {load}", lamp("cost", falling, str(count), str(load)), 0, b"%d\n" % cost)
+    few = "refused 13: a slot has too little light, or a count cannot serve its load\n  1 module can give 3 steps, not 4\n"
+    expect("a falling table, too few modules", lamp("cost", falling, "1", "4"), 1, b"", few)
     expect("a count above the rack", lamp("cost", a, "4", "0"), 1, b"", "refused 12", "count 4 in a rack of 3 modules")
     expect("cost on a refused card", lamp("cost", SAMPLES / "not-convex.card", "1", "1"), 1, b"", "refused 7: table not convex")
     expect("a load that is no number", lamp("cost", a, "3", "x"), 2, b"", "LOAD x is not a number")
@@ -757,9 +816,12 @@ def listed(path):
 
 
 def pictures(folder):
-    cards = {name: SAMPLES / f"{name}.card" for name in ("a", "e", "empty", "keep-burning", "v-shaped")}
+    cards = {name: SAMPLES / f"{name}.card" for name in ACCEPTED}
     table = tuple(400 + 3 * k + k * (k - 1) // 2 for k in range(201))
+    falling = tuple((k - 90) ** 2 for k in range(201))
     made = {
+        "falling": card(m=60, q=200, up=9000, down=7000, table=falling, loads=tuple(2999 * t % 12001 for t in range(33))),
+        "falling and wide": card(m=30, q=200, up=9000, down=7000, table=falling, loads=tuple(999 * t % 6001 for t in range(1024))),
         "largest": card(m=200, q=200, up=900, down=700, table=table, loads=tuple(20000 + 97 * t % 20001 for t in range(1024))),
         "40 slots": card(m=26, q=200, up=90, down=70, table=table, loads=tuple(131 * t % 5201 for t in range(40))),
         "33 slots": card(m=60, q=9, up=9, down=7, table=table[:10], loads=tuple(53 * t % 541 for t in range(33))),
@@ -772,8 +834,11 @@ def pictures(folder):
         own = "\n".join(f"slot {t + 1}: {' '.join(row)}" for t, row in enumerate(rows)).encode()
         marked = b"cost %d\nleast %d\nabove 0\n" % (cost, cost)
         expect(f"marks of the planner's sheet of {name}", lamp("mark", path, "-", data=own), 0, marked)
-        picture_of(name, path, cost, loads, counts, rows)
-        page_of(name, path, cost, loads, counts, rows)
+        lights = [sum(int(step) for step in row if step != "-") for row in rows]
+        lights = lights if lights != loads else None
+        require(f"more light than the loads of {name}", (lights is not None) == name.startswith("fall"))
+        picture_of(name, path, cost, loads, lights, counts, rows)
+        page_of(name, path, cost, loads, lights, counts, rows)
     coarse = lamp("picture", "--coarse", SAMPLES / "e.card")[1]
     require("coarse title", ElementTree.fromstring(coarse).find(f"{SVG}title").text.startswith("Coarse plan, cost 8. e.card"))
 
@@ -794,8 +859,8 @@ class Grid:
         return self.left + slot * self.wide + self.wide // 2
 
 
-def picture_of(name, path, cost, loads, counts, rows):
-    """The picture shows the show's loads, counts and steps, each in its place."""
+def picture_of(name, path, cost, loads, lights, counts, rows):
+    """The picture shows the show's loads, counts and steps, each in its place, and the light where some slot gets more than its load."""
     root = ElementTree.fromstring(lamp("picture", path)[1])
     without_references(f"picture of {name}", root)
     title = root.find(f"{SVG}title").text
@@ -803,7 +868,10 @@ def picture_of(name, path, cost, loads, counts, rows):
     head = path.read_bytes()
     grid = Grid(root, len(loads), head[5])
     shaded(name, root, grid, rows)
-    lines_of(name, root, grid, {"#b35900": (loads, head[5] * head[6]), "#08306b": (counts, head[5])})
+    lines = {"#d9a300": (lights, head[5] * head[6])} if lights else {}
+    lines_of(name, root, grid, {**lines, "#b35900": (loads, head[5] * head[6]), "#08306b": (counts, head[5])})
+    legend = [text.text for text in root.iter(f"{SVG}text") if text.text.startswith("Shade: ")]
+    require(f"legend of {name}", len(legend) == 1 and ("Dotted line: light." in legend[0]) == bool(lights))
     texts = [(text.get("fill"), int(text.get("x")), int(text.get("y")), text.text) for text in root.iter(f"{SVG}text") if text.get("fill")]
     axes(name, grid, texts, len(loads), head[5])
     if grid.wide >= 24 and grid.tall >= 14:
@@ -829,11 +897,11 @@ def shaded(name, root, grid, rows):
 
 
 def lines_of(name, root, grid, wanted):
-    """A line for the loads and one for the counts, each from 0 to what the full rack has."""
+    """A line for the loads and one for the counts, each from 0 to what the full rack has, and one for the light before them."""
     box = root.findall(f"{SVG}rect")[1]
     upper, tall = int(box.get("y")), int(box.get("height"))
     found = {line.get("stroke"): line.get("points").split() for line in root.findall(f"{SVG}polyline")}
-    ensure(f"lines of {name}", found.keys() == (wanted.keys() if wanted["#08306b"][0] else set()))
+    ensure(f"lines of {name}", list(found) == (list(wanted) if wanted["#08306b"][0] else []))
     for colour, (values, most) in wanted.items():
         points = [tuple(map(float, point.split(","))) for point in found.get(colour, [])]
         heights = [upper + tall - tall * value / most for value in values]
@@ -864,9 +932,12 @@ def written(name, grid, texts, loads, counts, rows):
     require(f"steps in the picture of {name}", inside == wanted)
 
 
-def page_of(name, path, cost, loads, counts, rows):
-    """The page holds the show, the cost, the plan and the sheet, each number in its place."""
+def page_of(name, path, cost, loads, lights, counts, rows):
+    """The page holds the show, the cost, the plan and the sheet, each number in its place, and the light where some slot gets more than its
+    load."""
     root = ElementTree.fromstring(lamp("page", path)[1])
+    said = [text.text for text in root.iter(f"{HTML}p") if text.text.startswith(BRIGHTER)]
+    require(f"the page of {name} says where there is more light", len(said) == (1 if lights else 0))
     without_references(f"page of {name}", root)
     require(f"heading of {name}", root.find(f"{HTML}body/{HTML}h1").text == f"Least cost {cost:,}")
     require(f"show of {name}", root.find(f".//{HTML}pre").text.encode() == lamp("show", path)[1])
@@ -884,14 +955,15 @@ def page_of(name, path, cost, loads, counts, rows):
         require(f"no sheet of {name}", sheet is None)
         return
     modules = len(rows[0])
-    heading = ["slot", "load", "count", *(["modules"] if modules > 25 else []), *map(str, range(1, min(modules, 25) + 1))]
+    names = ["slot", "load", *(["light"] if lights else []), "count"]
+    heading = [*names, *(["modules"] if modules > 25 else []), *map(str, range(1, min(modules, 25) + 1))]
     require(f"heading of the sheet of {name}", cells(sheet.find(f"{HTML}thead")[0]) == heading)
     wanted = []
     for slot, row in enumerate(rows):
         lines = [row[at : at + 25] for at in range(0, modules, 25)]
-        facts = [f"{slot + 1:,}", f"{loads[slot]:,}", str(counts[slot])]
+        facts = [f"{slot + 1:,}", f"{loads[slot]:,}", *([f"{lights[slot]:,}"] if lights else []), str(counts[slot])]
         labels = [[f"{25 * at + 1} to {25 * at + len(line)}"] if modules > 25 else [] for at, line in enumerate(lines)]
-        wanted.append([(facts if at == 0 else [""] * 3) + labels[at] + line for at, line in enumerate(lines)])
+        wanted.append([(facts if at == 0 else [""] * len(names)) + labels[at] + line for at, line in enumerate(lines)])
     require(f"sheet of {name}", [[cells(line) for line in slot] for slot in sheet.findall(f"{HTML}tbody")] == wanted)
 
 

@@ -46,6 +46,12 @@ pub fn small(modules: u8, table: &[u32], loads: &[u16]) -> Card {
     Card { modules, top: (table.len() - 1) as u8, up: 3, down: 2, table: table.to_vec(), loads: loads.to_vec() }
 }
 
+/// A card whose table falls up to a step and rises from there on, more steeply with each step.
+pub fn lowest_at(lowest: u8, card: Card) -> Card {
+    let table = (0..=card.top).map(|step| 300 + 20 * u32::from(step.abs_diff(lowest)).pow(2)).collect();
+    Card { table, ..card }
+}
+
 /// The largest card: m 200, Q 200, T 1,024, with every load `load`.
 pub fn largest(load: u16) -> Card {
     Card {

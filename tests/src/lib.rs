@@ -1,5 +1,5 @@
 //! Tests of the lamp library through its C boundary. Nothing here shares text with the Rattle sources: `plain` is written from
-//! document 01 alone, and `practice` from document 02.
+//! document 01 and from section 2 of document 02, and `practice` from section 1 of document 02.
 pub mod boundary;
 pub mod cards;
 pub mod classes;

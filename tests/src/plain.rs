@@ -1,4 +1,5 @@
-//! Document 01 written out plainly, with no care for speed: what every call must answer.
+//! Document 01 with section 2 of document 02, written out plainly, with no care for speed: what every call must answer. Nothing here
+//! uses that a table is convex.
 use crate::boundary::{Answer, Outcome, Planner};
 
 /// The numbers of an accepted card.
@@ -63,11 +64,22 @@ impl Show {
         self.up + self.down
     }
 
-    pub fn never_falls(&self) -> bool {
-        self.table.windows(2).all(|w| w[0] <= w[1])
+    pub fn falls(&self) -> bool {
+        self.table.windows(2).any(|w| w[1] < w[0])
     }
 
-    /// 'Running cost of a count', or nothing where the pair cannot be served.
+    /// G(k), the least F(j) for j from k to Q.
+    pub fn least_from(&self, step: u64) -> u64 {
+        (step..=self.top).map(|j| self.table[j as usize]).min().expect("a step is at most Q")
+    }
+
+    /// The step that is burnt for step k: the smallest j from k to Q with F(j) = G(k).
+    pub fn burnt(&self, step: u64) -> u64 {
+        let least = self.least_from(step);
+        (step..=self.top).find(|j| self.table[*j as usize] == least).expect("the least is one of them")
+    }
+
+    /// 'Running cost of a count' with G in place of F, or nothing where the pair cannot be served.
     pub fn running_cost(&self, count: u64, load: u64) -> Option<u64> {
         if count == 0 {
             return (load == 0).then_some(0);
@@ -75,9 +87,9 @@ impl Show {
         if load > count * self.top {
             return None;
         }
-        let (step, rest) = ((load / count) as usize, load % count);
-        let second = if rest == 0 { 0 } else { rest * self.table[step + 1] };
-        Some((count - rest) * self.table[step] + second)
+        let (step, rest) = (load / count, load % count);
+        let second = if rest == 0 { 0 } else { rest * self.least_from(step + 1) };
+        Some((count - rest) * self.least_from(step) + second)
     }
 
     /// The counts allowed to a planner.
@@ -98,14 +110,20 @@ impl Show {
                 out.push(if module >= count {
                     OFF
                 } else {
-                    (load / count) as u8 + u8::from(module < load % count)
+                    self.burnt(load / count + u64::from(module < load % count)) as u8
                 });
             }
         }
         out
     }
 
-    /// Which of 11, 12, 13 a sheet gets first, if any.
+    /// The light of each slot of a sheet that has a byte for each slot and module: the sum of the steps of the burning modules.
+    pub fn lights(&self, sheet: &[u8]) -> Vec<u64> {
+        let light = |row: &[u8]| row.iter().filter(|byte| **byte != OFF).map(|byte| u64::from(*byte)).sum();
+        sheet.chunks(self.modules as usize).map(light).collect()
+    }
+
+    /// Which of 11, 12, 13 a sheet gets first, if any. 13 is for too little light only.
     pub fn sheet_refusal(&self, sheet: &[u8]) -> Option<u64> {
         let modules = self.modules as usize;
         if sheet.len() != modules * self.slots() {
@@ -114,14 +132,10 @@ impl Show {
         if sheet.iter().any(|byte| *byte != OFF && u64::from(*byte) > self.top) {
             return Some(12);
         }
-        let light = |row: &[u8]| row.iter().filter(|byte| **byte != OFF).map(|byte| u64::from(*byte)).sum::<u64>();
-        if sheet.chunks(modules).zip(&self.loads).any(|(row, load)| light(row) != *load) {
-            return Some(13);
-        }
-        None
+        self.lights(sheet).iter().zip(&self.loads).any(|(light, load)| light < load).then_some(13)
     }
 
-    /// A sheet's cost, module by module.
+    /// A sheet's cost, module by module, with F of each step as it stands in the sheet.
     pub fn sheet_cost(&self, sheet: &[u8]) -> u64 {
         let modules = self.modules as usize;
         let mut cost = 0;
@@ -272,9 +286,6 @@ pub fn plan(planner: Planner, card: &[u8], plan: &[u8], work: &[u8]) -> Outcome 
         Err(number) => return refused(number),
     };
     let coarse = planner == Planner::Coarse;
-    if coarse && !show.never_falls() {
-        return refused(9);
-    }
     let asked = if coarse { 10 * show.slots() } else { (show.modules as usize + 1) * show.slots() };
     if plan.len() < show.slots() || work.len() < asked {
         return refused(10);

@@ -2,15 +2,19 @@
 use crate::cards::Card;
 use crate::random::Random;
 
-/// A convex table: 0 falling, 1 flat, 2 V-shaped, 3 rising.
+/// A convex table: 0 falling, 1 flat, 2 V-shaped, 3 rising, 4 V-shaped with a flat bottom.
 pub fn table(random: &mut Random, top: u64, shape: u64, steepest: u64) -> Vec<u32> {
-    let mut differences: Vec<i64> = (0..top).map(|_| random.below(steepest + 1) as i64).collect();
-    match shape {
-        0 => differences.iter_mut().for_each(|d| *d = -*d),
-        1 => differences.iter_mut().for_each(|d| *d = 0),
-        2 => differences.iter_mut().for_each(|d| *d -= steepest as i64 / 2),
-        _ => {}
-    }
+    let mut difference = || {
+        let drawn = random.below(2 * steepest + 1) as i64 - steepest as i64;
+        match shape {
+            0 => -drawn.abs(),
+            1 => 0,
+            2 => drawn,
+            3 => drawn.abs(),
+            _ => drawn * random.below(2) as i64,
+        }
+    };
+    let mut differences: Vec<i64> = (0..top).map(|_| difference()).collect();
     differences.sort_unstable();
     let fall: i64 = differences.iter().filter(|d| **d < 0).map(|d| -d).sum();
     let mut entry = fall + random.below(steepest + 1) as i64;
@@ -24,7 +28,7 @@ pub fn table(random: &mut Random, top: u64, shape: u64, steepest: u64) -> Vec<u3
 
 /// An accepted card.
 pub fn card(random: &mut Random, modules: u64, top: u64, slots: u64, steepest: u64) -> Card {
-    let shape = random.below(4);
+    let shape = random.pick(&[0, 1, 2, 2, 3, 4]);
     let price = |random: &mut Random| if random.below(3) == 0 { 0 } else { random.below(2 * steepest + 2) as u32 };
     let table = table(random, top, shape, steepest);
     let most = modules * top;
@@ -42,6 +46,13 @@ pub fn classes(card: &Card) -> Vec<&'static str> {
         (false, true) => "rising table",
         (false, false) => "flat table",
     }];
+    let least = card.table.iter().min();
+    if falls && card.table.iter().filter(|entry| Some(*entry) == least).count() > 1 {
+        out.push("falls to several lowest steps");
+    }
+    if card.table[..card.table.len() - 1].iter().all(|entry| Some(entry) != least) {
+        out.push("lowest at Q alone");
+    }
     if card.loads.is_empty() {
         out.push("T 0");
     }
@@ -59,11 +70,13 @@ pub fn classes(card: &Card) -> Vec<&'static str> {
 }
 
 /// All class names of `classes`.
-pub const ALL_CLASSES: [&str; 10] = [
+pub const ALL_CLASSES: [&str; 12] = [
     "V-shaped table",
     "falling table",
     "rising table",
     "flat table",
+    "falls to several lowest steps",
+    "lowest at Q alone",
     "T 0",
     "Q 1",
     "m 1",

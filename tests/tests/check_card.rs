@@ -15,11 +15,7 @@ fn expected(card: &[u8]) -> Answer {
 fn compare(card: &[u8], classes: &mut Classes) {
     let found = check_card(card);
     assert_eq!(found, expected(card), "card {card:02X?}");
-    classes.see(&found.number.to_string());
-}
-
-fn numbers() -> [&'static str; 9] {
-    ["0", "1", "2", "3", "4", "5", "6", "7", "8"]
+    classes.see_number(found.number);
 }
 
 /// Valid cards of several shapes.
@@ -59,7 +55,7 @@ fn examples_h_k_l() {
 
 #[test]
 fn every_byte_changed() {
-    let mut classes = Classes::new("each byte changed", &numbers());
+    let mut classes = Classes::new("each byte changed", &[]).with_numbers(0..=8);
     for card in base_cards() {
         compare(&card, &mut classes);
         for place in 0..card.len() {
@@ -75,7 +71,7 @@ fn every_byte_changed() {
 
 #[test]
 fn every_length() {
-    let mut classes = Classes::new("each length", &["0", "1", "5"]);
+    let mut classes = Classes::new("each length", &[]).with_numbers([0, 1, 5]);
     for card in base_cards() {
         for length in 0..=card.len() {
             compare(&card[..length], &mut classes);
@@ -90,7 +86,7 @@ fn every_length() {
 /// Several faults at once, so that the lowest number must win.
 #[test]
 fn several_faults() {
-    let mut classes = Classes::new("several faults (seed 11)", &numbers());
+    let mut classes = Classes::new("several faults (seed 11)", &[]).with_numbers(0..=8);
     let mut random = Random::new(11);
     for _ in 0..200_000 {
         let mut card = random_card(&mut random).bytes();

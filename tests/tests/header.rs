@@ -38,6 +38,17 @@ fn refusals_have_the_headers_names_and_numbers() {
     assert_eq!(found, bound);
 }
 
+/// 9 keeps its name and its number, and no call has it among its refusals.
+#[test]
+fn no_call_names_nine() {
+    let header = read("include/lamp.h");
+    let calls: Vec<&str> = header.split(" * Refusals: ").skip(1).map(|rest| rest.split("*/").next().unwrap()).collect();
+    assert_eq!(calls.len(), 8);
+    for refusals in calls {
+        assert!(refusals.split(|c: char| !c.is_ascii_digit()).all(|number| number != "9"), "{refusals}");
+    }
+}
+
 /// A parameter of C as Rust writes it.
 fn parameter(text: &str) -> String {
     let pointers = [("const uint8_t *", "*const u8"), ("uint8_t *", "*mut u8")];

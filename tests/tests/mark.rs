@@ -5,6 +5,7 @@ use lamp_tests::classes::Classes;
 use lamp_tests::plain::{self, OFF};
 use lamp_tests::random::Random;
 use lamp_tests::shows;
+use std::cmp::Ordering;
 
 const D: [u8; 9] = [2, 2, 2, OFF, 0, OFF, 2, OFF, OFF];
 
@@ -33,7 +34,8 @@ fn entries() {
     };
     assert_eq!(with(3, 3), 12);
     assert_eq!(with(3, 254), 12);
-    assert_eq!(with(3, 1), 13);
+    assert_eq!(with(3, 1), 0);
+    assert_eq!(with(0, 1), 13);
     assert_eq!(with(4, OFF), 0);
     assert_eq!(with(0, OFF), 13);
     assert_eq!(mark(&card_a(), &D[..8]).number, 11);
@@ -42,31 +44,122 @@ fn entries() {
     assert_eq!(mark(&small(3, &[1, 2], &[]).bytes(), &[]), Answer::cost(0));
 }
 
+/// A slot has at least its load. Every step is charged F as it is handed in, though a brighter one may cost less.
+#[test]
+fn at_least_the_load() {
+    let marked = |load: u16, sheet: [u8; 2]| mark(&small(2, &[5, 1, 9], &[load]).bytes(), &sheet);
+    // just the load
+    assert_eq!(marked(2, [1, 1]), Answer::cost(1 + 1 + 10));
+    assert_eq!(marked(2, [2, OFF]), Answer::cost(9 + 5));
+    assert_eq!(marked(2, [2, 0]), Answer::cost(9 + 5 + 10));
+    // more light
+    assert_eq!(marked(2, [2, 1]), Answer::cost(9 + 1 + 10));
+    assert_eq!(marked(2, [2, 2]), Answer::cost(9 + 9 + 10));
+    assert_eq!(marked(1, [2, OFF]), Answer::cost(9 + 5));
+    assert_eq!(marked(0, [0, 0]), Answer::cost(5 + 5 + 10));
+    assert_eq!(marked(0, [1, OFF]), Answer::cost(1 + 5));
+    assert_eq!(marked(0, [2, 2]), Answer::cost(9 + 9 + 10));
+    assert_eq!(marked(0, [OFF, OFF]), Answer::cost(0));
+    // too little light
+    for sheet in [[1, 0], [1, OFF], [0, 1], [0, 0], [OFF, OFF]] {
+        assert_eq!(marked(2, sheet), Answer::refused(13));
+    }
+    assert_eq!(marked(4, [2, 1]), Answer::refused(13));
+}
+
+/// The light of one slot is no help to another.
+#[test]
+fn each_slot_by_itself() {
+    let card = small(2, &[5, 1, 9], &[1, 3, 2]).bytes();
+    assert_eq!(mark(&card, &[1, OFF, 2, 1, 1, 1]).number, 0);
+    assert_eq!(mark(&card, &[2, 2, 2, 1, 2, 2]).number, 0);
+    for sheet in [[0, OFF, 2, 2, 2, 2], [2, 2, 1, 1, 2, 2], [2, 2, 2, 2, 1, OFF]] {
+        assert_eq!(mark(&card, &sheet), Answer::refused(13));
+    }
+}
+
+/// Sheets with just the loads, and each with one step up or down: brighter is accepted and costs the difference, darker is 13.
+#[test]
+fn one_step_brighter_or_darker() {
+    let names = ["just the loads", "brighter and cheaper", "brighter and as dear", "brighter and dearer", "darker"];
+    let mut classes = Classes::new("one step of a sheet changed (seed 42)", &names).with_numbers([0, 13]);
+    let mut random = Random::new(42);
+    for _ in 0..3_000 {
+        let (modules, top, slots) = (1 + random.below(4), 1 + random.below(5), 1 + random.below(3));
+        let mut card = shows::card(&mut random, modules, top, slots, 9);
+        let sheet = random_sheet(&mut random, modules, top, slots);
+        card.loads = plain::read_card(&card.bytes()).unwrap().lights(&sheet).iter().map(|light| *light as u16).collect();
+        let bytes = card.bytes();
+        let mut marked = |sheet: &[u8]| {
+            let found = mark(&bytes, sheet);
+            classes.see_number(found.number);
+            found
+        };
+        let cost = marked(&sheet).cost;
+        assert_eq!(marked(&sheet).number, 0, "{card:?}, sheet {sheet:?}");
+        let mut seen = vec!["just the loads"];
+        for place in (0..sheet.len()).filter(|place| sheet[*place] != OFF) {
+            let (mut changed, step) = (sheet.clone(), usize::from(sheet[place]));
+            if step < top as usize {
+                changed[place] = step as u8 + 1;
+                let (now, before) = (card.table[step + 1], card.table[step]);
+                let wanted = cost + u64::from(now) - u64::from(before);
+                assert_eq!(marked(&changed), Answer::cost(wanted), "{card:?}, sheet {changed:?}");
+                seen.push(match now.cmp(&before) {
+                    Ordering::Less => "brighter and cheaper",
+                    Ordering::Equal => "brighter and as dear",
+                    Ordering::Greater => "brighter and dearer",
+                });
+            }
+            if step > 0 {
+                changed[place] = step as u8 - 1;
+                assert_eq!(marked(&changed), Answer::refused(13), "{card:?}, sheet {changed:?}");
+                seen.push("darker");
+            }
+        }
+        seen.into_iter().for_each(|name| classes.see(name));
+    }
+    classes.require_all();
+}
+
 #[test]
 fn largest_sheet() {
     let card = largest(40_000).bytes();
     let sheet = vec![200; 200 * 1_024];
     assert_eq!(mark(&card, &sheet), plain::mark(&card, &sheet));
     assert_eq!(mark(&card, &sheet).number, 0);
+    // one step too dark in the last slot alone
+    let darker = [&sheet[1..], &[199]].concat();
+    assert_eq!(mark(&card, &darker), Answer::refused(13));
+    // all that light for no load
+    assert_eq!(mark(&largest(0).bytes(), &sheet), mark(&card, &sheet));
+}
+
+/// A sheet with bytes from 0 to `top` and 255.
+fn random_sheet(random: &mut Random, modules: u64, top: u64, slots: u64) -> Vec<u8> {
+    (0..modules * slots).map(|_| if random.below(3) == 0 { OFF } else { random.below(top + 1) as u8 }).collect()
 }
 
 #[test]
 fn random_sheets() {
-    let numbers: Vec<String> = [0, 1, 2, 3, 4, 5, 6, 7, 8, 11, 12, 13].iter().map(|n| n.to_string()).collect();
-    let mut names: Vec<&str> = numbers.iter().map(String::as_str).collect();
-    names.extend(shows::ALL_CLASSES);
-    names.push("accepted sheet of no plan");
-    let mut classes = Classes::new("marking (seed 41)", &names);
+    let mut names = shows::ALL_CLASSES.to_vec();
+    names.extend(["accepted sheet of no plan", "accepted with just the loads", "accepted with more light than a load"]);
+    names.extend(["accepted with F of a step above G of it", "13 for one step too little"]);
+    let mut classes = Classes::new("marking (seed 41)", &names).with_numbers((0..=8).chain(11..=13));
     let mut random = Random::new(41);
     for _ in 0..60_000 {
         let (modules, top, slots) = (1 + random.below(4), 1 + random.below(3), random.below(4));
         let mut card = shows::card(&mut random, modules, top, slots, 50);
-        let mut sheet: Vec<u8> =
-            (0..modules * slots).map(|_| if random.below(3) == 0 { OFF } else { random.below(top + 1) as u8 }).collect();
-        // mostly the loads are those of the sheet
+        let mut sheet = random_sheet(&mut random, modules, top, slots);
+        // mostly the loads are the light of the sheet, or less, or now and then one step more
         if random.below(4) != 0 {
-            for (load, row) in card.loads.iter_mut().zip(sheet.chunks(modules as usize)) {
-                *load = row.iter().filter(|byte| **byte != OFF).map(|byte| u16::from(*byte)).sum();
+            let lights = plain::read_card(&card.bytes()).unwrap().lights(&sheet);
+            for (load, light) in card.loads.iter_mut().zip(lights) {
+                *load = match random.below(8) {
+                    0 => (light + 1).min(modules * top),
+                    1..=3 => random.below(light + 1),
+                    _ => light,
+                } as u16;
             }
         }
         let bytes = shows::damaged(&mut random, &card);
@@ -81,10 +174,24 @@ fn random_sheets() {
         }
         let found = mark(&bytes, &sheet);
         assert_eq!(found, plain::mark(&bytes, &sheet), "{card:?}, sheet {sheet:?}");
-        classes.see(&found.number.to_string());
+        classes.see_number(found.number);
         shows::classes(&card).into_iter().for_each(|name| classes.see(name));
         if found.number == 0 && sheet.chunks(modules as usize).any(|row| row.windows(2).any(|w| w[0] == OFF && w[1] != OFF)) {
             classes.see("accepted sheet of no plan");
+        }
+        if let (0, Ok(show)) = (found.number, plain::read_card(&bytes)) {
+            let just = show.lights(&sheet) == show.loads;
+            classes.see(if just { "accepted with just the loads" } else { "accepted with more light than a load" });
+            let above_least = |step: &u8| show.table[usize::from(*step)] > show.least_from(u64::from(*step));
+            if sheet.iter().filter(|byte| **byte != OFF).any(above_least) {
+                classes.see("accepted with F of a step above G of it");
+            }
+        }
+        if let (13, Ok(show)) = (found.number, plain::read_card(&bytes)) {
+            let lights = show.lights(&sheet);
+            if show.loads.iter().zip(&lights).map(|(load, light)| load.saturating_sub(*light)).sum::<u64>() == 1 {
+                classes.see("13 for one step too little");
+            }
         }
     }
     classes.require_all();

@@ -1,6 +1,7 @@
-//! `lamp_plan_exact` and `lamp_plan_coarse` against searches through all sheets and all plans, and against a plain dynamic program.
+//! `lamp_plan_exact` and `lamp_plan_coarse` against searches through all sheets with enough light and through all plans, and against a
+//! plain dynamic program; and that no call gives 9.
 use lamp_tests::boundary::{self, difference, mark, Answer, Outcome, Planner};
-use lamp_tests::cards::{card_a, largest, small, Card};
+use lamp_tests::cards::{card_a, largest, lowest_at, small, Card};
 use lamp_tests::classes::Classes;
 use lamp_tests::plain::{self, Show, OFF};
 use lamp_tests::random::Random;
@@ -40,7 +41,8 @@ fn examples_a_e_f_g_i() {
     let g = Card { modules: 2, top: 2, up: 0, down: 0, table: vec![5, 1, 9], loads: vec![2] };
     let exact = planned(Planner::Exact, &g);
     assert_eq!((exact.answer, &exact.buffers[0][..1]), (Answer::cost(2), &[2][..]));
-    assert_eq!(planned(Planner::Coarse, &g).answer, Answer::refused(9));
+    let coarse = planned(Planner::Coarse, &g);
+    assert_eq!((coarse.answer, &coarse.buffers[0][..1]), (Answer::cost(2), &[2][..]));
 
     for planner in BOTH {
         let i = compare(planner, &small(3, &[1, 2, 4], &[]).bytes(), &[7; 3], &[7; 3]);
@@ -57,6 +59,26 @@ fn coarse_is_not_rounded_exact() {
     assert_eq!((coarse.answer, coarse.buffers[0][0]), (Answer::cost(7), 2));
 }
 
+/// On a table that falls first, more light than the load is planned where that costs less.
+#[test]
+fn more_light_where_it_costs_less() {
+    // with just its load slot 2 would cost 4 by one module, and 1 + 5 by two
+    let card = Card { modules: 3, top: 3, up: 0, down: 0, table: vec![9, 5, 1, 4], loads: vec![2, 3, 0] };
+    for planner in BOTH {
+        let found = planned(planner, &card);
+        assert_eq!((found.answer, &found.buffers[0][..3]), (Answer::cost(1 + 2), &[1, 2, 0][..]), "{planner:?}");
+    }
+    let sheet = [2, OFF, OFF, 2, 2, OFF, OFF, OFF, OFF];
+    assert_eq!(boundary::sheet(&card.bytes(), &[1, 2, 0], &[7; 9]).buffers[0], sheet);
+    // switching is dear, so the module goes on through the slot without load, at its lowest step
+    let card = Card { modules: 2, top: 2, up: 9, down: 0, table: vec![5, 1, 3], loads: vec![2, 0, 1] };
+    for planner in BOTH {
+        let found = planned(planner, &card);
+        assert_eq!((found.answer, &found.buffers[0][..3]), (Answer::cost(9 + 3 + 1 + 1), &[1, 1, 1][..]), "{planner:?}");
+    }
+    assert_eq!(boundary::sheet(&card.bytes(), &[1, 1, 1], &[7; 6]).buffers[0], [2, OFF, 1, OFF, 1, OFF]);
+}
+
 /// All lists of `length` bytes from `bytes`, the last place counting slowest.
 fn lists(bytes: &[u8], length: usize) -> Vec<Vec<u8>> {
     let mut out = vec![Vec::new()];
@@ -66,11 +88,46 @@ fn lists(bytes: &[u8], length: usize) -> Vec<Vec<u8>> {
     out
 }
 
-/// The least cost over ALL sheets that serve the show.
-fn least_sheet(show: &Show) -> u64 {
-    let bytes: Vec<u8> = (0..=show.top as u8).chain([OFF]).collect();
-    let sheets = lists(&bytes, show.modules as usize * show.slots());
-    sheets.iter().filter(|sheet| show.sheet_refusal(sheet).is_none()).map(|sheet| show.sheet_cost(sheet)).min().unwrap()
+/// The least cost over ALL sheets that serve the show, which have at least the load in every slot: over those with just the loads, and
+/// over those with more light than the load in some slot, if there are any.
+struct LeastSheets {
+    just: Option<u64>,
+    more: Option<u64>,
+}
+
+impl LeastSheets {
+    /// Goes through all sheets. The library marks each as the plain rules do.
+    fn of(card: &Card, show: &Show) -> Self {
+        let card = card.bytes();
+        let bytes: Vec<u8> = (0..=show.top as u8).chain([OFF]).collect();
+        let mut out = LeastSheets { just: None, more: None };
+        for sheet in lists(&bytes, show.modules as usize * show.slots()) {
+            let marked = mark(&card, &sheet);
+            if let Some(number) = show.sheet_refusal(&sheet) {
+                assert_eq!(marked, Answer::refused(number), "{show:?}, sheet {sheet:?}");
+                continue;
+            }
+            let cost = show.sheet_cost(&sheet);
+            assert_eq!(marked, Answer::cost(cost), "{show:?}, sheet {sheet:?}");
+            let least = if show.lights(&sheet) == show.loads { &mut out.just } else { &mut out.more };
+            *least = Some(least.map_or(cost, |least| least.min(cost)));
+        }
+        out
+    }
+
+    fn least(&self) -> u64 {
+        self.just.into_iter().chain(self.more).min().expect("the full rack serves")
+    }
+
+    /// Whether a least sheet has more light than the load in some slot.
+    fn some_more(&self) -> bool {
+        self.more == Some(self.least())
+    }
+
+    /// Whether every least sheet has.
+    fn all_more(&self) -> bool {
+        self.just != Some(self.least())
+    }
 }
 
 /// All least plans over the counts, in tie order.
@@ -84,57 +141,69 @@ fn least_plans(show: &Show, counts: &[u64]) -> Vec<Vec<u8>> {
     plans
 }
 
-/// Thousands of small shows against a search through all sheets and all plans.
+/// The classes of `all_sheets` that speak of more light than the load.
+const FALLS: &str = "the table falls somewhere";
+const SOME_MORE: &str = "some least sheet has more light than the load";
+const ALL_MORE: &str = "every least sheet has more light than the load";
+
+/// Thousands of small shows against a search through all sheets with enough light and through all plans.
 #[test]
 fn all_sheets() {
+    const SHOWS: u64 = 6_000;
     let mut names = shows::ALL_CLASSES.to_vec();
-    names.extend(["two or more least plans", "coarse above exact", "coarse refused"]);
-    let mut classes = Classes::new("small shows against all sheets (seed 51)", &names);
+    names.extend(["two or more least plans", "coarse above exact", "coarse above exact on a falling table"]);
+    names.extend([FALLS, SOME_MORE, ALL_MORE]);
+    let mut classes = Classes::new("6,000 small shows against all sheets with enough light (seed 51)", &names);
     let mut random = Random::new(51);
     let mut done = 0;
-    while done < 6_000 {
+    while done < SHOWS {
         let (modules, top, slots) = (1 + random.below(6), 1 + random.below(3), random.below(4));
-        if (top + 2).pow((modules * slots) as u32) > 5_000 {
+        // few shows without slots, which have one sheet, and none with too many sheets
+        if slots == 0 && random.below(10) != 0 || (top + 2).pow((modules * slots) as u32) > 20_000 {
             continue;
         }
         done += 1;
         let steepest = random.pick(&[1, 2, 6]);
         let card = shows::card(&mut random, modules, top, slots, steepest);
         let show = plain::read_card(&card.bytes()).unwrap();
-        let least = least_sheet(&show);
+        let sheets = LeastSheets::of(&card, &show);
+        let least = sheets.least();
         let exact = planned(Planner::Exact, &card);
         let plans = least_plans(&show, &show.counts(false));
         let plan = &exact.buffers[0][..show.slots()];
         assert_eq!(exact.answer, Answer::cost(least), "{card:?}");
         assert_eq!(plan, &plans[0][..], "{card:?}");
-        assert_eq!(mark(&card.bytes(), &show.sheet(plan)), exact.answer);
+        let made = boundary::sheet(&card.bytes(), plan, &vec![7; show.modules as usize * show.slots()]);
+        assert_eq!(made, Outcome { answer: exact.answer, buffers: vec![show.sheet(plan)] }, "{card:?}");
+        assert_eq!(mark(&card.bytes(), &made.buffers[0]), exact.answer, "{card:?}");
         if plans.len() > 1 {
             classes.see("two or more least plans");
         }
         let coarse = planned(Planner::Coarse, &card);
-        if show.never_falls() {
-            let plan = &coarse.buffers[0][..show.slots()];
-            assert_eq!(plan, &least_plans(&show, &show.counts(true))[0][..], "{card:?}");
-            assert_eq!(coarse.answer, Answer::cost(show.sheet_cost(&show.sheet(plan))));
-            assert!(coarse.answer.cost <= 2 * least, "{card:?}");
-            if coarse.answer.cost > least {
-                classes.see("coarse above exact");
+        let plan = &coarse.buffers[0][..show.slots()];
+        assert_eq!(plan, &least_plans(&show, &show.counts(true))[0][..], "{card:?}");
+        assert_eq!(coarse.answer, Answer::cost(show.sheet_cost(&show.sheet(plan))), "{card:?}");
+        assert!(coarse.answer.cost <= 2 * least, "{card:?}");
+        if coarse.answer.cost > least {
+            classes.see("coarse above exact");
+            if show.falls() {
+                classes.see("coarse above exact on a falling table");
             }
-        } else {
-            assert_eq!(coarse.answer, Answer::refused(9));
-            classes.see("coarse refused");
         }
+        let of_light = [(FALLS, show.falls()), (SOME_MORE, sheets.some_more()), (ALL_MORE, sheets.all_more())];
+        of_light.into_iter().filter(|(_, holds)| *holds).for_each(|(name, _)| classes.see(name));
         shows::classes(&card).into_iter().for_each(|name| classes.see(name));
     }
     classes.require_all();
+    assert!(3 * classes.count(FALLS) >= SHOWS, "under a third of the tables fall");
 }
 
 /// Larger shows against the plain dynamic program, which `compare` uses.
 #[test]
 fn larger_shows() {
     let mut names = shows::ALL_CLASSES.to_vec();
-    names.push("coarse above exact");
-    let mut classes = Classes::new("larger shows (seed 61)", &names);
+    names.extend(["coarse above exact", "coarse above exact on a falling table"]);
+    let mut classes = Classes::new("larger shows (seed 61)", &names).with_numbers([0]);
     let mut random = Random::new(61);
     for _ in 0..1_500 {
         let modules = random.pick(&[1, 2, 7, 8, 31, 64, 100, 128, 150, 200]);
@@ -142,10 +211,15 @@ fn larger_shows() {
         let card = shows::card(&mut random, modules, top, slots, 900);
         let exact = planned(Planner::Exact, &card);
         let coarse = planned(Planner::Coarse, &card);
-        if coarse.answer.number == 0 {
-            assert!(coarse.answer.cost <= 2 * exact.answer.cost);
-            if coarse.answer.cost > exact.answer.cost {
-                classes.see("coarse above exact");
+        for number in [exact.answer.number, coarse.answer.number] {
+            assert_eq!(number, 0, "{card:?}");
+            classes.see_number(number);
+        }
+        assert!(exact.answer.cost <= coarse.answer.cost && coarse.answer.cost <= 2 * exact.answer.cost, "{card:?}");
+        if coarse.answer.cost > exact.answer.cost {
+            classes.see("coarse above exact");
+            if card.table.windows(2).any(|w| w[1] < w[0]) {
+                classes.see("coarse above exact on a falling table");
             }
         }
         shows::classes(&card).into_iter().for_each(|name| classes.see(name));
@@ -159,17 +233,17 @@ fn largest_show() {
     let mut random = Random::new(71);
     assert_eq!(planned(Planner::Exact, &card).answer.number, 0);
     card.loads.iter_mut().for_each(|load| *load = random.below(40_001) as u16);
-    assert_eq!(planned(Planner::Exact, &card).answer.number, 0);
-    assert_eq!(planned(Planner::Coarse, &card).answer.number, 0);
+    for card in [card.clone(), lowest_at(120, card)] {
+        assert_eq!(planned(Planner::Exact, &card).answer.number, 0);
+        assert_eq!(planned(Planner::Coarse, &card).answer.number, 0);
+    }
 }
 
 /// Every refusal, with areas exact, one short, empty and longer.
 #[test]
 fn refusals() {
-    let numbers: Vec<String> = (0..=10).map(|n| n.to_string()).collect();
-    let mut names: Vec<&str> = numbers.iter().map(String::as_str).collect();
-    names.extend(["area exact", "area one short", "area empty", "area longer"]);
-    let mut classes = Classes::new("planners' refusals (seed 81)", &names);
+    let names = ["area exact", "area one short", "area empty", "area longer"];
+    let mut classes = Classes::new("planners' refusals (seed 81)", &names).with_numbers((0..=8).chain([10]));
     let mut random = Random::new(81);
     for _ in 0..30_000 {
         let (modules, top, slots) = (1 + random.below(9), 1 + random.below(5), random.below(5));
@@ -185,9 +259,66 @@ fn refusals() {
         };
         let ((plan, first), (work, second)) = (area(slots as usize), area(asked));
         let found = compare(planner, &bytes, &vec![7; plan], &vec![9; work]);
-        classes.see(&found.answer.number.to_string());
+        classes.see_number(found.answer.number);
         classes.see(first);
         classes.see(second);
+    }
+    classes.require_all();
+}
+
+/// A length that is mostly the one asked for, else from 0 to one more.
+fn length(random: &mut Random, asked: u64) -> usize {
+    let other = random.below(asked + 2);
+    random.pick(&[asked, asked, asked, asked, asked, asked, asked, other]) as usize
+}
+
+/// A handed-in list, mostly of the length asked for, with bytes that are mostly from 0 to `most`.
+fn list(random: &mut Random, asked: u64, most: u64) -> Vec<u8> {
+    (0..length(random, asked))
+        .map(|_| if random.below(40) == 0 { random.below(256) } else { random.below(most + 1) } as u8)
+        .collect()
+}
+
+/// Every call on cards of which most have a table that falls. Nothing is compared with the plain rules: the numbers are counted, and 9
+/// is not among them. Either planner plans just the accepted cards with areas long enough.
+#[test]
+fn no_call_gives_nine() {
+    const PLANNED: [&str; 2] = ["exact plans a falling table", "coarse plans a falling table"];
+    let mut classes = Classes::new("the numbers of all calls (seed 82)", &PLANNED).with_numbers((0..=8).chain(10..=14));
+    let mut random = Random::new(82);
+    for _ in 0..40_000 {
+        let (modules, top, slots) = (1 + random.below(9), 1 + random.below(5), random.below(5));
+        let mut card = shows::card(&mut random, modules, top, slots, 50);
+        let shape = random.pick(&[0, 2, 4]);
+        if random.below(4) != 0 {
+            card.table = shows::table(&mut random, top, shape, 50);
+        }
+        let (bytes, falls) = (shows::damaged(&mut random, &card), card.table.windows(2).any(|w| w[1] < w[0]));
+        let checked = boundary::check_card(&bytes).number;
+        for (planner, planned) in BOTH.into_iter().zip(PLANNED) {
+            let asked = planner.work_bytes(modules as usize, slots as usize);
+            let (plan, work) = (length(&mut random, slots), length(&mut random, asked as u64));
+            let number = boundary::plan(planner, &bytes, &vec![7; plan], &vec![7; work]).answer.number;
+            classes.see_number(number);
+            let enough = plan >= slots as usize && work >= asked;
+            assert_eq!(number == 0, checked == 0 && enough, "{planner:?} gives {number}: {card:?}");
+            if number == 0 && falls {
+                classes.see(planned);
+            }
+        }
+        let (count, load) = (random.below(modules + 2), random.below(modules * top + 2));
+        let (plan, sheet) = (list(&mut random, slots, modules), list(&mut random, modules * slots, top));
+        let (area, practice) = (vec![7; length(&mut random, modules * slots)], vec![7; length(&mut random, 949)]);
+        let (rack, start) = (random.below(202), random.below(5) as u32);
+        let answers = [
+            boundary::running_cost(&bytes, count, load),
+            boundary::sheet(&bytes, &plan, &area).answer,
+            mark(&bytes, &sheet),
+            boundary::rounded_count(count, rack),
+            boundary::practice_card(start, &practice).answer,
+        ];
+        classes.see_number(checked);
+        answers.iter().for_each(|answer| classes.see_number(answer.number));
     }
     classes.require_all();
 }

@@ -20,14 +20,14 @@ fn example_j() {
 
 #[test]
 fn every_pair() {
-    let mut classes = Classes::new("rounded count", &["0", "3", "12"]);
+    let mut classes = Classes::new("rounded count", &[]).with_numbers([0, 3, 12]);
     let edges = [u64::MAX, u64::MAX - 1, 1 << 32, 1 << 63];
     let numbers = || (0..=300u64).chain(edges);
     for modules in numbers() {
         for count in numbers() {
             let found = rounded_count(count, modules);
             assert_eq!(found, plain::rounded_count(count, modules), "count {count}, modules {modules}");
-            classes.see(&found.number.to_string());
+            classes.see_number(found.number);
         }
     }
     classes.require_all();

@@ -1,8 +1,8 @@
 //! `lamp_sheet`: the sheet of a handed-in plan, its cost, its refusals and its buffer.
 use lamp_tests::boundary::{self, difference, mark, Answer, Outcome};
-use lamp_tests::cards::{card_a, largest, small};
+use lamp_tests::cards::{card_a, largest, lowest_at, small, Card};
 use lamp_tests::classes::Classes;
-use lamp_tests::plain;
+use lamp_tests::plain::{self, OFF};
 use lamp_tests::random::Random;
 use lamp_tests::shows;
 
@@ -21,11 +21,56 @@ fn example_a() {
     assert_eq!(found.buffers[0], [2, 2, 2, 0, 255, 255, 2, 255, 255, 7, 7]);
 }
 
-/// A slot with count 0 is all 255; modules above the load's share stand at step 0.
+/// A slot with count 0 is all 255; modules above the load's share stand at step 0 where the table does not fall.
 #[test]
 fn off_and_step_zero() {
     let card = small(3, &[1, 2, 4], &[0, 1]).bytes();
     assert_eq!(compare(&card, &[0, 3], &[9; 6]).buffers[0], [255, 255, 255, 1, 0, 0]);
+}
+
+/// What a plan of a single slot on three modules is filled with, and its cost without switching.
+fn filled(table: &[u32], load: u16, count: u8) -> (Vec<u8>, u64) {
+    let card = Card { up: 0, down: 0, ..small(3, table, &[load]) };
+    let found = compare(&card.bytes(), &[count], &[9; 3]);
+    assert_eq!(found.answer.number, 0);
+    assert_eq!(mark(&card.bytes(), &found.buffers[0]), found.answer);
+    (found.buffers[0].clone(), found.answer.cost)
+}
+
+/// Each module burns at the smallest of the cheapest steps from its own to Q, and a module that burns for load 0 too.
+#[test]
+fn burnt_steps() {
+    let v_shaped = [5, 1, 9];
+    assert_eq!(filled(&v_shaped, 0, 0), (vec![OFF, OFF, OFF], 0));
+    assert_eq!(filled(&v_shaped, 0, 2), (vec![1, 1, OFF], 2));
+    assert_eq!(filled(&v_shaped, 1, 2), (vec![1, 1, OFF], 2));
+    assert_eq!(filled(&v_shaped, 2, 2), (vec![1, 1, OFF], 2));
+    assert_eq!(filled(&v_shaped, 3, 2), (vec![2, 1, OFF], 10));
+    assert_eq!(filled(&v_shaped, 4, 2), (vec![2, 2, OFF], 18));
+    assert_eq!(filled(&v_shaped, 4, 3), (vec![2, 1, 1], 11));
+
+    // steps 1 to 3 are equally cheap: step 1 is burnt for 0, and from there on each for itself
+    let flat_bottom = [4, 1, 1, 1, 3];
+    assert_eq!(filled(&flat_bottom, 0, 3), (vec![1, 1, 1], 3));
+    assert_eq!(filled(&flat_bottom, 2, 3), (vec![1, 1, 1], 3));
+    assert_eq!(filled(&flat_bottom, 4, 3), (vec![2, 1, 1], 3));
+    assert_eq!(filled(&flat_bottom, 8, 3), (vec![3, 3, 2], 3));
+    assert_eq!(filled(&flat_bottom, 10, 3), (vec![4, 3, 3], 5));
+
+    // nothing is gained by more light
+    for table in [[2, 2, 2], [2, 3, 5]] {
+        assert_eq!(filled(&table, 0, 1).0, [0, OFF, OFF]);
+        assert_eq!(filled(&table, 3, 2).0, [2, 1, OFF]);
+        assert_eq!(filled(&table, 1, 3).0, [1, 0, 0]);
+    }
+
+    // every module burns at Q, where the table is lowest
+    for load in 0..=4 {
+        assert_eq!(filled(&[9, 4, 2], load, 2), (vec![2, 2, OFF], 4));
+    }
+    // steps 1 and 2 are equally cheap: a module burns at Q only for its share of 2
+    assert_eq!(filled(&[9, 2, 2], 1, 2), (vec![1, 1, OFF], 4));
+    assert_eq!(filled(&[9, 2, 2], 3, 2), (vec![2, 1, OFF], 4));
 }
 
 /// The lowest number anywhere in the plan wins: a 12 in the last slot beats a 13 in the first.
@@ -48,13 +93,25 @@ fn largest_show() {
     assert_eq!(compare(&card, &plan, &[1; 200 * 1_024 - 1]).answer, Answer::refused(10));
 }
 
+/// The full rack through the largest show, on tables whose lowest step is 0, within the table, and Q.
+#[test]
+fn largest_falling_tables() {
+    let mut random = Random::new(32);
+    for lowest in [0, 1, 120, 199, 200] {
+        let mut card = lowest_at(lowest, largest(0));
+        card.loads.iter_mut().for_each(|load| *load = random.below(40_001) as u16);
+        let found = compare(&card.bytes(), &[200; 1_024], &[1; 200 * 1_024]);
+        assert_eq!(mark(&card.bytes(), &found.buffers[0]), found.answer);
+        assert_eq!(found.buffers[0].iter().min(), Some(&lowest));
+    }
+}
+
 #[test]
 fn random_plans() {
-    let numbers: Vec<String> = [0, 1, 2, 3, 4, 5, 6, 7, 8, 10, 11, 12, 13].iter().map(|n| n.to_string()).collect();
-    let mut names: Vec<&str> = numbers.iter().map(String::as_str).collect();
-    names.extend(shows::ALL_CLASSES);
+    let mut names = shows::ALL_CLASSES.to_vec();
     names.extend(["area exact", "area one short", "area empty", "area longer"]);
-    let mut classes = Classes::new("sheet (seed 31)", &names);
+    names.extend(["more light than a load", "just the loads", "burns for load 0 above step 0"]);
+    let mut classes = Classes::new("sheet (seed 31)", &names).with_numbers((0..=8).chain(10..=13));
     let mut random = Random::new(31);
     for _ in 0..60_000 {
         let (modules, top, slots) = (1 + random.below(9), 1 + random.below(5), random.below(5));
@@ -80,11 +137,18 @@ fn random_plans() {
             _ => {}
         }
         let found = compare(&bytes, &plan, &vec![7; area]);
-        classes.see(&found.answer.number.to_string());
+        classes.see_number(found.answer.number);
         classes.see(class);
         shows::classes(&card).into_iter().for_each(|name| classes.see(name));
         if found.answer.number == 0 {
-            assert_eq!(mark(&bytes, &found.buffers[0][..asked]), found.answer);
+            let made = &found.buffers[0][..asked];
+            assert_eq!(mark(&bytes, made), found.answer);
+            let show = plain::read_card(&bytes).unwrap();
+            let more = show.lights(made) != show.loads;
+            classes.see(if more { "more light than a load" } else { "just the loads" });
+            if show.lights(made).iter().zip(&show.loads).any(|(light, load)| *load == 0 && *light > 0) {
+                classes.see("burns for load 0 above step 0");
+            }
         }
     }
     classes.require_all();

@@ -9,8 +9,10 @@ fn a_card_is_shared() {
     let mut random = Random::new(111);
     let cards: Vec<Vec<u8>> = (0..12).map(|_| shows::card(&mut random, 150, 60, 200, 90).bytes()).collect();
     let plan = |card: &[u8]| {
-        let both = [Planner::Exact, Planner::Coarse].map(|planner| planning::plan(planner, card));
-        both.map(|planned| planned.map(|planned| (planned.cost, planned.plan, planned.sheet)))
+        [Planner::Exact, Planner::Coarse].map(|planner| {
+            let planned = planning::plan(planner, card).expect("either planner plans every accepted card");
+            (planned.cost, planned.plan, planned.sheet)
+        })
     };
     let alone: Vec<_> = cards.iter().map(|card| plan(card)).collect();
     thread::scope(|scope| {

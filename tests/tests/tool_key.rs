@@ -1,4 +1,7 @@
-//! The listing of `lamp key` beside what the program prints, card by card and byte for byte, both run as processes.
+//! The listing of `lamp key` beside what the program prints, card by card and byte for byte, both run as processes; what the key says of
+//! slots that get more light than their load; and the coarse key beside it.
+use lamp::show::Show;
+use lamp::words::runs;
 use lamp_tests::boundary::check_card;
 use lamp_tests::cards::{largest, Card};
 use lamp_tests::classes::Classes;
@@ -28,6 +31,39 @@ fn listing(output: &[u8]) -> &[u8] {
     &output[start..]
 }
 
+/// The cost of a listing.
+fn cost(output: &[u8]) -> u64 {
+    let first = String::from_utf8_lossy(listing(output)).lines().next().map(str::to_string);
+    first.and_then(|line| line.strip_prefix("cost ")?.parse().ok()).expect("a listing begins with its cost")
+}
+
+/// The slots of a listing, from 1, whose steps sum to more than the load.
+fn brighter(card: &[u8], output: &[u8]) -> Vec<usize> {
+    let text = String::from_utf8_lossy(listing(output)).into_owned();
+    let rows = text.lines().filter_map(|line| line.strip_prefix("slot ")?.split_once(": "));
+    let lights = rows.map(|(_, steps)| steps.split(' ').filter_map(|step| step.parse::<u16>().ok()).sum::<u16>());
+    let loads = Show::read(card).unwrap().loads;
+    lights.zip(loads).enumerate().filter(|(_, (light, load))| light > load).map(|(slot, _)| slot + 1).collect()
+}
+
+/// Compares what a key says of slots that get more light than their load with its listing. Answers whether there are any.
+fn brighter_told(card: &[u8], output: &[u8]) -> bool {
+    let slots = brighter(card, output);
+    let text = String::from_utf8_lossy(output).into_owned();
+    let said = text.lines().find_map(|line| line.strip_prefix("# slots with more light than their load, because that costs less: "));
+    let wanted = (!slots.is_empty()).then(|| runs(&slots, 10));
+    assert_eq!(said.map(str::to_string), wanted, "{text}");
+    !slots.is_empty()
+}
+
+/// The coarse key of an accepted card is never refused, and its cost is at least the least cost and at most twice it.
+fn compare_coarse(card: &[u8], least: u64) {
+    let key = run("tool/target/release/lamp", &["key", "--coarse", "-"], card);
+    assert_eq!((key.status.code(), key.stderr.is_empty()), (Some(0), true), "{card:?}");
+    brighter_told(card, &key.stdout);
+    assert!((least..=2 * least).contains(&cost(&key.stdout)), "{card:?}");
+}
+
 fn compare(card: &[u8], classes: &mut Classes) {
     let printed = run("target/bin/plan", &[], card);
     let key = run("tool/target/release/lamp", &["key", "-"], card);
@@ -35,6 +71,10 @@ fn compare(card: &[u8], classes: &mut Classes) {
     if number == 0 {
         assert_eq!(String::from_utf8_lossy(listing(&key.stdout)), String::from_utf8_lossy(&printed.stdout), "{card:?}");
         assert_eq!(key.status.code(), Some(0));
+        if brighter_told(card, &key.stdout) {
+            classes.see("more light than the load");
+        }
+        compare_coarse(card, cost(&key.stdout));
     } else {
         assert_eq!(printed.stdout, format!("refused {number}\n").into_bytes());
         let reason = String::from_utf8_lossy(&key.stderr).into_owned();
@@ -48,7 +88,7 @@ fn compare(card: &[u8], classes: &mut Classes) {
 #[test]
 fn key_prints_the_programs_listing() {
     let mut names = shows::ALL_CLASSES.to_vec();
-    names.extend(["listing", "refusal"]);
+    names.extend(["listing", "refusal", "more light than the load"]);
     let mut classes = Classes::new("listings beside the program (seed 101)", &names);
     let mut random = Random::new(101);
     for at in 0..3_000 {

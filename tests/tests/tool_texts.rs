@@ -4,6 +4,7 @@ use lamp::refusal::Refusal;
 use lamp::sheet_text;
 use lamp::show::Show;
 use lamp::show_text;
+use lamp::words;
 use lamp_tests::boundary::{check_card, mark};
 use lamp_tests::cards::{card_a, largest, small, Card};
 use lamp_tests::classes::Classes;
@@ -202,8 +203,9 @@ fn places_of_refusals() {
     assert_eq!(told(&bent.bytes()), "F(0), F(1), F(2): 0 + 3 is below 2 times 2; F(3), F(4), F(5): 4 + 4 is below 2 times 5");
     let bright = small(3, &[1, 2, 4], &[6, 7, 0, 9]);
     assert_eq!(told(&bright.bytes()), "slot 2: load 7, above 6, 3 times 2; slot 4: load 9, above 6, 3 times 2");
-    let falling = faults::of_card(Refusal::NotMonotone, &small(2, &[5, 1, 9], &[2]).bytes());
-    assert_eq!(falling[0].text, "F(1) 1 is below F(0) 5");
+    let falling = small(2, &[5, 1, 9], &[2]).bytes();
+    assert_eq!(check_card(&falling).number, 0);
+    assert_eq!(faults::of_card(Refusal::NotMonotone, &falling), []);
 
     let mut random = Random::new(94);
     for _ in 0..50_000 {
@@ -235,17 +237,19 @@ fn typed(random: &mut Random, rows: &[Vec<u8>]) -> String {
 /// steps would fall into slots if they were taken one after the other.
 #[test]
 fn sheets_typed() {
-    let mut classes = Classes::new("sheets typed (seed 95)", &["0", "11", "12", "13", "11 though the steps are as many"]);
+    let names = ["0", "11", "12", "13", "11 though the steps are as many", "0 with more light", "13 with more light in another slot"];
+    let mut classes = Classes::new("sheets typed (seed 95)", &names);
     let mut random = Random::new(95);
     for _ in 0..30_000 {
         let (modules, top, slots) = (1 + random.below(4), 1 + random.below(3), random.below(4));
         let mut rows: Vec<Vec<u8>> = (0..slots)
             .map(|_| (0..modules).map(|_| if random.below(3) == 0 { OFF } else { random.below(top + 1) as u8 }).collect())
             .collect();
-        let light = |row: &Vec<u8>| row.iter().filter(|step| **step != OFF).map(|step| u16::from(*step)).sum();
+        let light = |row: &Vec<u8>| row.iter().filter(|step| **step != OFF).map(|step| u16::from(*step)).sum::<u16>();
         let mut card = shows::card(&mut random, modules, top, slots, 50);
         if random.below(3) != 0 {
-            card.loads = rows.iter().map(light).collect();
+            let less = |random: &mut Random, light: u16| light - random.below(1 + u64::from(light)) as u16;
+            card.loads = rows.iter().map(|row| if random.below(2) == 0 { light(row) } else { less(&mut random, light(row)) }).collect();
         }
         match random.below(10) {
             0 if slots > 1 => {
@@ -272,6 +276,12 @@ fn sheets_typed() {
         classes.see(&found.number.to_string());
         if !even && rows.concat().len() == (modules * slots) as usize {
             classes.see("11 though the steps are as many");
+        }
+        let brighter = rows.iter().zip(&card.loads).any(|(row, load)| light(row) > *load);
+        match found.number {
+            0 if brighter => classes.see("0 with more light"),
+            13 if brighter => classes.see("13 with more light in another slot"),
+            _ => {}
         }
     }
     classes.require_all();
@@ -310,27 +320,45 @@ fn wrong_sheets_are_told() {
     wrong("modules 3\n", 1, 1, "'modules' is not a step");
 }
 
-/// The light of each slot and the entries above the top step, beside the plain rule.
+/// Numbers of slots as a sentence has them.
+#[test]
+fn runs_of_numbers() {
+    assert_eq!(words::runs(&[], 2), "");
+    assert_eq!(words::runs(&[7], 2), "7");
+    assert_eq!(words::runs(&[7, 8], 2), "7 to 8");
+    assert_eq!(words::runs(&[1, 3, 4, 5], 2), "1, 3 to 5");
+    assert_eq!(words::runs(&[1, 3, 4, 6, 8, 9], 2), "1, 3 to 4, and 3 more");
+    assert_eq!(words::runs(&[1_023, 1_024], 2), "1,023 to 1,024");
+    assert_eq!((words::range("slot", 3, 3), words::range("slot", 1, 1_024)), ("slot 3".to_string(), "slots 1 to 1,024".to_string()));
+}
+
+/// The slots with too little light and the entries above the top step, beside the plain rule. More light is no fault.
 #[test]
 fn places_in_sheets() {
     let show = Show::read(&card_a()).unwrap();
     let texts = |faults: Vec<faults::SheetFault>| faults.into_iter().map(|fault| fault.text).collect::<Vec<_>>();
-    assert_eq!(texts(faults::lights(&show, &[2, 2, 1, 0, 1, OFF, 2, OFF, OFF])), [
+    assert_eq!(texts(faults::lights(&show, &[2, 2, 1, 0, 1, OFF, OFF, 0, OFF])), [
         "slot 1: light 5 where the load is 6, 1 too little",
-        "slot 2: light 1 where the load is 0, 1 too much"
+        "slot 3: light 0 where the load is 2, 2 too little"
     ]);
+    assert_eq!(faults::lights(&show, &[2, 2, 2, 0, 1, OFF, 2, OFF, OFF]), []);
+    assert_eq!(show.lights(&[2, 2, 2, 0, 1, OFF, 2, 2, 2]).collect::<Vec<_>>(), [6, 1, 6]);
     assert_eq!(texts(faults::entries(&show, &[2, 2, 254, OFF, 3, OFF, 2, OFF, OFF])), [
         "slot 1, module 3: step 254, above 2",
         "slot 2, module 2: step 3, above 2"
     ]);
     let mut random = Random::new(96);
-    let mut seen = Classes::new("places in sheets (seed 96)", &["0", "12", "13"]);
+    let mut seen = Classes::new("places in sheets (seed 96)", &["0", "0 with more light", "12", "13"]);
     for _ in 0..30_000 {
         let sheet: Vec<u8> = (0..9).map(|_| random.pick(&[0, 0, 1, 2, 2, OFF, OFF, OFF, OFF, 3])).collect();
         let number = mark(&card_a(), &sheet).number;
         assert_eq!(number == 12, !faults::entries(&show, &sheet).is_empty());
         assert_eq!(number == 13, number != 12 && !faults::lights(&show, &sheet).is_empty());
+        let brighter = show.lights(&sheet).zip(&show.loads).any(|(light, load)| light > u64::from(*load));
         seen.see(&number.to_string());
+        if number == 0 && brighter {
+            seen.see("0 with more light");
+        }
     }
     seen.require_all();
 }

@@ -202,7 +202,9 @@ fn with_plan(words: &Words, write: fn(&Planned, &str) -> String) -> Ended {
 
 pub fn key(words: &Words) -> Ended {
     with_plan(words, |planned, _| {
-        format!("{}\n# {}\n{}", show_text::write(&planned.show), planned.planner.promise(), listing::write(planned))
+        let brighter = planned.brighter().map_or(String::new(), |sentence| format!("# {sentence}\n"));
+        let promise = planned.planner.promise();
+        format!("{}\n# {promise}\n{brighter}{}", show_text::write(&planned.show), listing::write(planned))
     })
 }
 

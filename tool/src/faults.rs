@@ -20,7 +20,7 @@ fn fault(field: Option<(Field, usize)>, text: String) -> CardFault {
     CardFault { field, text }
 }
 
-/// The places in a card for which it gets a refusal of 1 to 9.
+/// The places in a card for which it gets a refusal of 1 to 8.
 pub fn of_card(refusal: Refusal, card: &[u8]) -> Vec<CardFault> {
     let (head, show) = (Head::read(card), Show::read(card));
     match (refusal, head, show) {
@@ -32,7 +32,6 @@ pub fn of_card(refusal: Refusal, card: &[u8]) -> Vec<CardFault> {
         (Refusal::PriceRange, _, Some(show)) => prices(&show),
         (Refusal::NotConvex, _, Some(show)) => not_convex(&show),
         (Refusal::LoadRange, _, Some(show)) => loads(&show),
-        (Refusal::NotMonotone, _, Some(show)) => falls(&show),
         _ => Vec::new(),
     }
 }
@@ -94,12 +93,6 @@ fn loads(show: &Show) -> Vec<CardFault> {
     above.map(|(t, load)| fault(Some((Field::Loads, t)), text(t, *load))).collect()
 }
 
-fn falls(show: &Show) -> Vec<CardFault> {
-    let pairs = show.table.windows(2).enumerate().filter(|(_, f)| f[1] < f[0]);
-    let text = |k: usize, f: &[u32]| format!("F({}) {} is below F({k}) {}", k + 1, grouped(f[1].into()), grouped(f[0].into()));
-    pairs.map(|(k, f)| fault(Some((Field::Table, k + 1)), text(k, f))).collect()
-}
-
 /// A place at fault in a sheet: the slot and, for a step, the module, both counted from 0.
 #[derive(Clone, Debug, PartialEq, Eq)]
 pub struct SheetFault {
@@ -122,20 +115,13 @@ pub fn entries(show: &Show, sheet: &[u8]) -> Vec<SheetFault> {
     out
 }
 
-/// The light of a slot: the sum of the steps of its active modules.
-pub fn light(row: &[u8]) -> u64 {
-    row.iter().filter(|step| **step != OFF).map(|step| u64::from(*step)).sum()
-}
-
-/// The slots of a sheet whose light is not their load, for which it gets 13.
+/// The slots of a sheet with less light than their load, for which it gets 13.
 pub fn lights(show: &Show, sheet: &[u8]) -> Vec<SheetFault> {
-    let slots = show.rows(sheet).map(light).zip(&show.loads).enumerate();
-    let wrong = slots.filter(|(_, (light, load))| *light != u64::from(**load));
+    let slots = show.lights(sheet).zip(&show.loads).enumerate();
+    let dark = slots.filter(|(_, (light, load))| *light < u64::from(**load));
     let text = |slot: usize, light: u64, load: u64| {
-        let (less, more) = (load.saturating_sub(light), light.saturating_sub(load));
-        let difference =
-            if light < load { format!("{} too little", grouped(less)) } else { format!("{} too much", grouped(more)) };
-        format!("slot {}: light {} where the load is {}, {difference}", slot + 1, grouped(light), grouped(load))
+        let [less, light, load] = [load - light, light, load].map(grouped);
+        format!("slot {}: light {light} where the load is {load}, {less} too little", slot + 1)
     };
-    wrong.map(|(slot, (light, load))| SheetFault { slot, module: None, text: text(slot, light, u64::from(*load)) }).collect()
+    dark.map(|(slot, (light, load))| SheetFault { slot, module: None, text: text(slot, light, u64::from(*load)) }).collect()
 }

@@ -17,11 +17,19 @@ pub const USAGE: &str = "usage: lamp COMMAND ..; lamp --help lists the commands"
 
 const PLANNER: &[&str] = &["--coarse"];
 
+const COARSE: &str = "\
+--coarse  the coarse planner's plan in place of the exact one; it costs at most twice as much, on every accepted card.";
+
 /// The option that names the folder for a command's files.
 pub const INTO: &str = "--into DIR";
 
+/// The word of a command that takes a card, and what it may be.
+const CARD: &str = "CARD";
 const A_CARD: &str = "\
 CARD is a card's bytes or a show's text, as 'lamp show' writes it; - is standard input.";
+
+const COSTS: &str = "\
+The modules share LOAD as evenly as steps go. Each is at its share, or at a higher step if that costs less.";
 
 const ALLOWED: &str = "The allowed counts are 0, the powers of two up to MODULES, and MODULES.";
 
@@ -51,7 +59,8 @@ const SHEET_TEXT: &str = "\
 SHEET has a line a slot, with a step or - (off) for each module, as '2 2 -'. A line may begin with
 'slot 3:', and the cost and plan of a listing may stand before the first slot.
 --bytes  SHEET is a byte for each slot and module, 255 for off.
-Prints the sheet's cost, the least cost and the points above it, or why the sheet is refused.";
+Prints the sheet's cost, the least cost and the points above it, or why the sheet is refused. A slot may get
+more light than its load, but not less, and each step is charged as it stands.";
 
 /// A command of the table below.
 const fn command(
@@ -69,13 +78,13 @@ const fn command(
 pub const COMMANDS: [Command; 10] = [
     command("card", &["SHOW"], &[], commands::card, "makes a card of a show typed as text", SHOW_TEXT),
     command("practice", &["NUMBER"], &[INTO], commands::practice, "makes practice cards by their numbers", PRACTICE),
-    command("show", &["CARD"], &[], commands::show, "reads a card back as text", A_CARD),
-    command("check", &["CARD"], &[], commands::check, "says whether the card is accepted, or where it is at fault", A_CARD),
-    command("key", &["CARD"], PLANNER, commands::key, "prints the show, the least cost, the plan and the sheet", A_CARD),
-    command("page", &["CARD"], PLANNER, commands::page, "prints the key as a page of HTML, with the picture", A_CARD),
-    command("picture", &["CARD"], PLANNER, commands::picture, "draws the plan as SVG", A_CARD),
-    command("mark", &["CARD", "SHEET"], &["--bytes"], commands::mark, "marks a sheet", SHEET_TEXT),
-    command("cost", &["CARD", "COUNT", "LOAD"], &[], commands::cost, "gives the running cost of a count and a load", A_CARD),
+    command("show", &[CARD], &[], commands::show, "reads a card back as text", ""),
+    command("check", &[CARD], &[], commands::check, "says whether the card is accepted, or where it is at fault", ""),
+    command("key", &[CARD], PLANNER, commands::key, "prints the show, the least cost, the plan and the sheet", ""),
+    command("page", &[CARD], PLANNER, commands::page, "prints the key as a page of HTML, with the picture", ""),
+    command("picture", &[CARD], PLANNER, commands::picture, "draws the plan as SVG", ""),
+    command("mark", &[CARD, "SHEET"], &["--bytes"], commands::mark, "marks a sheet", SHEET_TEXT),
+    command("cost", &[CARD, "COUNT", "LOAD"], &[], commands::cost, "gives the running cost of a count and a load", COSTS),
     command("round", &["COUNT", "MODULES"], &[], commands::round, "gives the smallest allowed count not below COUNT", ALLOWED),
 ];
 
@@ -104,9 +113,11 @@ impl Command {
     }
 
     pub fn help(&self) -> String {
-        let coarse =
-            if self.options == PLANNER { "\n--coarse  the coarse planner's plan in place of the exact one." } else { "" };
-        format!("{}\n{}: {}.\n{}{coarse}\n{STATUS}\n", self.usage(), self.name, self.does, self.more)
+        let card = self.takes.contains(&CARD).then_some(A_CARD);
+        let more = (!self.more.is_empty()).then_some(self.more);
+        let coarse = (self.options == PLANNER).then_some(COARSE);
+        let lines: String = card.into_iter().chain(more).chain(coarse).map(|part| format!("{part}\n")).collect();
+        format!("{}\n{}: {}.\n{lines}{STATUS}\n", self.usage(), self.name, self.does)
     }
 }
 

@@ -40,6 +40,7 @@ pub fn write(planned: &Planned, name: &str) -> String {
     );
     out += &format!("<h1>{heading}</h1>\n<p>{name_text}: {}.</p>\n", escaped(&planned.show.summary()));
     out += &format!("<p>{}.</p>\n", escaped(planned.planner.promise()));
+    out += &planned.brighter().map_or(String::new(), |sentence| format!("<p>{}.</p>\n", escaped(&sentence)));
     out += &format!("<h2>Show</h2>\n<pre>{}</pre>\n", escaped(&show_text::write(&planned.show)));
     out += &format!("<h2>Plan</h2>\n{}", plan(planned));
     out += &format!("<h2>Picture</h2>\n<figure>\n{}</figure>\n", picture::draw(planned, name));
@@ -76,13 +77,13 @@ fn sheet(planned: &Planned) -> String {
         return NO_SLOT.to_string();
     }
     let modules = usize::from(planned.show.modules);
-    let mut out = format!("<table class=\"sheet\">\n<thead>{}</thead>\n", sheet_heading(modules));
-    let slots = planned.show.rows(&planned.sheet).zip(planned.show.loads.iter().zip(&planned.plan));
-    for (slot, (row, (load, count))) in slots.enumerate() {
+    let columns = columns(planned);
+    let mut out = format!("<table class=\"sheet\">\n<thead>{}</thead>\n", sheet_heading(&columns, modules));
+    for (slot, row) in planned.show.rows(&planned.sheet).enumerate() {
         out += "<tbody>";
         for (at, line) in row.chunks(MODULES_ON_A_LINE).enumerate() {
-            let facts = [grouped(slot as u64 + 1), grouped(u64::from(*load)), count.to_string()];
-            let facts = if at == 0 { facts } else { Default::default() };
+            let fact = |column: &Column| if at == 0 { th(&grouped(column.numbers[slot])) } else { th("") };
+            let facts = columns.iter().map(fact).collect();
             out += &sheet_line(facts, modules, at * MODULES_ON_A_LINE, line);
         }
         out += "</tbody>\n";
@@ -90,16 +91,34 @@ fn sheet(planned: &Planned) -> String {
     out + "</table>\n"
 }
 
-/// The heading of the sheet, which stands on every page. Where the modules of a slot take more than one line, a column says which they are.
-fn sheet_heading(modules: usize) -> String {
-    let lines = if modules > MODULES_ON_A_LINE { th("modules") } else { String::new() };
-    let numbers: String = (1..=modules.min(MODULES_ON_A_LINE)).map(|module| th(&module.to_string())).collect();
-    format!("<tr>{}{}{}{lines}{numbers}</tr>", th("slot"), th("load"), th("count"))
+/// A column before the steps: its name and a number for each slot.
+struct Column {
+    name: &'static str,
+    numbers: Vec<u64>,
 }
 
-/// Some modules of a slot, after the slot's number, load and count.
-fn sheet_line(facts: [String; 3], modules: usize, before: usize, line: &[u8]) -> String {
-    let facts: String = facts.iter().map(|fact| th(fact)).collect();
+/// The columns before the steps. The light is among them only where some slot gets more than its load.
+fn columns(planned: &Planned) -> Vec<Column> {
+    let loads = planned.show.loads.iter().map(|load| u64::from(*load)).collect();
+    let counts = planned.plan.iter().map(|count| u64::from(*count)).collect();
+    let light = planned.brighter().map(|_| Column { name: "light", numbers: planned.lights() });
+    let mut out = vec![Column { name: "slot", numbers: (1..=planned.plan.len() as u64).collect() }];
+    out.push(Column { name: "load", numbers: loads });
+    out.extend(light);
+    out.push(Column { name: "count", numbers: counts });
+    out
+}
+
+/// The heading of the sheet, which stands on every page. Where the modules of a slot take more than one line, a column says which they are.
+fn sheet_heading(columns: &[Column], modules: usize) -> String {
+    let facts: String = columns.iter().map(|column| th(column.name)).collect();
+    let lines = if modules > MODULES_ON_A_LINE { th("modules") } else { String::new() };
+    let numbers: String = (1..=modules.min(MODULES_ON_A_LINE)).map(|module| th(&module.to_string())).collect();
+    format!("<tr>{facts}{lines}{numbers}</tr>")
+}
+
+/// Some modules of a slot, after the cells of the columns before them.
+fn sheet_line(facts: String, modules: usize, before: usize, line: &[u8]) -> String {
     let label = format!("{} to {}", before + 1, before + line.len());
     let label = if modules > MODULES_ON_A_LINE { th(&label) } else { String::new() };
     let steps: String = line.iter().map(|byte| td(&listing::step(*byte))).collect();

@@ -1,4 +1,5 @@
-//! The plan as a picture (SVG): slots across, modules down, a cell shaded by its step; above it the loads and the counts as lines.
+//! The plan as a picture (SVG): slots across, modules down, a cell shaded by its step; above it the loads and the counts as lines, and the
+//! light where some slot gets more than its load.
 use crate::listing;
 use crate::markup::escaped;
 use crate::planning::{Planned, Planner};
@@ -119,7 +120,7 @@ pub fn draw(planned: &Planned, name: &str) -> String {
     if layout.has_numbers() {
         out += &numbers(planned, &layout);
     }
-    out += &legend(&layout);
+    out += &legend(planned, &layout);
     out + "</svg>\n"
 }
 
@@ -145,11 +146,13 @@ fn label(x: usize, y: usize, anchor: &str, colour: &str, text: &str) -> String {
     format!("<text x=\"{x}\" y=\"{y}\" text-anchor=\"{anchor}\" fill=\"{colour}\">{text}</text>\n")
 }
 
+const LIGHT_COLOUR: &str = "#d9a300";
 const LOAD_COLOUR: &str = "#b35900";
 const COUNT_COLOUR: &str = "#08306b";
 
 /// Loads and counts over the slots, each from 0 to what the full rack has. A load of all modules at the top step and a count of all
-/// modules are at the same height.
+/// modules are at the same height. The line of the light, if there is one, lies below that of the loads, which covers it where both are
+/// the same.
 fn chart(planned: &Planned, layout: &Layout) -> String {
     let (upper, lower) = (layout.size(TITLE + 14), layout.size(TITLE + CHART));
     let (left, right, gap) = (layout.left(), layout.x(layout.slots), layout.size(6));
@@ -160,6 +163,11 @@ fn chart(planned: &Planned, layout: &Layout) -> String {
     let mut out =
         format!("<rect x=\"{left}\" y=\"{upper}\" width=\"{width}\" height=\"{height}\" fill=\"none\" stroke=\"#999\"/>\n");
     let stroke = format!("stroke-width=\"{}\"", 1.5 * layout.scale as f64);
+    if planned.brighter().is_some() {
+        let lights: Vec<usize> = planned.lights().into_iter().map(|light| light as usize).collect();
+        let dotted = format!("stroke=\"{LIGHT_COLOUR}\" {stroke} stroke-dasharray=\"2 2\"");
+        out += &stairs(&lights, most_load, layout, upper, lower, &dotted);
+    }
     out += &stairs(&loads, most_load, layout, upper, lower, &format!("stroke=\"{LOAD_COLOUR}\" {stroke}"));
     out += &stairs(
         &counts,
@@ -287,7 +295,7 @@ fn numbers(planned: &Planned, layout: &Layout) -> String {
 }
 
 /// What the shades and the lines mean.
-fn legend(layout: &Layout) -> String {
+fn legend(planned: &Planned, layout: &Layout) -> String {
     let (left, y) = (layout.left(), layout.grid_bottom() + layout.size(30));
     let shown = (layout.top + 1).min(11);
     let mut out = swatch(layout, left, y, "#fff", "off");
@@ -295,8 +303,9 @@ fn legend(layout: &Layout) -> String {
         let step = at * layout.top / (shown - 1).max(1);
         out += &swatch(layout, left + layout.size(48 * (at + 1)), y, &shade(step, layout.top), &step.to_string());
     }
+    let light = if planned.brighter().is_some() { " Dotted line: light." } else { "" };
     let text = format!(
-        "Shade: step, 0 to {}. Line: load. Broken line: count. {} down, {} across.",
+        "Shade: step, 0 to {}. Line: load. Broken line: count.{light} {} down, {} across.",
         layout.top,
         several(layout.modules as u64, "module"),
         several(layout.slots as u64, "slot")

@@ -2,6 +2,7 @@
 use crate::calls::{self, Answer};
 use crate::refusal::Refusal;
 use crate::show::Show;
+use crate::words::runs;
 
 #[derive(Clone, Copy, Debug, PartialEq, Eq)]
 pub enum Planner {
@@ -43,6 +44,27 @@ pub struct Planned {
     pub cost: u64,
     pub plan: Vec<u8>,
     pub sheet: Vec<u8>,
+}
+
+/// How many runs of slots a sentence names.
+const MOST_RUNS: usize = 10;
+
+impl Planned {
+    /// The light of each slot.
+    pub fn lights(&self) -> Vec<u64> {
+        self.show.lights(&self.sheet).collect()
+    }
+
+    /// A sentence on the slots that get more light than their load, where there are any. Each of them costs less than with just its
+    /// load, since its modules are at a step above their share only if that step costs less.
+    pub fn brighter(&self) -> Option<String> {
+        let slots = self.lights().into_iter().zip(&self.show.loads).enumerate();
+        let brighter = slots.filter(|(_, (light, load))| *light > u64::from(**load));
+        let numbers: Vec<usize> = brighter.map(|(slot, _)| slot + 1).collect();
+        let sentence =
+            || format!("slots with more light than their load, because that costs less: {}", runs(&numbers, MOST_RUNS));
+        (!numbers.is_empty()).then(sentence)
+    }
 }
 
 /// Plans a card. The sheet is made from the plan and marked, and both have to cost what the planner named: the library's contract

@@ -49,7 +49,7 @@ impl Refusal {
         Refusal::ALL.into_iter().find(|refusal| refusal.number() == number)
     }
 
-    /// When the refusal is given, in words.
+    /// When the refusal is given, in words. No call gives 9, whose name stays because the header's does.
     pub fn words(self) -> &'static str {
         match self {
             NotACard => "not a card: under 17 bytes, or wrong mark",
@@ -60,11 +60,11 @@ impl Refusal {
             PriceRange => "a price or a table entry above its bound",
             NotConvex => "table not convex",
             LoadRange => "a load above modules times top step",
-            NotMonotone => "table falls somewhere; coarse plan only",
+            NotMonotone => "never given; before release 2.0.0 a table that falls, coarse plan only",
             BufferTooShort => "a lent area shorter than asked for",
             WrongLength => "a handed-in plan or sheet of another length than the show has",
             EntryRange => "a count above the modules, or a step above the top step",
-            LoadNotServed => "a slot's steps do not sum to its load, or a count cannot serve its load",
+            LoadNotServed => "a slot has too little light, or a count cannot serve its load",
             ZeroStart => "start 0 of a practice card",
         }
     }

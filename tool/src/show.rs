@@ -112,6 +112,11 @@ impl Show {
         sheet.chunks(usize::from(self.modules.max(1)))
     }
 
+    /// The light of each slot of a sheet: the sum of the steps of its active modules.
+    pub fn lights<'a>(&self, sheet: &'a [u8]) -> impl Iterator<Item = u64> + 'a {
+        self.rows(sheet).map(|row| row.iter().filter(|step| **step != OFF).map(|step| u64::from(*step)).sum())
+    }
+
     /// The rack, the slots and the prices in words.
     pub fn summary(&self) -> String {
         format!(

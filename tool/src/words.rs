@@ -21,11 +21,27 @@ pub fn several(number: u64, name: &str) -> String {
 
 /// Things of a name by their numbers, as `slot 21` or `slots 21 to 40`.
 pub fn range(name: &str, first: usize, last: usize) -> String {
+    let end = if first == last { "" } else { "s" };
+    format!("{name}{end} {}", run_of(first, last))
+}
+
+/// Ascending numbers, with neighbours taken together, as `2 to 4, 7`. After so many of these it is said how many numbers follow.
+pub fn runs(numbers: &[usize], most: usize) -> String {
+    let runs: Vec<&[usize]> = numbers.chunk_by(|one, next| one + 1 == *next).collect();
+    let mut shown: Vec<String> = runs.iter().take(most).map(|run| run_of(run[0], run[run.len() - 1])).collect();
+    let left: usize = runs.iter().skip(most).map(|run| run.len()).sum();
+    if left > 0 {
+        shown.push(format!("and {} more", grouped(left as u64)));
+    }
+    shown.join(", ")
+}
+
+fn run_of(first: usize, last: usize) -> String {
     let (from, to) = (grouped(first as u64), grouped(last as u64));
     if first == last {
-        format!("{name} {from}")
+        from
     } else {
-        format!("{name}s {from} to {to}")
+        format!("{from} to {to}")
     }
 }
 
