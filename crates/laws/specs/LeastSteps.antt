@@ -5,6 +5,7 @@ use mathlib.Core.Logic.{⊎-elim}
 use native.Mathlib.Nat.{le-of-lt, max-eq-left, max-eq-right}
 use native.Mathlib.Omega.{arith}
 use Rattle.lists.specs.Numbers.{le-or-lt}
+use Rattle.lists.specs.Rising.{rises-to}
 use Rattle.lists.specs.Ranges.{firstOver, LeastAt, least-at-unique, least-over-below, least-index, least-index-value}
 use Rattle.model.specs.Instance.{Instance}
 use Rattle.model.specs.MoreLight.{leastFrom, activeStep}
@@ -46,6 +47,13 @@ module _ (i : Instance) where
       let later = active-least (k + 1) (omega arith) in
       let below = least-over-below (i .table) k (i .topStep - k) (activeStep i (k + 1)) (omega (arith, later .from)) (omega (arith, later .to)) in
       omega (arith, active-cost (k + 1))
+
+  -- Where the table never falls, a module is active at the step itself, and G is F: nothing is changed by document 02, §2.
+  pub rising-same : NeverFalls (i .topStep) (i .table) → (k : ℕ) → k ≤ i .topStep → (activeStep i k ≡ k) × (leastFrom i k ≡ i .table k)
+  rising-same rises k h =
+      let least = rises-to (i .table) (i .topStep) rises k in
+      let own = active-is h (record { from = omega arith; to = h; least = least; before = λ x a b. absurd (omega arith) }) in
+      (own, sym (active-cost k) ∙ ap (i .table) own)
 
   -- On a convex table, by the lowest step.
   module _ (convex : Convex (i .topStep) (i .table)) where

@@ -1,5 +1,5 @@
--- The practice show of a start: the bounds of its fields, and that its card is accepted. All of it holds by the way the show is made: its
--- differences are never negative and never fall.
+-- The practice show of a start: the bounds of its fields, that its table never falls, and that its card is accepted. All of it holds by
+-- the way the show is made: its differences are never negative and never fall.
 use Prim.Native.Nat.{ℕ, zero, suc, _+_, _*_, _%_, _≤_, _<_}
 use mathlib.Core.Path.{_≡_}
 use mathlib.Core.Bool.{true}
@@ -15,6 +15,7 @@ use Rattle.model.specs.declared.Answer.the-variants.{Cost}
 use Rattle.model.specs.Instance.{cardBytes, cardLength, inOrder, pricesInRange, tableInRange, convex, convexAt, loadsInRange}
 use Rattle.model.specs.Practice.{drawn, practiceDifference, practiceEntry, practiceShow, longestPractice}
 use Rattle.model.specs.Calls.{Accepted, practiceCard, answer, requestOf, refusals, firstRefusal, applies, startsAtZero, buffersOf, anyShort, successCost}
+use Rattle.laws.specs.Tables.{NeverFalls}
 use Rattle.laws.specs.Encoding.{in-order-accepted}
 
 module _ (start : ℕ) where
@@ -36,6 +37,11 @@ module _ (start : ℕ) where
   unfolding practiceEntry
   entry-most zero h = omega arith
   entry-most (suc k) h = omega (arith, entry-most k (omega arith), difference-most k)
+
+  -- The table never falls, since no difference is negative.
+  pub practice-never-falls : NeverFalls (practiceShow start .topStep) (practiceShow start .table)
+  unfolding practiceShow practiceEntry
+  practice-never-falls k h = rw (add-one k) (omega arith)
 
   -- The table is convex, since no difference is below the one before it.
   practice-convex : convex (practiceShow start .topStep) (practiceShow start .table) ≡ true
