@@ -123,7 +123,7 @@
  *
  * There is a short way to both. Let p be the smallest step with the least entry of the whole table (here
  * p = 1). Because the table is convex, B(k) is k or p, whichever is greater, and G(k) is F(B(k)). G never
- * falls. If the table never falls, then p is 0, B(k) is k and G(k) is F(k).
+ * falls. If the table never falls, then p is 0, B(k) is k and G(k) is F(k). All this is proved.
  *
  *
  * THE SHEET OF A PLAN
@@ -211,11 +211,10 @@
  * and its T is card[7] (card[8] is 0), so it has 17 + 4 * (card[6] + 1) + 2 * card[7] bytes. The other
  * calls are given the card with this length, even if it lies in a longer array.
  *
- * It is proved that every practice card is accepted. So both planners plan it, with buffers long enough.
- * No difference is below 0, so its table never falls. It is proved that no practice card is longer than
- * LAMP_MAX_PRACTICE, that no draw from a start above 0 gives 0, and that two different starts never give
- * the same number in draws of the same place. From start 0 every draw would give 0, so start 0 is
- * refused, by 14.
+ * It is proved that every practice card is accepted, so both planners plan it, with buffers long enough,
+ * and that its table never falls. It is proved that no practice card is longer than LAMP_MAX_PRACTICE, that
+ * no draw from a start above 0 gives 0, and that two different starts never give the same number in draws
+ * of the same place. From start 0 every draw would give 0, so start 0 is refused, by 14.
  *
  * If a host gives a number of more than 32 bits as the start, C takes its low 32 bits: 4,294,967,296
  * becomes 0, and -5 becomes 4,294,967,291. So a host that reads a start from its user first looks whether
