@@ -1,6 +1,6 @@
 -- G and the active step (document 02, §2): what they are on any table, and on a convex one, where the lowest step says both.
-use Prim.Native.Nat.{ℕ, zero, suc, _+_, _-_, _≤_, _<_, max}
-use mathlib.Core.Path.{_≡_, refl, sym, ap, _∙_}
+use Prim.Native.Nat.{ℕ, _+_, _-_, _≤_, _<_, max}
+use mathlib.Core.Path.{_≡_, sym, ap, _∙_}
 use mathlib.Core.Logic.{⊎-elim}
 use native.Mathlib.Nat.{le-of-lt, max-eq-left, max-eq-right}
 use native.Mathlib.Omega.{arith}

@@ -7,7 +7,7 @@ use native.Mathlib.Nat.{min-le-left, min-le-right, le-trans}
 use native.Mathlib.Omega.{arith}
 use lib.Dec.{eqb}
 use borrow.Author.Tests.{eqb-true, eqb-false, eq-eqb}
-use Rattle.lists.specs.Numbers.{le-or-lt, true-or-false}
+use Rattle.lists.specs.Numbers.{le-or-lt}
 
 -- The least of f k, f (k + 1), .., f (k + n).
 unfoldable pub leastOver : (f : ℕ → ℕ) (k n : ℕ) → ℕ

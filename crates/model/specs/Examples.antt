@@ -66,9 +66,13 @@ cardI = cardOf 3 2 3 2 (1 ∷ 2 ∷ 4 ∷ []) []
 abbrev cardUp : List ℕ
 cardUp = cardOf 4 2 1 0 (1 ∷ 1 ∷ 4 ∷ []) (3 ∷ [])
 
--- Two modules, tables that fall at first: the least is at steps 1 and 2, or at the top step alone; and a table that is flat.
+-- Tables that fall at first: the least is at steps 1 and 2, or at the top step alone, on a rack of four and on one of two; and a table
+-- that is flat.
 abbrev cardFalls : List ℕ
 cardFalls = cardOf 2 3 0 0 (5 ∷ 1 ∷ 1 ∷ 9 ∷ []) (0 ∷ 1 ∷ 4 ∷ 5 ∷ [])
+
+abbrev cardOfFour : List ℕ
+cardOfFour = cardOf 4 2 0 0 (20 ∷ 10 ∷ 1 ∷ []) (6 ∷ [])
 
 abbrev cardLeastAtTop : List ℕ
 cardLeastAtTop = cardOf 2 2 1 1 (9 ∷ 5 ∷ 2 ∷ []) (3 ∷ 1 ∷ [])
@@ -203,6 +207,7 @@ lightRows =
     row "the smallest of two cheap steps" (makeSheet cardFalls (1 ∷ 1 ∷ 2 ∷ 2 ∷ []) (sevens 9)) 0 14
     (over 9 (1 ∷ 255 ∷ 1 ∷ 255 ∷ 2 ∷ 2 ∷ 3 ∷ 2 ∷ []) ∷ []) ∷
     row "falling, exact" (planShow exact cardFalls (sevens 4) (sevens 12)) 0 13 ((0 ∷ 1 ∷ 2 ∷ 2 ∷ []) ∷ replicate 12 0 ∷ []) ∷
+    row "falling, coarse" (planShow coarse cardOfFour (sevens 1) (sevens 10)) 0 4 ((4 ∷ []) ∷ replicate 10 0 ∷ []) ∷
     row "just the load, at F of each step" (markSheet cardFalls sheetFalls) 0 18 [] ∷
     row "one step darker" (markSheet cardFalls (set sheetFalls 4 1)) 13 0 [] ∷
     row "lighter and cheaper" (markSheet cardFalls (set sheetFalls 0 2)) 0 14 [] ∷

@@ -3,7 +3,6 @@ use Prim.Native.Nat.{ℕ, suc, _+_, _-_, _*_, _≤_, _<_}
 use mathlib.Core.Path.{_≡_}
 use mathlib.Core.Bool.{true, false}
 use mathlib.Core.List.{List}
-use native.Mathlib.Nat.{mul-le-mul-left}
 use native.Mathlib.Numerals.{add-one}
 use native.Mathlib.Omega.{arith}
 use lib.ListN.{length, getD}
@@ -22,7 +21,7 @@ use Rattle.card.specs.declared.Header.{Header}
 use Rattle.card.specs.Fields.{LoadThere}
 use Rattle.card.specs.Checking.{Ready}
 use Rattle.card.proofs.FieldsThere.{load-there}
-use Rattle.laws.specs.Acceptance.{modules-range, top-range}
+use Rattle.laws.specs.Acceptance.{modules-range}
 use Rattle.counts.specs.Serving.{Served}
 use Rattle.sheets.specs.SheetRequires.{RowFits, PlanSized, PlanReady, RowShort}
 use Rattle.sheets.proofs.SheetBytes.{area-small}

@@ -1,17 +1,19 @@
--- The hypotheses of the theorems can be met: they hold of document 01's example E.
+-- The hypotheses of the theorems can be met: they hold of document 01's example E, and of a show whose table falls.
 use Prim.Native.Nat.{ℕ, _+_, _*_, _≤_}
 use mathlib.Core.Path.{_≡_, refl}
 use mathlib.Core.Bool.{true}
 use mathlib.Core.List.{List, [], _∷_, flatMap}
 use native.Mathlib.Omega.{arith}
 use lib.Dec.{leb, ltb}
+use lib.ListN.{getD}
 use borrow.Author.Tests.{leb-true, ltb-true}
 use Rattle.lists.specs.Tests.{every, every-at}
 use Rattle.lists.specs.Sums.{sum}
 use Rattle.lists.specs.Ranges.{leastOver, firstOver}
 use Rattle.lists.specs.Lists.{tabulate, rows, keep}
+use Rattle.model.specs.Instance.{Instance}
 use Rattle.model.specs.MoreLight.{leastFrom, activeStep}
-use Rattle.model.specs.Counts.{canServe, operatingCost, allCounts, coarseCounts}
+use Rattle.model.specs.Counts.{canServe, operatingCost, allCounts, powerOfTwo, coarseCounts}
 use Rattle.model.specs.Sheets.{off, stateAt, sheetLength, sheetEntries, lightAt, sheetLight, serves, stepCost, changeCost}
 use Rattle.model.specs.Sheets.{sheetOperatingCost, sheetSwitchingCost, sheetCost, activeAt, countsOf}
 use Rattle.model.specs.Thesis.{countAt, slotCost, countsCost}
@@ -88,3 +90,42 @@ list-ratio-applied =
 -- The coarse plan costs at most twice as much as the steady sheet: 8 ≤ 10.
 pub coarse-twice-applied : leastCost exampleE (coarseCounts (exampleE .modules)) ≤ 2 * sheetCost exampleE steadySheet
 coarse-twice-applied = coarse-twice example-plannable steadySheet steady-serves
+
+-- A show of one slot with load 6 on 4 modules, where step 2 is cheap and the steps below are dear.
+abbrev falling : Instance
+falling =
+    record {
+      modules = 4;
+      topStep = 2;
+      slots = 1;
+      powerUp = 0;
+      powerDown = 0;
+      table = λ k. getD (20 ∷ 10 ∷ 1 ∷ []) k 0;
+      load = λ t. 6;
+    }
+
+falling-plannable : Plannable falling
+falling-plannable =
+    record {
+      some = omega arith;
+      steps = omega arith;
+      loads = λ t h. omega arith;
+      convex = λ k h. let first : k ≡ 0 = omega arith in rw first (omega arith);
+    }
+
+-- A sheet with three modules at step 2.
+abbrev threeAtTop : List ℕ
+threeAtTop = 2 ∷ 2 ∷ 2 ∷ off ∷ []
+
+-- The sheet costs 3, and the least cost over the coarse counts is 4; with just the load it would be 22.
+falling-computed :
+    (serves falling threeAtTop ≡ true) × (sheetCost falling threeAtTop ≡ 3) ×
+    (leastCost falling (coarseCounts (falling .modules)) ≡ 4)
+unfolding every sum tabulate rows keep flatMap canServe allCounts powerOfTwo coarseCounts stateAt sheetLength sheetEntries lightAt
+    sheetLight serves stepCost changeCost sheetOperatingCost sheetSwitchingCost sheetCost moduleByte slotRow sheetOf planCost planServes
+    plansInOrder cheapest cheapestOf leastPlan leastOver firstOver leastFrom activeStep
+falling-computed = (refl, refl, refl)
+
+-- On a table that falls the coarse plan costs at most twice as much too: 4 ≤ 6.
+pub falling-twice-applied : leastCost falling (coarseCounts (falling .modules)) ≤ 2 * sheetCost falling threeAtTop
+falling-twice-applied = coarse-twice falling-plannable threeAtTop (falling-computed .0)

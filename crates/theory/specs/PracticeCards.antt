@@ -1,5 +1,5 @@
 -- The cards of practice shows (document 02, §1): every one that is written is accepted and planned by both planners.
-use Prim.Native.Nat.{ℕ, _+_, _≤_}
+use Prim.Native.Nat.{ℕ, _≤_}
 use mathlib.Core.Path.{_≡_, ap}
 use mathlib.Core.List.{List}
 use native.Mathlib.Omega.{arith}

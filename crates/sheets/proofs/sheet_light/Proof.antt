@@ -1,5 +1,4 @@
 use Prim.Native.Nat.{suc, _-_}
-use mathlib.Core.Path.{_≡_}
 use native.Mathlib.Omega.{arith}
 use lib.Dec.{leb}
 use borrow.Author.Needs.{needs}
