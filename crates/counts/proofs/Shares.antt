@@ -38,18 +38,15 @@ module _ {s : List ℕ} {h : Header} {n l : ℕ} (p : Served s h n l) (some : n 
   abbrev show : Instance
   show = instanceOf s
 
-  abbrev lowest : ℕ
-  lowest = lowestStep show
-
   cost-by-least : operatingCost show n l ≡ (n - l % n) * leastFrom show (l / n) + l % n * leastFrom show (l / n + 1)
   cost-by-least = operating-some show n l (pos-of-ne-zero some)
 
   -- Below the lowest step all modules are at the lowest step.
   pub cost-level : l / n < h .lowestStep → {x : ℕ} → x ≡ show .table (h .lowestStep) → n * x ≡ operatingCost show n l
   cost-level below {x} x-is =
-      let value : show .table lowest ≡ x = sym (rw (p .ready .lowest-is) at x-is) in
+      let value : show .table (lowestStep show) ≡ x = sym (rw (p .ready .lowest-is) at x-is) in
       let level : (k : ℕ) → k ≤ h .lowestStep → leastFrom show k ≡ x =
-      λ k to. least-level show (convex-table (p .ready)) k (omega (arith, p .ready .lowest-is)) ∙ value in
+      λ k to. least-level show k (omega (arith, p .ready .lowest-is)) ∙ value in
       rw (cost-by-least, level (l / n) (omega arith), level (l / n + 1) (omega arith))
       (omega (arith, part-and-rest n (l % n) x (le-of-lt (rest-below n l some))))
 

@@ -48,22 +48,29 @@ module _ (i : Instance) where
       let below = least-over-below (i .table) k (i .topStep - k) (activeStep i (k + 1)) (omega (arith, later .from)) (omega (arith, later .to)) in
       omega (arith, active-cost (k + 1))
 
+  -- Where no step from k to Q costs less than step k, that is the active step of k.
+  own-step : (k : ℕ) → k ≤ i .topStep → ((x : ℕ) → k ≤ x → x ≤ i .topStep → i .table k ≤ i .table x) → activeStep i k ≡ k
+  own-step k h least = active-is h (record { from = omega arith; to = h; least = least; before = λ x a b. absurd (omega arith) })
+
   -- Where the table never falls, a module is active at the step itself, and G is F: nothing is changed by document 02, §2.
   pub rising-same : NeverFalls (i .topStep) (i .table) → (k : ℕ) → k ≤ i .topStep → (activeStep i k ≡ k) × (leastFrom i k ≡ i .table k)
   rising-same rises k h =
-      let least = rises-to (i .table) (i .topStep) rises k in
-      let own = active-is h (record { from = omega arith; to = h; least = least; before = λ x a b. absurd (omega arith) }) in
+      let own = own-step k h (rises-to (i .table) (i .topStep) rises k) in
       (own, sym (active-cost k) ∙ ap (i .table) own)
 
-  -- On a convex table, by the lowest step.
-  module _ (convex : Convex (i .topStep) (i .table)) where
-    -- Up to the lowest step a module is active at the lowest step.
-    at-lowest : (k : ℕ) → k ≤ lowestStep i → activeStep i k ≡ lowestStep i
-    at-lowest k h =
-        let p = active-least 0 (omega arith) in
-        active-is (omega (arith, p .to))
-        (record { from = h; to = p .to; least = λ x a. p .least x (omega arith); before = λ x a. p .before x (omega arith) })
+  -- Up to the lowest step a module is active at the lowest step.
+  at-lowest : (k : ℕ) → k ≤ lowestStep i → activeStep i k ≡ lowestStep i
+  at-lowest k h =
+      let p = active-least 0 (omega arith) in
+      active-is (omega (arith, p .to))
+      (record { from = h; to = p .to; least = λ x a. p .least x (omega arith); before = λ x a. p .before x (omega arith) })
 
+  -- So up to there G is level.
+  pub least-level : (k : ℕ) → k ≤ lowestStep i → leastFrom i k ≡ i .table (lowestStep i)
+  least-level k h = sym (active-cost k) ∙ ap (i .table) (at-lowest k h)
+
+  -- On a convex table.
+  module _ (convex : Convex (i .topStep) (i .table)) where
     -- From the lowest step on a module is active at the step itself, also beyond the top step, where there is no other.
     at-itself : (k : ℕ) → lowestStep i ≤ k → activeStep i k ≡ k
     unfolding activeStep firstOver
@@ -71,8 +78,7 @@ module _ (i : Instance) where
         let p = active-least 0 (omega arith) in
         let rises = rises-past (i .topStep) (i .table) convex (lowestStep i) (λ g. p .least (lowestStep i + 1) (omega arith) (omega arith)) in
         ⊎-elim
-        (λ (h : k ≤ i .topStep).
-        active-is h (record { from = omega arith; to = h; least = λ x. rises k x from; before = λ x a b. absurd (omega arith) }))
+        (λ (h : k ≤ i .topStep). own-step k h (λ x. rises k x from))
         (λ (h : i .topStep < k). let none : i .topStep - k ≡ 0 = omega arith in rw none)
         (le-or-lt k (i .topStep))
 
@@ -84,15 +90,11 @@ module _ (i : Instance) where
         (λ (g : lowestStep i < k). at-itself k (le-of-lt g) ∙ sym (max-eq-left (le-of-lt g)))
         (le-or-lt k (lowestStep i))
 
-    -- Up to the lowest step G is level.
-    pub least-level : (k : ℕ) → k ≤ lowestStep i → leastFrom i k ≡ i .table (lowestStep i)
-    least-level k h = sym (active-cost k) ∙ ap (i .table) (at-lowest k h)
-
-    -- From the lowest step on G is F.
+    -- So from there on G is F.
     pub least-itself : (k : ℕ) → lowestStep i ≤ k → leastFrom i k ≡ i .table k
     least-itself k h = sym (active-cost k) ∙ ap (i .table) (at-itself k h)
 
-    -- So G is convex.
+    -- G is convex.
     pub least-convex : Convex (i .topStep) (leastFrom i)
     least-convex k h =
         ⊎-elim
