@@ -49,8 +49,8 @@
  *   load    The light that a slot must get at least.
  *   F(k)    The cost of one active module at step k for one slot. F(0) to F(Q) are the table.
  *   G(k)    The least of F(k) to F(Q): the least that a module costs which gives step k or more.
- *   B(k)    The step that is burnt for k: the smallest step j from k to Q with F(j) = G(k). TABLES THAT
- *           FALL below has an example of G and B.
+ *   B(k)    The step at which a module is active in the library's sheets if it has to give step k: the
+ *           smallest step j from k to Q with F(j) = G(k). TABLES THAT FALL below has an example of G and B.
  *   count   How many modules are active in a slot, from 0 to m.
  *   plan    T bytes: the count of each slot, slot 1 first.
  *   sheet   m * T bytes: one for each slot and module, slot by slot, module 1 first. The byte of module j
@@ -107,11 +107,11 @@
  *
  * TABLES THAT FALL
  *
- * A table may fall at first: then a module costs less at a higher step. Since more light than the load is
- * allowed, a module that has to give step k may be active at any higher step, and is so if that costs
- * less. G(k), the least of F(k) to F(Q), is what it then costs, and B(k), the smallest step j from k to Q
- * with F(j) = G(k), is the step at which it is active in the sheets that the library makes. For example,
- * with Q = 3:
+ * A table may fall at first, or up to Q: then a module costs less at a higher step. Since more light than
+ * the load is allowed, a module that has to give step k may be active at any higher step, and is so if
+ * that costs less. G(k), the least of F(k) to F(Q), is what it then costs, and B(k), the smallest step j
+ * from k to Q with F(j) = G(k), is the step at which it is active in the sheets that the library makes.
+ * For example, with Q = 3:
  *
  *   k      0   1   2   3
  *   F(k)   6   2   2   5     the table
@@ -231,8 +231,8 @@
  * order in which they are tested. No call sets errno.
  *
  * Number 9 is never given, by any call, which is proved. Before release 2.0.0 a slot had to get its load
- * exactly, and lamp_plan_coarse refused a table that falls by 9. Now it reads G in the place of F, and G
- * never falls. The name LAMP_NOT_MONOTONE stays, so that a host which has a case for it compiles, and no
+ * exactly, and lamp_plan_coarse gave refusal 9 for a table that falls. Now it reads G in the place of F,
+ * and G never falls. The name LAMP_NOT_MONOTONE stays, so that a host which has a case for it compiles, and no
  * later refusal will get the number 9.
  *
  *

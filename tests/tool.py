@@ -112,7 +112,7 @@ def words_of_plan(data):
 ACCEPTED = ("a", "e", "empty", "falls-first", "keep-burning", "v-shaped")
 EXACT = b"# exact plan: no sheet that serves the show costs less\n"
 COARSE = b"# coarse plan: at most twice the least cost, NOT the key of the exact plan\n"
-BRIGHTER = "slots with more light than their load, because that costs less: "
+BRIGHTER = "slots with more light than their load, which costs less at their counts: "
 
 
 def keys():

@@ -50,7 +50,7 @@ fn brighter(card: &[u8], output: &[u8]) -> Vec<usize> {
 fn brighter_told(card: &[u8], output: &[u8]) -> bool {
     let slots = brighter(card, output);
     let text = String::from_utf8_lossy(output).into_owned();
-    let said = text.lines().find_map(|line| line.strip_prefix("# slots with more light than their load, because that costs less: "));
+    let said = text.lines().find_map(|line| line.strip_prefix("# slots with more light than their load, which costs less at their counts: "));
     let wanted = (!slots.is_empty()).then(|| runs(&slots, 10));
     assert_eq!(said.map(str::to_string), wanted, "{text}");
     !slots.is_empty()

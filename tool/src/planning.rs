@@ -55,14 +55,14 @@ impl Planned {
         self.show.lights(&self.sheet).collect()
     }
 
-    /// A sentence on the slots that get more light than their load, where there are any. Each of them costs less than with just its
-    /// load, since its modules are at a step above their share only if that step costs less.
+    /// A sentence on the slots that get more light than their load, where there are any. Each of them costs less than its count would with
+    /// just the load, since a module is at a step above its share only if that step costs less.
     pub fn brighter(&self) -> Option<String> {
         let slots = self.lights().into_iter().zip(&self.show.loads).enumerate();
         let brighter = slots.filter(|(_, (light, load))| *light > u64::from(**load));
         let numbers: Vec<usize> = brighter.map(|(slot, _)| slot + 1).collect();
         let sentence =
-            || format!("slots with more light than their load, because that costs less: {}", runs(&numbers, MOST_RUNS));
+            || format!("slots with more light than their load, which costs less at their counts: {}", runs(&numbers, MOST_RUNS));
         (!numbers.is_empty()).then(sentence)
     }
 }
