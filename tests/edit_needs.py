@@ -3,7 +3,7 @@
 
 Prints a line for each fault, and last how many edits were compared. A fault is: an edit without a log, a log without an edit, an edit that
 was not refused, one that was refused for its shape (a name that does not exist, or a sum, an index or a cast that is not safe) and not
-for what a contract or a theorem says, one whose log names no fact, and each line in which docs/EDITS.md differs from what --write writes.
+for what a contract or a theorem says, one at which the check gave up, one whose log names no fact, and each line in which docs/EDITS.md differs from what --write writes.
 With --write the file is written, if there is no other fault."""
 import argparse
 import difflib
@@ -24,6 +24,8 @@ function or the module with the first fact that the check refused.
 # What the check says of a name that does not exist, and the needs by which code is safe. Such a need that a tactic closes has no name of
 # its own: it stands in the list at the end of a proof file, NAME-spec.
 UNKNOWN = ("can be named from here", "is not in scope", "has no field")
+# What the check says where it gave up before it came to a verdict.
+GAVE_UP = "broke off"
 SAFETY = re.compile(r"(add|sub|mul|div|rem|cast|slice|shared-slice|array|part|enum-known)-|.*-spec$")
 
 
@@ -45,6 +47,12 @@ def has_shape_error(text):
     return any(": error" in line and any(words in line for words in UNKNOWN) for line in text.splitlines())
 
 
+def gave_up(text):
+    """The first error is that the check came to no verdict. What is said of an error goes on in lines that begin with a blank."""
+    first = re.search(r"^.*: error.*\n(?: .*\n)*", text, re.M)
+    return first is not None and GAVE_UP in first[0]
+
+
 def examine(edit, log):
     """The line of an edit in the table, or its fault."""
     crate, comment = edit.parent.parent.name, edit.read_text(encoding="utf-8").splitlines()[:1]
@@ -60,6 +68,8 @@ def examine(edit, log):
     if fact is None:
         return None, f"{name}: its log names no fact"
     place, need, row, of_code = fact
+    if gave_up(text):
+        return None, f"{name}: the check gave up, at {place} {need}"
     if has_shape_error(text) or (of_code and SAFETY.match(need)):
         return None, f"{name}: it was refused for its shape, at {place} {need}"
     does = comment[0][2:].strip().replace("|", "\\|")

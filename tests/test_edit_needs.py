@@ -23,6 +23,7 @@ FACTS = {
     "theory/a_sum": "Tables `add-entries`",
 }
 UNKNOWN = "/x/proofs/way_back/Proof.antt:9:1: error: `returns-3`: no `returns-3` can be named from here\n" + REFUSED
+GAVE_UP = "/x/proofs/way_back/Proof.antt:9:1: error: `returns`: `search`: no proof\n  `search` broke off: too many steps\n" + REFUSED
 UNSAFE = "/x/proofs/way_back/Proof.antt:9:1: error: `add-cost`: the sum may not fit\n" + REFUSED
 done = 0
 
@@ -108,6 +109,8 @@ with_tree(no_edits, "there is no edit", *(f"{extra}| {name} |" for name in LOGS)
 with_tree(lambda root: put(log_of(root, first), UNKNOWN), shape)
 with_tree(lambda root: put(log_of(root, first), LOGS[first] + UNKNOWN), shape)
 with_tree(lambda root: put(log_of(root, first), UNSAFE), shape)
+with_tree(lambda root: put(log_of(root, first), GAVE_UP), f"{first}: the check gave up, at way_back returns")
+with_tree(lambda root: put(log_of(root, first), LOGS[first] + GAVE_UP))
 with_tree(lambda root: replaced(log_of(root, first), "`loop-holds`", "`way-back-spec`"), shape)
 with_tree(lambda root: put(log_of(root, first), "logic=proved functions=1\n"), f"{first}: it was not refused")
 with_tree(lambda root: put(log_of(root, first), REFUSED), f"{first}: its log names no fact")

@@ -52,7 +52,7 @@ fallen-found {s} {h} {k} table given level =
           ⊎-elim (λ (g : k ≤ x). rises x (omega arith) g top) (λ (g : x < k). le-of-lt (given .dearer x g)) (le-or-lt k x);
       before = λ x _. given .dearer x;
     } in
-    sym (active-is (instanceOf s) (omega arith) (rw (table .sized .header .top-is) at found))
+    sym (active-is (instanceOf s) (rw (table .sized .header .top-is) at found))
 
 -- The lowest step is a step of the table.
 pub lowest-in-table : {s : List ℕ} {h : Header} → Ready s h → h .lowestStep ≤ instanceOf s .topStep

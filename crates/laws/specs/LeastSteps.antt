@@ -37,33 +37,36 @@ module _ (i : Instance) where
   active-from k = least-index (i .table) k (i .topStep - k) .from
 
   -- Where the step j is the smallest from k to Q of least cost, it is the active step.
-  pub active-is : {k j : ℕ} → k ≤ i .topStep → LeastAt (i .table) k (i .topStep) j → activeStep i k ≡ j
-  active-is {k} h L = least-at-unique (active-least k h) L
+  pub active-is : {k j : ℕ} → LeastAt (i .table) k (i .topStep) j → activeStep i k ≡ j
+  active-is {k} L = least-at-unique (active-least k (omega (arith, L .from, L .to))) L
 
   -- G never falls.
   pub least-never-falls : NeverFalls (i .topStep) (leastFrom i)
-  unfolding leastFrom
   least-never-falls k h =
       let later = active-least (k + 1) (omega arith) in
-      let below = least-over-below (i .table) k (i .topStep - k) (activeStep i (k + 1)) (omega (arith, later .from)) (omega (arith, later .to)) in
-      omega (arith, active-cost (k + 1))
+      let below = active-least k (omega arith) .least (activeStep i (k + 1)) (omega (arith, later .from)) (later .to) in
+      omega (arith, active-cost k, active-cost (k + 1))
 
-  -- Where no step from k to Q costs less than step k, that is the active step of k.
-  own-step : (k : ℕ) → k ≤ i .topStep → ((x : ℕ) → k ≤ x → x ≤ i .topStep → i .table k ≤ i .table x) → activeStep i k ≡ k
-  own-step k h least = active-is h (record { from = omega arith; to = h; least = least; before = λ x a b. absurd (omega arith) })
+  -- Where no step from k to Q costs less than step k, that is the active step of k, also beyond Q, where there is no other.
+  own-step : (k : ℕ) → ((x : ℕ) → k ≤ x → x ≤ i .topStep → i .table k ≤ i .table x) → activeStep i k ≡ k
+  unfolding activeStep firstOver
+  own-step k least =
+      ⊎-elim
+      (λ (h : k ≤ i .topStep). active-is (record { from = omega arith; to = h; least = least; before = λ x a b. absurd (omega arith) }))
+      (λ (h : i .topStep < k). let none : i .topStep - k ≡ 0 = omega arith in rw none)
+      (le-or-lt k (i .topStep))
 
-  -- Where the table never falls, a module is active at the step itself, and G is F: nothing is changed by document 02, §2.
-  pub rising-same : NeverFalls (i .topStep) (i .table) → (k : ℕ) → k ≤ i .topStep → (activeStep i k ≡ k) × (leastFrom i k ≡ i .table k)
-  rising-same rises k h =
-      let own = own-step k h (rises-to (i .table) (i .topStep) rises k) in
+  -- Where the table never falls, a module is active at the step itself, and G is F: document 02, §2, changes no plan and no cost there.
+  pub never-falling-same : NeverFalls (i .topStep) (i .table) → (k : ℕ) → (activeStep i k ≡ k) × (leastFrom i k ≡ i .table k)
+  never-falling-same rises k =
+      let own = own-step k (rises-to (i .table) (i .topStep) rises k) in
       (own, sym (active-cost k) ∙ ap (i .table) own)
 
   -- Up to the lowest step a module is active at the lowest step.
   at-lowest : (k : ℕ) → k ≤ lowestStep i → activeStep i k ≡ lowestStep i
   at-lowest k h =
       let p = active-least 0 (omega arith) in
-      active-is (omega (arith, p .to))
-      (record { from = h; to = p .to; least = λ x a. p .least x (omega arith); before = λ x a. p .before x (omega arith) })
+      active-is (record { from = h; to = p .to; least = λ x a. p .least x (omega arith); before = λ x a. p .before x (omega arith) })
 
   -- So up to there G is level.
   pub least-level : (k : ℕ) → k ≤ lowestStep i → leastFrom i k ≡ i .table (lowestStep i)
@@ -71,16 +74,12 @@ module _ (i : Instance) where
 
   -- On a convex table.
   module _ (convex : Convex (i .topStep) (i .table)) where
-    -- From the lowest step on a module is active at the step itself, also beyond the top step, where there is no other.
+    -- From the lowest step on a module is active at the step itself.
     at-itself : (k : ℕ) → lowestStep i ≤ k → activeStep i k ≡ k
-    unfolding activeStep firstOver
     at-itself k from =
         let p = active-least 0 (omega arith) in
         let rises = rises-past (i .topStep) (i .table) convex (lowestStep i) (λ g. p .least (lowestStep i + 1) (omega arith) (omega arith)) in
-        ⊎-elim
-        (λ (h : k ≤ i .topStep). own-step k h (λ x. rises k x from))
-        (λ (h : i .topStep < k). let none : i .topStep - k ≡ 0 = omega arith in rw none)
-        (le-or-lt k (i .topStep))
+        own-step k (λ x. rises k x from)
 
     -- 'the smallest such j' is the greater of the step and the lowest step.
     pub active-greater : (k : ℕ) → activeStep i k ≡ max k (lowestStep i)

@@ -27,20 +27,20 @@ convex-test q f = (
 )
 
 module _ (q : ℕ) (f : ℕ → ℕ) (c : Convex q f) where
-  -- The slopes of a convex table rise.
-  slopes-rise : (j d : ℕ) → j + d < q → f (j + 1) + f (j + d) ≤ f j + f (j + d + 1)
-  slopes-rise j zero h = rw (add-zero j) (omega arith)
-  slopes-rise j (suc d) h =
+  -- The differences of a convex table rise.
+  differences-rise : (j d : ℕ) → j + d < q → f (j + 1) + f (j + d) ≤ f j + f (j + d + 1)
+  differences-rise j zero h = rw (add-zero j) (omega arith)
+  differences-rise j (suc d) h =
       let here : j + suc d ≡ j + d + 1 = omega arith in
       let next : j + d + 1 + 1 ≡ j + d + 2 = omega arith in
-      rw (here, next) (omega (arith, slopes-rise j d (omega arith), c (j + d) (omega arith)))
+      rw (here, next) (omega (arith, differences-rise j d (omega arith), c (j + d) (omega arith)))
 
   -- A convex table lies above the line through two neighbouring entries d steps up from them.
   above-line-up : (j d : ℕ) → j + d ≤ q → f j + d * f (j + 1) ≤ f (j + d) + d * f j
   above-line-up j zero h = rw (add-zero j) (omega arith)
   above-line-up j (suc d) h =
       let here : j + suc d ≡ j + d + 1 = omega arith in
-      rw here (omega (arith, above-line-up j d (omega arith), slopes-rise j d (omega arith)))
+      rw here (omega (arith, above-line-up j d (omega arith), differences-rise j d (omega arith)))
 
   -- From a step p on, from which to the next a convex table does not fall, it never falls.
   pub rises-past : (p : ℕ) → (p < q → f p ≤ f (p + 1)) → (k x : ℕ) → p ≤ k → k ≤ x → x ≤ q → f k ≤ f x
@@ -50,7 +50,7 @@ module _ (q : ℕ) (f : ℕ → ℕ) (c : Convex q f) where
       (λ (g : k < x).
       let (d, past) = le-dest from in
       let (e, up) = le-dest to in
-      let next : f k ≤ f (k + 1) = rw (← past) (omega (arith, slopes-rise p d (omega arith), level (omega arith))) in
+      let next : f k ≤ f (k + 1) = rw (← past) (omega (arith, differences-rise p d (omega arith), level (omega arith))) in
       rw (← up) (omega (arith, above-line-up k e (omega arith), mul-le-mul-left e next)))
       (le-or-lt x k)
 
@@ -59,7 +59,7 @@ module _ (q : ℕ) (f : ℕ → ℕ) (c : Convex q f) where
   above-line-down k zero h = rw (add-zero k) (omega arith)
   above-line-down k (suc d) h =
       let here : k + 1 + d ≡ k + suc d = omega arith in
-      omega (arith, rw here at (above-line-down (k + 1) d (omega arith)), slopes-rise k (suc d) h)
+      omega (arith, rw here at (above-line-down (k + 1) d (omega arith)), differences-rise k (suc d) h)
 
 -- A convex table lies above the line through the entries at j and j + 1. It is stated without subtraction, so that the table may fall.
 pub supporting-line :

@@ -11,6 +11,7 @@ use native.Mathlib.Omega.{arith}
 use lib.ListN.{length, getD, length-append, List·getD-append}
 use Rattle.lists.specs.Numbers.{le-or-lt}
 use Rattle.lists.specs.Rising.{rises-to}
+use Rattle.lists.specs.Tests.{allOf, and-left, and-right}
 use Rattle.lists.specs.Lists.{keep}
 
 module _ {A : Type 0} where
@@ -90,6 +91,16 @@ module _ {A : Type 0} where
       next
       (λ y m. ⊎-elim (first y) (λ (h : List·Memᴰ y ys). across x y (List·Memᴰ·head refl) h) (List·Memᴰ·append-cases xs m))
       (in-order-append later p (λ a b m n. across a b (List·Memᴰ·tail m) n))
+
+-- A test that holds at each element of a list holds at a member.
+pub all-of-at : (f : ℕ → Bool) (l : List ℕ) {x : ℕ} → allOf f l ≡ true → List·Memᴰ x l → f x ≡ true
+unfolding allOf
+all-of-at f [] e m = absurd (List·Memᴰ·not-nil m)
+all-of-at f (y ∷ ys) {x} e m =
+    ⊎-elim
+    (λ (same : x ≡ y). ap f same ∙ and-left (f y) (allOf f ys) e)
+    (all-of-at f ys (and-right (f y) (allOf f ys) e))
+    (List·Memᴰ·cases-cons m)
 
 -- A list of numbers, each below the next, is in order.
 pub rising-in-order : (l : List ℕ) → ((j : ℕ) → j + 1 < length l → getD l j 0 < getD l (j + 1) 0) → InOrder _<_ l

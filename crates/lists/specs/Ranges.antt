@@ -28,17 +28,13 @@ pub record LeastAt (f : ℕ → ℕ) (k q j : ℕ) : Type 0 where
 
 -- There is only one such index.
 pub least-at-unique : {f : ℕ → ℕ} {k q a b : ℕ} → LeastAt f k q a → LeastAt f k q b → a ≡ b
-least-at-unique {f} {k} {q} {a} {b} A B =
-    ⊎-elim
-    (λ (g : a ≤ b).
-    ⊎-elim
-    (λ (h : b ≤ a). omega arith)
-    (λ (h : a < b). absurd (omega (arith, B .before a (A .from) h, A .least b (B .from) (B .to))))
-    (le-or-lt b a))
-    (λ (g : b < a). absurd (omega (arith, A .before b (B .from) g, B .least a (A .from) (A .to))))
-    (le-or-lt a b)
+least-at-unique A B = omega (arith, at-most A B, at-most B A)
+  where
+    at-most : {f : ℕ → ℕ} {k q a b : ℕ} → LeastAt f k q a → LeastAt f k q b → a ≤ b
+    at-most {a = a} {b = b} A B =
+        ⊎-elim (λ (g : a ≤ b). g) (λ (g : b < a). absurd (omega (arith, A .before b (B .from) g, B .least a (A .from) (A .to)))) (le-or-lt a b)
 
--- The first index from k to k + n at which a test holds that holds at x: it stands no later than x, and the test fails before it.
+-- The index j is the first from k on at which the test holds, and it stands no later than x.
 record FirstAt (test : ℕ → Bool) (k x j : ℕ) : Type 0 where
   from : k ≤ j
   to : j ≤ x

@@ -66,7 +66,7 @@ cardI = cardOf 3 2 3 2 (1 ∷ 2 ∷ 4 ∷ []) []
 abbrev cardUp : List ℕ
 cardUp = cardOf 4 2 1 0 (1 ∷ 1 ∷ 4 ∷ []) (3 ∷ [])
 
--- Tables that fall at first: the least is at steps 1 and 2, or at the top step alone, on a rack of four and on one of two; and a table
+-- Tables that fall at first: the least is at steps 1 and 2, or at the top step alone, on a rack of four and on racks of two; and a table
 -- that is flat.
 abbrev cardFalls : List ℕ
 cardFalls = cardOf 2 3 0 0 (5 ∷ 1 ∷ 1 ∷ 9 ∷ []) (0 ∷ 1 ∷ 4 ∷ 5 ∷ [])
@@ -76,6 +76,9 @@ cardOfFour = cardOf 4 2 0 0 (20 ∷ 10 ∷ 1 ∷ []) (6 ∷ [])
 
 abbrev cardLeastAtTop : List ℕ
 cardLeastAtTop = cardOf 2 2 1 1 (9 ∷ 5 ∷ 2 ∷ []) (3 ∷ 1 ∷ [])
+
+abbrev cardSteep : List ℕ
+cardSteep = cardOf 2 3 0 0 (20 ∷ 12 ∷ 6 ∷ 2 ∷ []) (1 ∷ [])
 
 abbrev cardFlat : List ℕ
 cardFlat = cardOf 2 3 0 0 (4 ∷ 4 ∷ 4 ∷ 4 ∷ []) (0 ∷ 3 ∷ [])
@@ -191,6 +194,7 @@ sheetRows =
     row "short area before a short plan" (makeSheet cardA [] (sevens 8)) 10 0 (sevens 8 ∷ []) ∷
     row "plan of 4 counts" (makeSheet cardA (3 ∷ 1 ∷ 1 ∷ 1 ∷ []) (sevens 9)) 11 0 (sevens 9 ∷ []) ∷
     row "count 4 in slot 3 before count 0 in slot 1" (makeSheet cardA (0 ∷ 1 ∷ 4 ∷ []) (sevens 9)) 12 0 (sevens 9 ∷ []) ∷
+    row "count 2 for load 6" (makeSheet cardA (2 ∷ 1 ∷ 1 ∷ []) (sevens 9)) 13 0 (sevens 9 ∷ []) ∷
     row "sheet of 8 bytes" (markSheet cardA (take 8 sheetD)) 11 0 [] ∷
     row "sheet of 10 bytes" (markSheet cardA (sheetD ++ (255 ∷ []))) 11 0 [] ∷
     row "step above Q" (markSheet cardA (set sheetD 0 3)) 12 0 [] ∷
@@ -215,6 +219,12 @@ lightRows =
     row "least at the top step, exact" (planShow exact cardLeastAtTop (sevens 2) (sevens 6)) 0 10 ((2 ∷ 1 ∷ []) ∷ replicate 6 0 ∷ []) ∷
     row "least at the top step, sheet" (makeSheet cardLeastAtTop (2 ∷ 1 ∷ []) (sevens 4)) 0 10 ((2 ∷ 2 ∷ 2 ∷ 255 ∷ []) ∷ []) ∷
     row "least at the top step, coarse" (planShow coarse cardLeastAtTop (sevens 2) (sevens 20)) 0 10 ((2 ∷ 1 ∷ []) ∷ replicate 20 0 ∷ []) ∷
+    row "falling to the top, both below it" (runningCost cardSteep 2 1) 0 4 [] ∷
+    row "falling to the top, both raised" (makeSheet cardSteep (2 ∷ []) (sevens 2)) 0 4 ((3 ∷ 3 ∷ []) ∷ []) ∷
+    row "a step between the lowest and the top" (makeSheet cardA (3 ∷ 1 ∷ 2 ∷ []) (sevens 9)) 0 37 ((2 ∷ 2 ∷ 2 ∷ 0 ∷ 255 ∷ 255 ∷ 1 ∷ 1 ∷ 255 ∷ []) ∷ []) ∷
+    row "lighter in slot 1, darker in the last" (markSheet cardFalls (set (set sheetFalls 0 2) 7 1)) 13 0 [] ∷
+    row "all at the top step" (markSheet cardFalls (replicate 8 3)) 0 72 [] ∷
+    row "a table that falls is accepted" (checkCard cardFalls) 0 0 [] ∷
     row "flat, sheet" (makeSheet cardFlat (1 ∷ 2 ∷ []) (sevens 4)) 0 12 ((0 ∷ 255 ∷ 2 ∷ 1 ∷ []) ∷ []) ∷
     []
 

@@ -3,7 +3,7 @@ use Prim.Native.Nat.{ℕ, zero, suc, _+_, _-_, _*_, _/_, _%_, _≤_, _<_}
 use mathlib.Core.Path.{_≡_, ap}
 use mathlib.Core.Logic.{⊎-elim}
 use native.Mathlib.Nat.{mul-le-mul, mul-le-mul-left, mul-le-mul-right, lt-of-mul-lt-mul-left, le-of-mul-le-mul-left}
-use native.Mathlib.Nat.{le-refl, eq-zero-or-pos, add-zero, sub-zero, mod-lt, div-add-mod, mul-add-div, div-eq-of-lt, mul-add-mod-self-left, mod-eq-of-lt}
+use native.Mathlib.Nat.{add-zero, sub-zero, mod-lt, div-add-mod, mul-add-div, div-eq-of-lt, mul-add-mod-self-left, mod-eq-of-lt}
 use native.Mathlib.Omega.{arith}
 use Rattle.lists.specs.Numbers.{le-or-lt}
 use Rattle.lists.specs.Products.{exchange, mul-le-mul-some}
@@ -59,27 +59,26 @@ module _ (i : Instance) where
   cost-of-shares {n} {l} σ = cost-shared i n l (σ .step) (σ .high) (σ .others + 1) (omega arith) (σ .all) (σ .light)
 
   -- 'The running cost never falls with more light if the table it uses never falls' (01), and 'G never falls' (02 §2).
-  pub more-light : (n l : ℕ) → 0 < n → l < n * i .topStep → operatingCost i n l ≤ operatingCost i n (l + 1)
-  more-light n l some h =
-      let σ : Shares n l = shares n l some in
+  pub more-light : (n l : ℕ) → l < n * i .topStep → operatingCost i n l ≤ operatingCost i n (l + 1)
+  more-light zero l h = absurd (omega arith)
+  more-light (suc n) l h =
+      let some : 0 < suc n = omega arith in
+      let σ : Shares (suc n) l = shares (suc n) l some in
       let here = cost-of-shares σ in
-      let after = cost-shared i n (l + 1) (σ .step) (σ .high + 1) (σ .others) some (omega arith) (omega arith) in
-      omega (arith, least-never-falls i (σ .step) (lt-of-mul-lt-mul-left n (omega arith)))
+      let after = cost-shared i (suc n) (l + 1) (σ .step) (σ .high + 1) (σ .others) some (omega arith) (omega arith) in
+      omega (arith, least-never-falls i (σ .step) (lt-of-mul-lt-mul-left (suc n) (omega arith)))
 
   -- The same with any more light that the count can give.
   pub lighter : (n l light : ℕ) → l ≤ light → light ≤ n * i .topStep → operatingCost i n l ≤ operatingCost i n light
   lighter n l light h fits =
-      ⊎-elim
-      (λ (none : n ≡ 0). let same : l ≡ light = omega (arith, ap (λ (x : ℕ). x * i .topStep) none) in rw same (le-refl _))
-      (λ (some : 0 < n). rises-to (operatingCost i n) (n * i .topStep) (λ k. more-light n k some) l light h fits)
-      (eq-zero-or-pos n)
+      rises-to (operatingCost i n) (n * i .topStep) (more-light n) l light h fits
 
   module _ {x a l : ℕ} (fewer : x ≤ a) (fits : l ≤ x * i .topStep) (σ : Shares x l) (τ : Shares a l) where
     -- The next step costs no less if a module is at it: beyond the top step the table says nothing.
     high-rises : σ .high * leastFrom i (σ .step) ≤ σ .high * leastFrom i (σ .step + 1)
     high-rises = mul-le-mul-some (σ .high) (λ some. least-never-falls i (σ .step) (lt-of-mul-lt-mul-left x (omega arith)))
 
-    -- More modules burn at no higher step.
+    -- More modules are active at no higher step.
     step-falls : τ .step ≤ σ .step
     step-falls =
         let h : τ .step < σ .step + 1 = lt-of-mul-lt-mul-left a (omega (arith, mul-le-mul-right (σ .step + 1) fewer)) in
@@ -106,9 +105,11 @@ module _ (i : Instance) where
         rw h (omega (arith, ap (λ (n : ℕ). x * n * f) (τ .all), ap (λ (n : ℕ). a * n * f) (σ .all)))
 
   -- The cost a module never rises with more modules: the average over a modules is at most that over x.
-  pub average-falls : (x a l : ℕ) → 0 < x → x ≤ a → l ≤ x * i .topStep → x * operatingCost i a l ≤ a * operatingCost i x l
-  average-falls x a l some fewer fits =
-      let σ : Shares x l = shares x l some in
+  pub average-falls : (x a l : ℕ) → x ≤ a → l ≤ x * i .topStep → x * operatingCost i a l ≤ a * operatingCost i x l
+  average-falls zero a l fewer fits = omega arith
+  average-falls (suc y) a l fewer fits =
+      let x : ℕ = suc y in
+      let σ : Shares x l = shares x l (omega arith) in
       let τ : Shares a l = shares a l (omega arith) in
       rw (cost-of-shares σ, cost-of-shares τ)
       (⊎-elim

@@ -87,8 +87,8 @@ module _ (i : Instance) (counts : List ℕ) (start : ℕ) (asc : Ascending count
         let serves = le-leb _ _ (le-trans fits (mul-le-mul-right (i .topStep) above)) in
         simp (sub-self, mul-zero, add-zero) at (column-best i counts start asc loads t h .at-most k k b b serves)
 
-    costs-fall : 0 < x → (k : ℕ) → k < length counts → x ≤ countAtPlace counts k → x * costs k ≤ countAtPlace counts k * cost x
-    costs-fall some k b above = average-falls i x (countAtPlace counts k) (i .load t) some above fits
+    costs-fall : (k : ℕ) → k < length counts → x ≤ countAtPlace counts k → x * costs k ≤ countAtPlace counts k * cost x
+    costs-fall k b above = average-falls i x (countAtPlace counts k) (i .load t) above fits
 
     -- Where no module has to be active, serving from the counts around the point costs nothing.
     costs-none : (s : Block counts (point x)) → x ≤ 0 → lineAt s costs ≤ width s * (r * cost x)
@@ -102,7 +102,7 @@ module _ (i : Instance) (counts : List ℕ) (start : ℕ) (asc : Ascending count
     -- Serving from the counts around the point costs at most r times as much as from x.
     costs-some : (s : Block counts (point x)) → 0 < x → lineAt s costs ≤ width s * (r * cost x)
     costs-some s some =
-        let average = line-le s (λ k. x * costs k) (λ k. countAtPlace counts k * cost x) (costs-fall some) in
+        let average = line-le s (λ k. x * costs k) (λ k. countAtPlace counts k * cost x) costs-fall in
         let small = mul-le-mul-left (cost x * width s) (min-le-left (r * x) (i .modules)) in
         le-of-mul-le-mul-left {k = x} (omega (arith, ap (λ (n : ℕ). cost x * n) (line-of-counts s))) some
 

@@ -12,8 +12,8 @@ use lib.ListN.{length, getD}
 use lib.Dec.{ltb, eqb}
 use borrow.Author.Tests.{ltb-true, eqb-false, not-true}
 use Rattle.lists.specs.Numbers.{true-or-false}
-use Rattle.lists.specs.Tests.{every, every-at, allOf, and-left, and-right}
-use Rattle.lists.specs.Members.{InOrder, next, rising-in-order}
+use Rattle.lists.specs.Tests.{every, every-at, allOf}
+use Rattle.lists.specs.Members.{InOrder, next, rising-in-order, all-of-at}
 use Rattle.model.specs.declared.Refusal.{Refusal}
 use Rattle.model.specs.declared.Answer.{Answer}
 use Rattle.model.specs.declared.Answer.the-variants.{Cost, Refused}
@@ -41,16 +41,6 @@ refusals-ascend (makeSheet c p s) = (λ e. ascends _ refl, λ order. refl)
 refusals-ascend (markSheet c s) = (λ e. ascends _ refl, λ order. refl)
 refusals-ascend (roundCount n m) = (λ e. ascends _ refl, λ order. refl)
 refusals-ascend (practiceCard s c) = (λ e. absurd (true≢false e), λ order. absurd (falls (omega arith) order))
-
--- A test that holds at each element of a list holds at a member.
-all-of-at : (f : ℕ → Bool) (l : List ℕ) {x : ℕ} → allOf f l ≡ true → List·Memᴰ x l → f x ≡ true
-unfolding allOf
-all-of-at f [] e m = absurd (List·Memᴰ·not-nil m)
-all-of-at f (y ∷ ys) {x} e m =
-    ⊎-elim
-    (λ (same : x ≡ y). ap f same ∙ and-left (f y) (allOf f ys) e)
-    (all-of-at f ys (and-right (f y) (allOf f ys) e))
-    (List·Memᴰ·cases-cons m)
 
 -- Refusal 9 stands in no call's list.
 nine-unlisted : (c : Call) → allOf (λ n. not (eqb n 9)) (map refusalNumber (refusals c)) ≡ true

@@ -16,7 +16,7 @@ use Rattle.model.specs.MoreLight.{leastFrom, activeStep}
 use Rattle.model.specs.Counts.{operatingCost}
 use Rattle.model.specs.Sheets.{off, isOff, stepOf, stepCost, activeOf}
 use Rattle.model.specs.Plans.{moduleByte}
-use Rattle.laws.specs.Operating.{operating-formula, byte-above, byte-at, byte-off}
+use Rattle.laws.specs.Operating.{operating-some, operating-formula, byte-above, byte-at, byte-off}
 use Rattle.laws.specs.Tables.{Convex, supporting-line}
 use Rattle.laws.specs.LeastSteps.{least-from-below, least-convex, active-cost, active-least, active-from}
 use Rattle.theory.specs.Hypotheses.{Entry, activeIn, lightIn, rowCost}
@@ -24,9 +24,9 @@ use Rattle.theory.specs.Average.{lighter}
 
 -- 'the thesis's n·f(L/n) with straight lines between table entries' (01), with G for F (02 §2): the operating cost of n modules is n times
 -- the line from G(q) to G(q + 1), taken at l / n. It is stated without division.
-pub straight-line : (i : Instance) (n l : ℕ) → 0 < n → l ≤ n * i .topStep →
+pub straight-line : (i : Instance) (n l : ℕ) → 0 < n →
     operatingCost i n l + l % n * leastFrom i (l / n) ≡ n * leastFrom i (l / n) + l % n * leastFrom i (l / n + 1)
-straight-line i n l p h = omega (arith, operating-formula i n l h, part-and-rest n (l % n) (leastFrom i (l / n)) (le-of-lt (mod-lt l p)))
+straight-line i n l p = omega (arith, operating-some i n l p, part-and-rest n (l % n) (leastFrom i (l / n)) (le-of-lt (mod-lt l p)))
 
 -- The table lies above the line u + k x - k y - z. It is stated without subtraction.
 abbrev AboveLine : Instance → ℕ → ℕ → ℕ → ℕ → Type 0
@@ -50,7 +50,7 @@ module _ (i : Instance) (n l cost : ℕ) (fits : l ≤ n * i .topStep)
       let none : l % n ≡ 0 = omega (arith, mul-le-mul-left n h, div-add-mod l n) in
       let full : l ≡ n * i .topStep = omega (arith, mul-le-mul-left n h, div-add-mod l n) in
       let line = above _ _ _ _ (line-at-top i) in
-      omega (arith, rw (top, none) at (straight-line i n l p fits), ap (λ (x : ℕ). x * leastFrom i (i .topStep)) full)
+      omega (arith, rw (top, none) at (straight-line i n l p), ap (λ (x : ℕ). x * leastFrom i (i .topStep)) full)
 
   below-top : Convex (i .topStep) (i .table) → 0 < n → l / n < i .topStep → operatingCost i n l ≤ cost
   below-top c p h =
@@ -61,7 +61,7 @@ module _ (i : Instance) (n l cost : ℕ) (fits : l ≤ n * i .topStep)
       let line = above (low + q * low) high low (q * high) (λ k g. omega (arith, support k h g, least-from-below i k)) in
       let at-low = ap (λ (x : ℕ). x * low) (div-add-mod l n) in
       let at-high = ap (λ (x : ℕ). x * high) (div-add-mod l n) in
-      omega (arith, straight-line i n l p fits)
+      omega (arith, straight-line i n l p)
 
   above-lines : Convex (i .topStep) (i .table) → operatingCost i n l ≤ cost
   unfolding operatingCost

@@ -57,7 +57,15 @@ fill-requires-4 : tie.Need-fill-requires-4
 fill-requires-4 c κs = search needs
 
 returns-2 : tie.Need-returns-2
-returns-2 c = search row-filled
+returns-2 c =
+    let off = c .before .before in
+    let others = off .before .before .before .before in
+    let first = others .before .before .before .before in
+    let high = first .before .before in
+    let low = high .before in
+    let some = low .before in
+    row-filled _ _ _ (some .if1 .left) _ (some .before .before .before .pre .in-row) (low .active-step .ensures) (high .active-step2 .ensures)
+    (first .fill2 .ensures) (others .fill3 .ensures) (off .fill4 .ensures)
 
 pub fill-slot-spec : {M : Type 1} → statement M
 fill-slot-spec =
