@@ -1,5 +1,5 @@
 /* The same algorithms hand-written in C, for bench.c to compare with. Each checks the card as the library does. They
- * use that the table of an accepted card is convex: G and the step burnt for a step then need no search. */
+ * use that the table of an accepted card is convex: G and the active step of a step then need no search. */
 #include "plain.h"
 
 #include <string.h>
@@ -51,14 +51,14 @@ static uint64_t lowest_step(const struct show *i)
     return k;
 }
 
-/* The step burnt for a step: the lowest step for each below it, and from there on each for itself. */
-static uint64_t burnt(const struct show *i, uint64_t k) { return k < i->lowest ? i->lowest : k; }
+/* The active step of a step: the lowest step for each below it, and from there on each for itself. */
+static uint64_t active_step(const struct show *i, uint64_t k) { return k < i->lowest ? i->lowest : k; }
 
 static uint64_t running_cost(const struct show *i, uint64_t n, uint64_t l)
 {
     if (n == 0)
         return 0;
-    if (l < n * i->lowest) /* all n burn at the lowest step; tested before the division, which gcc makes faster code of */
+    if (l < n * i->lowest) /* all n are active at the lowest step; tested before the division, which gcc makes faster code of */
         return n * entry(i, i->lowest);
     uint64_t q = l / n, r = l % n;
     uint64_t low = (n - r) * entry(i, q);
@@ -175,8 +175,8 @@ struct lamp_answer plain_sheet(const uint8_t *card, size_t card_len, const uint8
             q = load(&i, t) / n;
             r = load(&i, t) % n;
         }
-        memset(row, (int)burnt(&i, q + 1), r);
-        memset(row + r, (int)burnt(&i, q), n - r);
+        memset(row, (int)active_step(&i, q + 1), r);
+        memset(row + r, (int)active_step(&i, q), n - r);
         memset(row + n, 255, i.modules - n);
     }
     return (struct lamp_answer){0, cost};

@@ -73,8 +73,8 @@ impl Show {
         (step..=self.top).map(|j| self.table[j as usize]).min().expect("a step is at most Q")
     }
 
-    /// The step that is burnt for step k: the smallest j from k to Q with F(j) = G(k).
-    pub fn burnt(&self, step: u64) -> u64 {
+    /// The active step of step k: the smallest j from k to Q with F(j) = G(k).
+    pub fn active_step(&self, step: u64) -> u64 {
         let least = self.least_from(step);
         (step..=self.top).find(|j| self.table[*j as usize] == least).expect("the least is one of them")
     }
@@ -110,14 +110,14 @@ impl Show {
                 out.push(if module >= count {
                     OFF
                 } else {
-                    self.burnt(load / count + u64::from(module < load % count)) as u8
+                    self.active_step(load / count + u64::from(module < load % count)) as u8
                 });
             }
         }
         out
     }
 
-    /// The light of each slot of a sheet that has a byte for each slot and module: the sum of the steps of the burning modules.
+    /// The light of each slot of a sheet that has a byte for each slot and module: the sum of the steps of the active modules.
     pub fn lights(&self, sheet: &[u8]) -> Vec<u64> {
         let light = |row: &[u8]| row.iter().filter(|byte| **byte != OFF).map(|byte| u64::from(*byte)).sum();
         sheet.chunks(self.modules as usize).map(light).collect()

@@ -146,6 +146,44 @@ const FALLS: &str = "the table falls somewhere";
 const SOME_MORE: &str = "some least sheet has more light than the load";
 const ALL_MORE: &str = "every least sheet has more light than the load";
 
+/// Makes a card with few enough sheets to go through all of them.
+fn card_of_few_sheets(random: &mut Random) -> Card {
+    loop {
+        let (modules, top, slots) = (1 + random.below(6), 1 + random.below(3), random.below(4));
+        // few shows without slots, which have one sheet, and none with too many sheets
+        if slots == 0 && random.below(10) != 0 || (top + 2).pow((modules * slots) as u32) > 20_000 {
+            continue;
+        }
+        let steepest = random.pick(&[1, 2, 6]);
+        return shows::card(random, modules, top, slots, steepest);
+    }
+}
+
+/// The exact planner gives the first of the least plans, and the sheet of it costs the least of all sheets. The function returns
+/// how many least plans there are.
+fn compare_exact(card: &Card, show: &Show, least: u64) -> usize {
+    let exact = planned(Planner::Exact, card);
+    let plans = least_plans(show, &show.counts(false));
+    let plan = &exact.buffers[0][..show.slots()];
+    assert_eq!(exact.answer, Answer::cost(least), "{card:?}");
+    assert_eq!(plan, &plans[0][..], "{card:?}");
+    let made = boundary::sheet(&card.bytes(), plan, &vec![7; show.modules as usize * show.slots()]);
+    assert_eq!(made, Outcome { answer: exact.answer, buffers: vec![show.sheet(plan)] }, "{card:?}");
+    assert_eq!(mark(&card.bytes(), &made.buffers[0]), exact.answer, "{card:?}");
+    plans.len()
+}
+
+/// The coarse planner gives the first of the least plans over its counts, and at most twice the least cost. The function
+/// returns its cost.
+fn compare_coarse(card: &Card, show: &Show, least: u64) -> u64 {
+    let coarse = planned(Planner::Coarse, card);
+    let plan = &coarse.buffers[0][..show.slots()];
+    assert_eq!(plan, &least_plans(show, &show.counts(true))[0][..], "{card:?}");
+    assert_eq!(coarse.answer, Answer::cost(show.sheet_cost(&show.sheet(plan))), "{card:?}");
+    assert!(coarse.answer.cost <= 2 * least, "{card:?}");
+    coarse.answer.cost
+}
+
 /// Thousands of small shows against a search through all sheets with enough light and through all plans.
 #[test]
 fn all_sheets() {
@@ -155,43 +193,19 @@ fn all_sheets() {
     names.extend([FALLS, SOME_MORE, ALL_MORE]);
     let mut classes = Classes::new("6,000 small shows against all sheets with enough light (seed 51)", &names);
     let mut random = Random::new(51);
-    let mut done = 0;
-    while done < SHOWS {
-        let (modules, top, slots) = (1 + random.below(6), 1 + random.below(3), random.below(4));
-        // few shows without slots, which have one sheet, and none with too many sheets
-        if slots == 0 && random.below(10) != 0 || (top + 2).pow((modules * slots) as u32) > 20_000 {
-            continue;
-        }
-        done += 1;
-        let steepest = random.pick(&[1, 2, 6]);
-        let card = shows::card(&mut random, modules, top, slots, steepest);
+    for _ in 0..SHOWS {
+        let card = card_of_few_sheets(&mut random);
         let show = plain::read_card(&card.bytes()).unwrap();
         let sheets = LeastSheets::of(&card, &show);
-        let least = sheets.least();
-        let exact = planned(Planner::Exact, &card);
-        let plans = least_plans(&show, &show.counts(false));
-        let plan = &exact.buffers[0][..show.slots()];
-        assert_eq!(exact.answer, Answer::cost(least), "{card:?}");
-        assert_eq!(plan, &plans[0][..], "{card:?}");
-        let made = boundary::sheet(&card.bytes(), plan, &vec![7; show.modules as usize * show.slots()]);
-        assert_eq!(made, Outcome { answer: exact.answer, buffers: vec![show.sheet(plan)] }, "{card:?}");
-        assert_eq!(mark(&card.bytes(), &made.buffers[0]), exact.answer, "{card:?}");
-        if plans.len() > 1 {
-            classes.see("two or more least plans");
-        }
-        let coarse = planned(Planner::Coarse, &card);
-        let plan = &coarse.buffers[0][..show.slots()];
-        assert_eq!(plan, &least_plans(&show, &show.counts(true))[0][..], "{card:?}");
-        assert_eq!(coarse.answer, Answer::cost(show.sheet_cost(&show.sheet(plan))), "{card:?}");
-        assert!(coarse.answer.cost <= 2 * least, "{card:?}");
-        if coarse.answer.cost > least {
-            classes.see("coarse above exact");
-            if show.falls() {
-                classes.see("coarse above exact on a falling table");
-            }
-        }
+        let several = compare_exact(&card, &show, sheets.least()) > 1;
+        let above = compare_coarse(&card, &show, sheets.least()) > sheets.least();
+        let of_plans = [
+            ("two or more least plans", several),
+            ("coarse above exact", above),
+            ("coarse above exact on a falling table", above && show.falls()),
+        ];
         let of_light = [(FALLS, show.falls()), (SOME_MORE, sheets.some_more()), (ALL_MORE, sheets.all_more())];
-        of_light.into_iter().filter(|(_, holds)| *holds).for_each(|(name, _)| classes.see(name));
+        of_plans.into_iter().chain(of_light).filter(|(_, holds)| *holds).for_each(|(name, _)| classes.see(name));
         shows::classes(&card).into_iter().for_each(|name| classes.see(name));
     }
     classes.require_all();
@@ -279,6 +293,43 @@ fn list(random: &mut Random, asked: u64, most: u64) -> Vec<u8> {
         .collect()
 }
 
+/// Makes a card, mostly with a table of a shape that falls.
+fn mostly_falling(random: &mut Random, modules: u64, top: u64, slots: u64) -> Card {
+    let mut card = shows::card(random, modules, top, slots, 50);
+    let shape = random.pick(&[0, 2, 4]);
+    if random.below(4) != 0 {
+        card.table = shows::table(random, top, shape, 50);
+    }
+    card
+}
+
+/// Calls a planner with areas that are mostly long enough, and returns its number: 0 just if they are and the card is accepted.
+fn planner_number(random: &mut Random, planner: Planner, card: &Card, bytes: &[u8], accepted: bool) -> u64 {
+    let slots = card.loads.len();
+    let asked = planner.work_bytes(usize::from(card.modules), slots);
+    let (plan, work) = (length(random, slots as u64), length(random, asked as u64));
+    let number = boundary::plan(planner, bytes, &vec![7; plan], &vec![7; work]).answer.number;
+    let enough = plan >= slots && work >= asked;
+    assert_eq!(number == 0, accepted && enough, "{planner:?} gives {number}: {card:?}");
+    number
+}
+
+/// Makes the calls that neither check a card nor plan, with random handed-in values, and returns their answers.
+fn other_answers(random: &mut Random, card: &Card, bytes: &[u8]) -> [Answer; 5] {
+    let (modules, top, slots) = (u64::from(card.modules), u64::from(card.top), card.loads.len() as u64);
+    let (count, load) = (random.below(modules + 2), random.below(modules * top + 2));
+    let (plan, sheet) = (list(random, slots, modules), list(random, modules * slots, top));
+    let (area, practice) = (vec![7; length(random, modules * slots)], vec![7; length(random, 949)]);
+    let (rack, start) = (random.below(202), random.below(5) as u32);
+    [
+        boundary::running_cost(bytes, count, load),
+        boundary::sheet(bytes, &plan, &area).answer,
+        mark(bytes, &sheet),
+        boundary::rounded_count(count, rack),
+        boundary::practice_card(start, &practice).answer,
+    ]
+}
+
 /// Every call on cards of which most have a table that falls. Nothing is compared with the plain rules: the numbers are counted, and 9
 /// is not among them. Either planner plans just the accepted cards with areas long enough.
 #[test]
@@ -288,37 +339,18 @@ fn no_call_gives_nine() {
     let mut random = Random::new(82);
     for _ in 0..40_000 {
         let (modules, top, slots) = (1 + random.below(9), 1 + random.below(5), random.below(5));
-        let mut card = shows::card(&mut random, modules, top, slots, 50);
-        let shape = random.pick(&[0, 2, 4]);
-        if random.below(4) != 0 {
-            card.table = shows::table(&mut random, top, shape, 50);
-        }
+        let card = mostly_falling(&mut random, modules, top, slots);
         let (bytes, falls) = (shows::damaged(&mut random, &card), card.table.windows(2).any(|w| w[1] < w[0]));
         let checked = boundary::check_card(&bytes).number;
+        classes.see_number(checked);
         for (planner, planned) in BOTH.into_iter().zip(PLANNED) {
-            let asked = planner.work_bytes(modules as usize, slots as usize);
-            let (plan, work) = (length(&mut random, slots), length(&mut random, asked as u64));
-            let number = boundary::plan(planner, &bytes, &vec![7; plan], &vec![7; work]).answer.number;
+            let number = planner_number(&mut random, planner, &card, &bytes, checked == 0);
             classes.see_number(number);
-            let enough = plan >= slots as usize && work >= asked;
-            assert_eq!(number == 0, checked == 0 && enough, "{planner:?} gives {number}: {card:?}");
             if number == 0 && falls {
                 classes.see(planned);
             }
         }
-        let (count, load) = (random.below(modules + 2), random.below(modules * top + 2));
-        let (plan, sheet) = (list(&mut random, slots, modules), list(&mut random, modules * slots, top));
-        let (area, practice) = (vec![7; length(&mut random, modules * slots)], vec![7; length(&mut random, 949)]);
-        let (rack, start) = (random.below(202), random.below(5) as u32);
-        let answers = [
-            boundary::running_cost(&bytes, count, load),
-            boundary::sheet(&bytes, &plan, &area).answer,
-            mark(&bytes, &sheet),
-            boundary::rounded_count(count, rack),
-            boundary::practice_card(start, &practice).answer,
-        ];
-        classes.see_number(checked);
-        answers.iter().for_each(|answer| classes.see_number(answer.number));
+        other_answers(&mut random, &card, &bytes).iter().for_each(|answer| classes.see_number(answer.number));
     }
     classes.require_all();
 }

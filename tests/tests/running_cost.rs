@@ -49,12 +49,24 @@ fn more_light_where_it_costs_less() {
     }
 }
 
-/// The light and the cost of every row of `count` modules that all burn.
+/// The light and the cost of every row of `count` modules that are all active.
 fn rows(show: &Show, count: u64) -> Vec<(u64, u64)> {
     let steps = || (0..).zip(&show.table);
     (0..count).fold(vec![(0, 0)], |rows, _| {
         rows.iter().flat_map(|(light, cost)| steps().map(move |(step, entry)| (light + step, cost + entry))).collect()
     })
+}
+
+/// Compares the running cost with the cheapest of the rows that have enough light, and counts the number and the class.
+fn compare_row(classes: &mut Classes, card: &Card, rows: &[(u64, u64)], count: u64, load: u64) {
+    let found = running_cost(&card.bytes(), count, load);
+    let least = rows.iter().filter(|(light, _)| *light >= load).map(|(_, cost)| *cost).min();
+    assert_eq!(found, least.map_or(Answer::refused(13), Answer::cost), "{card:?} count {count} load {load}");
+    classes.see_number(found.number);
+    let least_of_just = rows.iter().filter(|(light, _)| *light == load).map(|(_, cost)| *cost).min();
+    if least < least_of_just {
+        classes.see("every cheapest row has more light than the load");
+    }
 }
 
 /// The running cost is that of the cheapest row with enough light.
@@ -72,14 +84,7 @@ fn all_rows() {
         for count in 0..=modules {
             let rows = rows(&show, count);
             for load in 0..=count * top + 1 {
-                let found = running_cost(&card.bytes(), count, load);
-                let least = rows.iter().filter(|(light, _)| *light >= load).map(|(_, cost)| *cost).min();
-                assert_eq!(found, least.map_or(Answer::refused(13), Answer::cost), "{card:?} count {count} load {load}");
-                classes.see_number(found.number);
-                let least_of_just = rows.iter().filter(|(light, _)| *light == load).map(|(_, cost)| *cost).min();
-                if least < least_of_just {
-                    classes.see("every cheapest row has more light than the load");
-                }
+                compare_row(&mut classes, &card, &rows, count, load);
             }
         }
         shows::classes(&card).into_iter().for_each(|name| classes.see(name));

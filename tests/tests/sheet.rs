@@ -2,7 +2,7 @@
 use lamp_tests::boundary::{self, difference, mark, Answer, Outcome};
 use lamp_tests::cards::{card_a, largest, lowest_at, small, Card};
 use lamp_tests::classes::Classes;
-use lamp_tests::plain::{self, OFF};
+use lamp_tests::plain::{self, Show, OFF};
 use lamp_tests::random::Random;
 use lamp_tests::shows;
 
@@ -37,9 +37,9 @@ fn filled(table: &[u32], load: u16, count: u8) -> (Vec<u8>, u64) {
     (found.buffers[0].clone(), found.answer.cost)
 }
 
-/// Each module burns at the smallest of the cheapest steps from its own to Q, and a module that burns for load 0 too.
+/// Each active module is at the smallest of the cheapest steps from its own to Q, and for load 0 it is so too.
 #[test]
-fn burnt_steps() {
+fn active_steps() {
     let v_shaped = [5, 1, 9];
     assert_eq!(filled(&v_shaped, 0, 0), (vec![OFF, OFF, OFF], 0));
     assert_eq!(filled(&v_shaped, 0, 2), (vec![1, 1, OFF], 2));
@@ -49,7 +49,7 @@ fn burnt_steps() {
     assert_eq!(filled(&v_shaped, 4, 2), (vec![2, 2, OFF], 18));
     assert_eq!(filled(&v_shaped, 4, 3), (vec![2, 1, 1], 11));
 
-    // steps 1 to 3 are equally cheap: step 1 is burnt for 0, and from there on each for itself
+    // steps 1 to 3 are equally cheap: step 1 is the active step of 0, and from there on each is its own
     let flat_bottom = [4, 1, 1, 1, 3];
     assert_eq!(filled(&flat_bottom, 0, 3), (vec![1, 1, 1], 3));
     assert_eq!(filled(&flat_bottom, 2, 3), (vec![1, 1, 1], 3));
@@ -64,11 +64,11 @@ fn burnt_steps() {
         assert_eq!(filled(&table, 1, 3).0, [1, 0, 0]);
     }
 
-    // every module burns at Q, where the table is lowest
+    // every active module is at Q, where the table is lowest
     for load in 0..=4 {
         assert_eq!(filled(&[9, 4, 2], load, 2), (vec![2, 2, OFF], 4));
     }
-    // steps 1 and 2 are equally cheap: a module burns at Q only for its share of 2
+    // steps 1 and 2 are equally cheap: a module is active at Q only for its share of 2
     assert_eq!(filled(&[9, 2, 2], 1, 2), (vec![1, 1, OFF], 4));
     assert_eq!(filled(&[9, 2, 2], 3, 2), (vec![2, 1, OFF], 4));
 }
@@ -106,11 +106,47 @@ fn largest_falling_tables() {
     }
 }
 
+/// Draws the length of an area, mostly the one asked for, and names its class.
+fn random_area(random: &mut Random, asked: usize) -> (usize, &'static str) {
+    match random.below(8) {
+        0 if asked > 0 => (asked - 1, "area one short"),
+        1 => (0, "area empty"),
+        2 | 3 => (asked + 1 + random.below(5) as usize, "area longer"),
+        _ => (asked, "area exact"),
+    }
+}
+
+/// Makes a plan with the least counts that serve or one more, and now and then a plan of another length or with any counts.
+fn random_plan(random: &mut Random, card: &Card) -> Vec<u8> {
+    let (modules, top) = (u64::from(card.modules), u64::from(card.top));
+    let mut plan: Vec<u8> =
+        card.loads.iter().map(|load| (u64::from(*load).div_ceil(top) + random.below(2)).min(modules) as u8).collect();
+    match random.below(12) {
+        0 => plan.push(0),
+        1 => plan.truncate(plan.len() / 2),
+        2 => plan.iter_mut().for_each(|count| *count = random.below(modules + 1) as u8),
+        3 => plan.iter_mut().for_each(|count| *count = random.below(256) as u8),
+        _ => {}
+    }
+    plan
+}
+
+const FOR_NO_LOAD: &str = "active above step 0 for load 0";
+
+/// Counts the classes of a sheet that was made.
+fn count_made(classes: &mut Classes, show: &Show, made: &[u8]) {
+    let more = show.lights(made) != show.loads;
+    classes.see(if more { "more light than a load" } else { "just the loads" });
+    if show.lights(made).iter().zip(&show.loads).any(|(light, load)| *load == 0 && *light > 0) {
+        classes.see(FOR_NO_LOAD);
+    }
+}
+
 #[test]
 fn random_plans() {
     let mut names = shows::ALL_CLASSES.to_vec();
     names.extend(["area exact", "area one short", "area empty", "area longer"]);
-    names.extend(["more light than a load", "just the loads", "burns for load 0 above step 0"]);
+    names.extend(["more light than a load", "just the loads", FOR_NO_LOAD]);
     let mut classes = Classes::new("sheet (seed 31)", &names).with_numbers((0..=8).chain(10..=13));
     let mut random = Random::new(31);
     for _ in 0..60_000 {
@@ -118,24 +154,8 @@ fn random_plans() {
         let card = shows::card(&mut random, modules, top, slots, 50);
         let bytes = shows::damaged(&mut random, &card);
         let asked = (modules * slots) as usize;
-        let (area, class) = match random.below(8) {
-            0 if asked > 0 => (asked - 1, "area one short"),
-            1 => (0, "area empty"),
-            2 | 3 => (asked + 1 + random.below(5) as usize, "area longer"),
-            _ => (asked, "area exact"),
-        };
-        let mut plan: Vec<u8> = card
-            .loads
-            .iter()
-            .map(|load| (u64::from(*load).div_ceil(top) + random.below(2)).min(modules) as u8)
-            .collect();
-        match random.below(12) {
-            0 => plan.push(0),
-            1 => plan.truncate(plan.len() / 2),
-            2 => plan.iter_mut().for_each(|count| *count = random.below(modules + 1) as u8),
-            3 => plan.iter_mut().for_each(|count| *count = random.below(256) as u8),
-            _ => {}
-        }
+        let (area, class) = random_area(&mut random, asked);
+        let plan = random_plan(&mut random, &card);
         let found = compare(&bytes, &plan, &vec![7; area]);
         classes.see_number(found.answer.number);
         classes.see(class);
@@ -143,12 +163,7 @@ fn random_plans() {
         if found.answer.number == 0 {
             let made = &found.buffers[0][..asked];
             assert_eq!(mark(&bytes, made), found.answer);
-            let show = plain::read_card(&bytes).unwrap();
-            let more = show.lights(made) != show.loads;
-            classes.see(if more { "more light than a load" } else { "just the loads" });
-            if show.lights(made).iter().zip(&show.loads).any(|(light, load)| *load == 0 && *light > 0) {
-                classes.see("burns for load 0 above step 0");
-            }
+            count_made(&mut classes, &plain::read_card(&bytes).unwrap(), made);
         }
     }
     classes.require_all();

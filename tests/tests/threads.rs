@@ -15,13 +15,14 @@ fn a_card_is_shared() {
         })
     };
     let alone: Vec<_> = cards.iter().map(|card| plan(card)).collect();
+    let repeated = || {
+        for _ in 0..10 {
+            assert!(cards.iter().map(|card| plan(card)).eq(alone.iter().cloned()));
+        }
+    };
     thread::scope(|scope| {
         for _ in 0..4 {
-            scope.spawn(|| {
-                for _ in 0..10 {
-                    assert!(cards.iter().map(|card| plan(card)).eq(alone.iter().cloned()));
-                }
-            });
+            scope.spawn(repeated);
         }
     });
 }

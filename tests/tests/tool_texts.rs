@@ -176,13 +176,30 @@ fn unseen_characters_are_told() {
     }
 }
 
+/// Tells the places of a refused card in one text.
+fn told(card: &[u8]) -> String {
+    let refusal = Refusal::of_number(check_card(card).number).unwrap();
+    faults::of_card(refusal, card).into_iter().map(|fault| fault.text).collect::<Vec<_>>().join("; ")
+}
+
+fn every_refused_card_has_a_place() {
+    let mut random = Random::new(94);
+    for _ in 0..50_000 {
+        let card = any_card(&mut random);
+        let mut bytes = shows::damaged(&mut random, &card);
+        if random.below(2) == 0 && !bytes.is_empty() {
+            let place = random.below(bytes.len() as u64) as usize;
+            bytes[place] = random.below(256) as u8;
+        }
+        if check_card(&bytes).number != 0 {
+            assert!(!told(&bytes).is_empty(), "{bytes:?}");
+        }
+    }
+}
+
 /// The places of a refusal are those that document 01 names, and there is at least one for every refused card.
 #[test]
 fn places_of_refusals() {
-    let told = |card: &[u8]| {
-        let refusal = Refusal::of_number(check_card(card).number).unwrap();
-        faults::of_card(refusal, card).into_iter().map(|fault| fault.text).collect::<Vec<_>>().join("; ")
-    };
     let a = || small(3, &[1, 2, 4], &[6, 0, 2]);
     let with = |place: usize, byte: u8| {
         let mut bytes = a().bytes();
@@ -206,19 +223,7 @@ fn places_of_refusals() {
     let falling = small(2, &[5, 1, 9], &[2]).bytes();
     assert_eq!(check_card(&falling).number, 0);
     assert_eq!(faults::of_card(Refusal::NotMonotone, &falling), []);
-
-    let mut random = Random::new(94);
-    for _ in 0..50_000 {
-        let card = any_card(&mut random);
-        let mut bytes = shows::damaged(&mut random, &card);
-        if random.below(2) == 0 && !bytes.is_empty() {
-            let place = random.below(bytes.len() as u64) as usize;
-            bytes[place] = random.below(256) as u8;
-        }
-        if check_card(&bytes).number != 0 {
-            assert!(!told(&bytes).is_empty(), "{bytes:?}");
-        }
-    }
+    every_refused_card_has_a_place();
 }
 
 /// A sheet's lines as they are typed, sometimes with the labels of a listing.
@@ -233,6 +238,76 @@ fn typed(random: &mut Random, rows: &[Vec<u8>]) -> String {
     out
 }
 
+/// Makes the rows of a sheet, one for each slot, with bytes from 0 to `top` and 255.
+fn random_rows(random: &mut Random, modules: u64, top: u64, slots: u64) -> Vec<Vec<u8>> {
+    (0..slots)
+        .map(|_| (0..modules).map(|_| if random.below(3) == 0 { OFF } else { random.below(top + 1) as u8 }).collect())
+        .collect()
+}
+
+fn light(row: &[u8]) -> u16 {
+    row.iter().filter(|step| **step != OFF).map(|step| u16::from(*step)).sum()
+}
+
+/// Draws a load for a row: its light, or at most that.
+fn load_for(random: &mut Random, row: &[u8]) -> u16 {
+    if random.below(2) == 0 {
+        light(row)
+    } else {
+        light(row) - random.below(1 + u64::from(light(row))) as u16
+    }
+}
+
+/// Now and then gives rows other lengths, leaves one out, adds one, joins two, or puts in a step above the top.
+fn spoil(random: &mut Random, rows: &mut Vec<Vec<u8>>, top: u64) {
+    let slots = rows.len();
+    match random.below(10) {
+        0 if slots > 1 => {
+            let step = rows[0].pop().unwrap();
+            rows[1].insert(0, step);
+        }
+        1 => rows.push(vec![0; 1 + random.below(5) as usize]),
+        2 if slots > 0 => drop(rows.pop()),
+        3 if slots > 0 => rows[0][0] = 1 + top as u8,
+        4 if slots > 1 => {
+            let next = rows.remove(1);
+            rows[0].extend(next);
+        }
+        _ => {}
+    }
+    rows.retain(|row| !row.is_empty());
+}
+
+/// Says whether each row has a step for each module.
+fn even(card: &Card, rows: &[Vec<u8>]) -> bool {
+    rows.iter().all(|row| row.len() == usize::from(card.modules))
+}
+
+/// Marks the text of a sheet with these rows, compares the number with that of the plain rules, and returns it.
+fn mark_typed(card: &Card, rows: &[Vec<u8>], text: &str) -> u64 {
+    let (modules, slots) = (usize::from(card.modules), card.loads.len());
+    let sheet = sheet_text::read(text).unwrap_or_else(|error| panic!("{error} in {text:?}"));
+    let found = mark(&card.bytes(), &sheet.bytes(modules, slots));
+    let wanted = if even(card, rows) { plain::mark(&card.bytes(), &rows.concat()).number } else { 11 };
+    assert_eq!(found.number, wanted, "{card:?} {text:?}");
+    assert_eq!(sheet.length_fault(modules, slots).is_some(), wanted == 11);
+    found.number
+}
+
+/// Counts the classes of a typed sheet and its number.
+fn count_typed(classes: &mut Classes, card: &Card, rows: &[Vec<u8>], number: u64) {
+    classes.see(&number.to_string());
+    if !even(card, rows) && rows.concat().len() == usize::from(card.modules) * card.loads.len() {
+        classes.see("11 though the steps are as many");
+    }
+    let brighter = rows.iter().zip(&card.loads).any(|(row, load)| light(row) > *load);
+    match number {
+        0 if brighter => classes.see("0 with more light"),
+        13 if brighter => classes.see("13 with more light in another slot"),
+        _ => {}
+    }
+}
+
 /// Marking a typed sheet is marking its bytes where each line has a step for each module. Else it is refused by 11, however the
 /// steps would fall into slots if they were taken one after the other.
 #[test]
@@ -242,47 +317,14 @@ fn sheets_typed() {
     let mut random = Random::new(95);
     for _ in 0..30_000 {
         let (modules, top, slots) = (1 + random.below(4), 1 + random.below(3), random.below(4));
-        let mut rows: Vec<Vec<u8>> = (0..slots)
-            .map(|_| (0..modules).map(|_| if random.below(3) == 0 { OFF } else { random.below(top + 1) as u8 }).collect())
-            .collect();
-        let light = |row: &Vec<u8>| row.iter().filter(|step| **step != OFF).map(|step| u16::from(*step)).sum::<u16>();
+        let mut rows = random_rows(&mut random, modules, top, slots);
         let mut card = shows::card(&mut random, modules, top, slots, 50);
         if random.below(3) != 0 {
-            let less = |random: &mut Random, light: u16| light - random.below(1 + u64::from(light)) as u16;
-            card.loads = rows.iter().map(|row| if random.below(2) == 0 { light(row) } else { less(&mut random, light(row)) }).collect();
+            card.loads = rows.iter().map(|row| load_for(&mut random, row)).collect();
         }
-        match random.below(10) {
-            0 if slots > 1 => {
-                let step = rows[0].pop().unwrap();
-                rows[1].insert(0, step);
-            }
-            1 => rows.push(vec![0; 1 + random.below(5) as usize]),
-            2 if slots > 0 => drop(rows.pop()),
-            3 if slots > 0 => rows[0][0] = 1 + top as u8,
-            4 if slots > 1 => {
-                let next = rows.remove(1);
-                rows[0].extend(next);
-            }
-            _ => {}
-        }
-        rows.retain(|row| !row.is_empty());
-        let text = typed(&mut random, &rows);
-        let sheet = sheet_text::read(&text).unwrap_or_else(|error| panic!("{error} in {text:?}"));
-        let found = mark(&card.bytes(), &sheet.bytes(modules as usize, slots as usize));
-        let even = rows.iter().all(|row| row.len() == modules as usize);
-        let wanted = if even { plain::mark(&card.bytes(), &rows.concat()).number } else { 11 };
-        assert_eq!(found.number, wanted, "{card:?} {text:?}");
-        assert_eq!(sheet.length_fault(modules as usize, slots as usize).is_some(), wanted == 11);
-        classes.see(&found.number.to_string());
-        if !even && rows.concat().len() == (modules * slots) as usize {
-            classes.see("11 though the steps are as many");
-        }
-        let brighter = rows.iter().zip(&card.loads).any(|(row, load)| light(row) > *load);
-        match found.number {
-            0 if brighter => classes.see("0 with more light"),
-            13 if brighter => classes.see("13 with more light in another slot"),
-            _ => {}
-        }
+        spoil(&mut random, &mut rows, top);
+        let number = mark_typed(&card, &rows, &typed(&mut random, &rows));
+        count_typed(&mut classes, &card, &rows, number);
     }
     classes.require_all();
 }
