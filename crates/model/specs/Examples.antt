@@ -188,7 +188,7 @@ planRows =
     row "plausible error: rounding up" (planShow coarse cardUp (sevens 1) (sevens 10)) 0 7 ((2 ∷ []) ∷ replicate 10 0 ∷ []) ∷
     []
 
--- The sheet call and marking: refusals 10 to 13, and the lower of two.
+-- The sheet call and marking: refusals 10 to 13, the lower of two, and more light than the load.
 sheetRows : List Example
 sheetRows =
     row "short area before a short plan" (makeSheet cardA [] (sevens 8)) 10 0 (sevens 8 ∷ []) ∷

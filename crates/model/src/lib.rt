@@ -18,7 +18,7 @@ pub enum Refusal {
     NotConvex,
     // 8, 'glare'
     LoadRange,
-    // 9, 'slope'
+    // 9, 'slope', which no call gives (02 §2)
     NotMonotone,
     // 10, 'desk'
     BufferTooShort,

@@ -1,6 +1,7 @@
 use native.Mathlib.Nat.{le-of-lt}
 use native.Mathlib.Omega.{arith}
 use borrow.Author.Needs.{needs}
+use Rattle.model.specs.Instance.{instanceOf}
 use Rattle.card.proofs.FieldsThere.{entry-there}
 use Rattle.card.proofs.Lowest.{lowest-in-table}
 use Rattle.counts.proofs.Shares.{rest-below, step-within, next-within, cost-none, cost-level, cost-even, cost-uneven}
@@ -44,7 +45,9 @@ add-next c = record { fits = omega (arith, step-small (c .before .before .before
 entry-requires-3 : tie.Need-entry-requires-3
 entry-requires-3 c κs =
     let s = c .before .before .before .before in
-    entry-there (s .pre .ready) (step-within _ _ (c .before .before .if1 .left) _ (s .pre .serves))
+    let top = instanceOf (s .args .card .now) .topStep in
+    let above = next-within (s .args .n) (s .args .l) (c .before .before .if1 .left) top (s .pre .serves) (c .if3 .left) in
+    entry-there (s .pre .ready) (omega arith)
 
 mul-low : tie.Need-mul-low
 mul-low c = product-fits (c .before .before .before .before .before .pre) (omega arith) (c .entry3 .ensures .bound)
