@@ -98,17 +98,20 @@ module _ (f : ℕ → ℕ) where
   abbrev pub leastIndex : ℕ → ℕ → ℕ
   leastIndex k n = firstOver (λ j. eqb (f j) (leastOver f k n)) k n
 
+  -- It is the first index at which the function has the least value.
+  least-index-first : (k n : ℕ) → (x : ℕ) × (x ≤ k + n) × FirstAt (λ j. eqb (f j) (leastOver f k n)) k x (leastIndex k n)
+  least-index-first k n =
+      let (x, low, high, e) = least-over-attained k n in
+      (x, high, first-over (λ j. eqb (f j) (leastOver f k n)) k n x low high (eq-eqb _ _ e))
+
   -- There the function has the least value.
   pub least-index-value : (k n : ℕ) → f (leastIndex k n) ≡ leastOver f k n
-  least-index-value k n =
-      let (x, low, high, e) = least-over-attained k n in
-      eqb-true _ _ (first-over (λ j. eqb (f j) (leastOver f k n)) k n x low high (eq-eqb _ _ e) .holds)
+  least-index-value k n = let (x, high, first) = least-index-first k n in eqb-true _ _ (first .holds)
 
   -- It is the smallest at which the function is least.
   pub least-index : (k n : ℕ) → LeastAt f k (k + n) (leastIndex k n)
   least-index k n =
-      let (x, low, high, e) = least-over-attained k n in
-      let first = first-over (λ j. eqb (f j) (leastOver f k n)) k n x low high (eq-eqb _ _ e) in
+      let (x, high, first) = least-index-first k n in
       let value = least-index-value k n in
       record {
         from = first .from;
@@ -116,9 +119,9 @@ module _ (f : ℕ → ℕ) where
         least = λ y a b. rw value (least-over-below k n y a b);
         before =
             λ y a b.
+            let below = least-over-below k n y a (omega (arith, first .to)) in
             ⊎-elim
-            (λ (h : f y ≤ f (leastIndex k n)).
-            absurd (eqb-false (f y) (leastOver f k n) (first .fails y a b) (omega (arith, least-over-below k n y a (omega (arith, first .to))))))
+            (λ (h : f y ≤ f (leastIndex k n)). absurd (eqb-false (f y) (leastOver f k n) (first .fails y a b) (omega arith)))
             (λ (h : f (leastIndex k n) < f y). h)
             (le-or-lt (f y) (f (leastIndex k n)));
       }

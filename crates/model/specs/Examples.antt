@@ -221,7 +221,8 @@ lightRows =
     row "least at the top step, coarse" (planShow coarse cardLeastAtTop (sevens 2) (sevens 20)) 0 10 ((2 ∷ 1 ∷ []) ∷ replicate 20 0 ∷ []) ∷
     row "falling to the top, both below it" (runningCost cardSteep 2 1) 0 4 [] ∷
     row "falling to the top, both raised" (makeSheet cardSteep (2 ∷ []) (sevens 2)) 0 4 ((3 ∷ 3 ∷ []) ∷ []) ∷
-    row "a step between the lowest and the top" (makeSheet cardA (3 ∷ 1 ∷ 2 ∷ []) (sevens 9)) 0 37 ((2 ∷ 2 ∷ 2 ∷ 0 ∷ 255 ∷ 255 ∷ 1 ∷ 1 ∷ 255 ∷ []) ∷ []) ∷
+    row "a step between the lowest and the top" (makeSheet cardA (3 ∷ 1 ∷ 2 ∷ []) (sevens 9)) 0 37
+    ((2 ∷ 2 ∷ 2 ∷ 0 ∷ 255 ∷ 255 ∷ 1 ∷ 1 ∷ 255 ∷ []) ∷ []) ∷
     row "lighter in slot 1, darker in the last" (markSheet cardFalls (set (set sheetFalls 0 2) 7 1)) 13 0 [] ∷
     row "all at the top step" (markSheet cardFalls (replicate 8 3)) 0 72 [] ∷
     row "a table that falls is accepted" (checkCard cardFalls) 0 0 [] ∷
@@ -256,12 +257,11 @@ practiceRows =
 agrees : Example → Bool
 unfolding sameLists sameList every allOf sum tabulate rows keep littleEndian bytesOf instanceOf cardBytes cardLength convexAt convex
     neverFalls tableInRange pricesInRange loadsInRange canServe operatingCost allCounts powerOfTwo coarseCounts roundedCount stateAt
-    sheetLength sheetEntries lightAt sheetLight leastOver firstOver leastFrom activeStep stepCost changeCost sheetOperatingCost sheetSwitchingCost sheetCost moduleByte
-    slotRow sheetOf planCost planServes plansInOrder cheapest cheapestOf leastPlan allowedCounts workBytes plannedBy
-    xorLeft xorRight draw drawn practiceDifference practiceEntry practiceShow
-    rightLength entriesInRange loadsServed startsAtZero buffersOf anyShort requestOf applies refusals firstRefusal successCost answer atExit
-    buffersAtExit planAtExit cardAtExit outcome flatMap headD digits decimal costLine planLine stepText slotLine listing refusedLine
-    printedFor printed
+    sheetLength sheetEntries lightAt sheetLight stepCost changeCost sheetOperatingCost sheetSwitchingCost sheetCost leastOver firstOver
+    leastFrom activeStep moduleByte slotRow sheetOf planCost planServes plansInOrder cheapest cheapestOf leastPlan allowedCounts
+    workBytes plannedBy xorLeft xorRight draw drawn practiceDifference practiceEntry practiceShow rightLength entriesInRange loadsServed
+    startsAtZero buffersOf anyShort requestOf applies refusals firstRefusal successCost answer atExit buffersAtExit planAtExit
+    cardAtExit outcome flatMap headD digits decimal costLine planLine stepText slotLine listing refusedLine printedFor printed
 agrees e = sameLists (e .found) (e .expected)
 
 -- A type that nothing proves: where a row does not hold, the check's error shows it with the row's name.

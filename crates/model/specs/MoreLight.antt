@@ -4,7 +4,7 @@ use lib.Dec.{eqb}
 use Rattle.lists.specs.Ranges.{leastOver, firstOver}
 use Rattle.model.specs.Instance.{Instance}
 
--- 'G(k), the least F(j) for j from k to Q'. Beyond Q it means nothing.
+-- 'G(k), the least F(j) for j from k to Q': of F(k) and the Q − k entries after it. Beyond Q it means nothing.
 unfoldable pub leastFrom : Instance → (k : ℕ) → ℕ
 leastFrom i k = leastOver (i .table) k (i .topStep - k)
 
