@@ -18,6 +18,7 @@ use Rattle.model.specs.Instance.{Instance, instanceOf, headLength, entryPlace, 
 use Rattle.model.specs.Instance.{cardLength, tableBytes, loadBytes, cardBytes, inOrder, rackNumber, pricesInRange, tableInRange, convex, convexAt, loadsInRange}
 use Rattle.model.specs.Calls.{Accepted, answer, requestOf, refusals, successCost, applies, firstRefusal}
 use Rattle.model.specs.Promises.{frontCard}
+use Rattle.model.specs.RelatedShows.{Agree}
 use Rattle.laws.specs.Acceptance.{modules-range, top-range, slots-range, up-range, down-range, table-range, table-convex}
 use Rattle.laws.specs.Acceptance.{load-range}
 
@@ -31,14 +32,11 @@ pub record FieldsFit (i : Instance) : Type 0 where
   pub table : (k : ℕ) → k ≤ i .topStep → i .table k < 256 ^ 4
   pub load : (t : ℕ) → t < i .slots → i .load t < 256 ^ 2
 
--- Two shows agree in all numbers, in the table up to the top step, and in the load of each slot.
+-- Two shows are the same: they agree, and have the same rack and the same load in each slot.
 pub record SameShow (i j : Instance) : Type 0 where
+  pub agree : Agree i j
   pub modules : j .modules ≡ i .modules
-  pub topStep : j .topStep ≡ i .topStep
   pub slots : j .slots ≡ i .slots
-  pub powerUp : j .powerUp ≡ i .powerUp
-  pub powerDown : j .powerDown ≡ i .powerDown
-  pub table : (k : ℕ) → k ≤ i .topStep → j .table k ≡ i .table k
   pub load : (t : ℕ) → t < i .slots → j .load t ≡ i .load t
 
 module _ (i : Instance) where
@@ -73,12 +71,15 @@ module _ (i : Instance) where
     card-bytes-show =
         let top = little-bytes 1 (i .topStep) (fit .topStep) in
         record {
+          agree =
+              record {
+                topStep = top;
+                powerUp = little-bytes 4 (i .powerUp) (fit .powerUp);
+                powerDown = little-bytes 4 (i .powerDown) (fit .powerDown);
+                table = entry-read;
+              };
           modules = little-bytes 1 (i .modules) (fit .modules);
-          topStep = top;
           slots = little-bytes 2 (i .slots) (fit .slots);
-          powerUp = little-bytes 4 (i .powerUp) (fit .powerUp);
-          powerDown = little-bytes 4 (i .powerDown) (fit .powerDown);
-          table = entry-read;
           load = λ t h. rw top (load-read t h);
         }
 
@@ -86,15 +87,16 @@ module _ (i : Instance) where
 same-in-order : {i j : Instance} → SameShow i j → inOrder j ≡ inOrder i
 unfolding inOrder pricesInRange tableInRange convex convexAt loadsInRange
 same-in-order {i} {j} same =
-    let entries = every-same (i .topStep + 1) _ _ (λ k h. ap (λ (x : ℕ). leb x 1000000) (same .table k (omega arith))) in
+    let table = same .agree .table in
+    let entries = every-same (i .topStep + 1) _ _ (λ k h. ap (λ (x : ℕ). leb x 1000000) (table k (omega arith))) in
     let convexity =
     every-same (i .topStep - 1) (convexAt (j .table)) (convexAt (i .table))
-    (λ k h. rw (same .table k (omega arith), same .table (k + 1) (omega arith), same .table (k + 2) (omega arith))) in
+    (λ k h. rw (table k (omega arith), table (k + 1) (omega arith), table (k + 2) (omega arith))) in
     let loads = every-same (i .slots) _ _ (λ t h. ap (λ (x : ℕ). leb x (i .modules * i .topStep)) (same .load t h)) in
-    rw (same .modules, same .topStep, same .slots, same .powerUp, same .powerDown, entries, convexity, loads)
+    rw (same .modules, same .agree .topStep, same .slots, same .agree .powerUp, same .agree .powerDown, entries, convexity, loads)
 
 -- The show of an accepted card is in order.
-accepted-in-order : (s : List ℕ) → Accepted s → inOrder (instanceOf s) ≡ true
+pub accepted-in-order : (s : List ℕ) → Accepted s → inOrder (instanceOf s) ≡ true
 unfolding inOrder pricesInRange tableInRange loadsInRange
 accepted-in-order s e =
     let j = instanceOf s in

@@ -2,11 +2,11 @@
 use Prim.Native.Nat.{ℕ, zero, suc, _+_, _*_, _<_}
 use mathlib.Core.Path.{_≡_, refl, sym, ap, _∙_}
 use mathlib.Core.Logic.{⊎-elim}
-use mathlib.Core.List.{List, [], _∷_, _++_, headD}
+use mathlib.Core.List.{List, [], _∷_, _++_, headD, reverse, reverse-cons}
 use mathlib.Core.Bool.{Bool, true, false, cond, _&&_, false≢true}
 use lib.Dec.{eqb}
-use lib.ListN.{length, getD, drop, replicate, length-append, length-replicate, getD-replicate, List·getD-append}
-use lib.Seq.{getD-append-add, ext-getD}
+use lib.ListN.{length, getD, drop, replicate, length-append, length-replicate, length-reverse, getD-replicate, List·getD-append}
+use lib.Seq.{getD-append-add, getD-at, ext-getD}
 use native.Mathlib.Nat.{not-suc-le-zero, le-of-suc-le-suc, eq-or-lt-of-le, mul-le-mul-right}
 use native.Mathlib.Omega.{arith}
 use borrow.Author.Tests.{eq-eqb, eqb-true}
@@ -43,6 +43,15 @@ tabulate-same n {f} same = equal-tabulate (length-tabulate n f) (λ k h. getD-ta
 -- The table of a function that is x below n is x, n times over.
 pub tabulate-constant : (n : ℕ) {f : ℕ → ℕ} {x : ℕ} → ((k : ℕ) → k < n → f k ≡ x) → tabulate n f ≡ replicate n x
 tabulate-constant n {x = x} same = sym (equal-tabulate (length-replicate n x) (λ k h. getD-replicate n k x 0 h ∙ sym (same k h)))
+
+-- Element j of a list in reverse is the element as far from the end.
+pub getD-reverse : (l : List ℕ) (j k d : ℕ) → j + k + 1 ≡ length l → getD (reverse l) j d ≡ getD l k d
+getD-reverse [] j k d e = absurd (omega arith)
+getD-reverse (x ∷ xs) j zero d e =
+    rw (reverse-cons x xs) (getD-at (reverse xs) x [] d j (omega (arith, length-reverse xs)))
+getD-reverse (x ∷ xs) j (suc k) d e =
+    rw (reverse-cons x xs)
+    (List·getD-append (reverse xs) (x ∷ []) d j (omega (arith, length-reverse xs)) ∙ getD-reverse xs j k d (omega arith))
 
 -- The head of a list is its element 0.
 pub head-is-first : (xs : List ℕ) → headD xs 0 ≡ getD xs 0 0

@@ -19,6 +19,14 @@ unfoldable pub firstOver : (test : ℕ → Bool) (k n : ℕ) → ℕ
 firstOver test k zero = k
 firstOver test k (suc n) = cond (test k) k (firstOver test (k + 1) n)
 
+-- The least over a range depends on the values there alone.
+pub least-over-same :
+    (f g : ℕ → ℕ) (k n : ℕ) → ((x : ℕ) → k ≤ x → x ≤ k + n → f x ≡ g x) → leastOver f k n ≡ leastOver g k n
+unfolding leastOver
+least-over-same f g k zero same = same k (omega arith) (omega arith)
+least-over-same f g k (suc n) same =
+    rw (same k (omega arith) (omega arith), least-over-same f g (k + 1) n (λ x a b. same x (omega arith) (omega arith)))
+
 -- The index j is the smallest of those from k to q at which f is least.
 pub record LeastAt (f : ℕ → ℕ) (k q j : ℕ) : Type 0 where
   pub from : k ≤ j

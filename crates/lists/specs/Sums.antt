@@ -2,6 +2,7 @@
 use Prim.Native.Nat.{ℕ, zero, suc, _+_, _*_, _≤_, _<_}
 use mathlib.Core.Path.{_≡_, refl}
 use native.Mathlib.Nat.{add-suc, add-zero, zero-add, suc-mul, zero-mul, le-refl}
+use native.Mathlib.Numerals.{one-add}
 use native.Mathlib.Omega.{arith}
 
 -- The sum f 0 + .. + f (n - 1).
@@ -57,6 +58,21 @@ pub sum-join : (a b : ℕ) (f : ℕ → ℕ) → sum (a + b) f ≡ sum a f + sum
 unfolding sum
 sum-join a zero f = rw (add-zero a) (omega arith)
 sum-join a (suc b) f = rw (add-suc a b) (omega (arith, sum-join a b f))
+
+-- Sums of the same terms in reverse order are equal.
+pub sum-reverse : (n : ℕ) {f g : ℕ → ℕ} → ((j k : ℕ) → j + k + 1 ≡ n → f j ≡ g k) → sum n f ≡ sum n g
+unfolding sum
+sum-reverse zero same = refl
+sum-reverse (suc n) {f} {g} same =
+    let rest : sum n f ≡ sum n (λ k. g (1 + k)) = sum-reverse n (λ j k e. same j (1 + k) (omega arith)) in
+    let front = rw (one-add n) at (sum-join 1 n g) in
+    omega (arith, same n 0 (omega arith))
+
+-- Where each of n steps from x t to x (t + 1) adds u t and takes d t away, all of them together do.
+pub sum-balance : (n : ℕ) (x u d : ℕ → ℕ) → ((t : ℕ) → x t + u t ≡ x (suc t) + d t) → x 0 + sum n u ≡ x n + sum n d
+unfolding sum
+sum-balance zero x u d step = refl
+sum-balance (suc n) x u d step = omega (arith, sum-balance n x u d step, step n)
 
 -- A sum of n sums over blocks of m terms is the sum of all n * m terms.
 pub sum-blocks : (n m : ℕ) (f : ℕ → ℕ) → sum n (λ t. sum m (λ k. f (t * m + k))) ≡ sum (n * m) f

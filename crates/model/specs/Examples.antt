@@ -29,7 +29,7 @@ use Rattle.model.specs.Calls.{rightLength, entriesInRange, loadsServed, 
 use Rattle.model.specs.Calls.{successCost, answer, atExit, buffersAtExit, planAtExit, cardAtExit, outcome}
 
 -- A show: modules, top step, prices, table, loads.
-abbrev showOf : (m q up down : ℕ) → (table loads : List ℕ) → Instance
+abbrev pub showOf : (m q up down : ℕ) → (table loads : List ℕ) → Instance
 showOf m q up down f loads =
     record {
       modules = m;
@@ -41,7 +41,7 @@ showOf m q up down f loads =
       load = λ t. getD loads t 0;
     }
 
-abbrev cardOf : (m q up down : ℕ) → (table loads : List ℕ) → List ℕ
+abbrev pub cardOf : (m q up down : ℕ) → (table loads : List ℕ) → List ℕ
 cardOf m q up down f loads = cardBytes (showOf m q up down f loads)
 
 -- Card A, as document 01 prints it.

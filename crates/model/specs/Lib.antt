@@ -11,5 +11,7 @@ pub mod Planners
 pub mod Practice
 pub mod Calls
 pub mod Promises
+pub mod RelatedShows
 pub mod Listing
 pub mod Examples
+pub mod RelatedExamples
