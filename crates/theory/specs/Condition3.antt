@@ -3,6 +3,7 @@
 use Prim.Native.Nat.{ℕ, _*_, _≤_}
 use mathlib.Core.Path.{_≡_, refl, sym, ap, _∙_}
 use mathlib.Core.Bool.{true}
+use mathlib.Core.Logic.{_↔_}
 use mathlib.Core.List.{List}
 use native.Mathlib.Nat.{mul-le-mul-left}
 use native.Mathlib.Omega.{arith}
@@ -38,23 +39,31 @@ module _ {i : Instance} (ready : Plannable i) where
         }
 
     -- An allowed plan costs what its counts cost.
-    allowed-cost : (p : List ℕ) → Allowed i counts p → planCost i p ≡ countsCost i 0 p
+    pub allowed-cost : (p : List ℕ) → Allowed i counts p → planCost i p ≡ countsCost i 0 p
     allowed-cost p a = plan-cost-counts i p (allowed-fits a)
 
-    -- The least plan by counts is the least plan.
-    by-counts-least : {p : List ℕ} → LeastByCounts i counts 0 p → LeastPlan i counts p
-    by-counts-least {p} L =
-        record {
-          allowed = L .allowed;
-          least = λ r a. omega (arith, allowed-cost p (L .allowed), allowed-cost r a, L .least r a);
-          first = λ r a e. L .first r a (omega (arith, allowed-cost p (L .allowed), allowed-cost r a));
-        }
+    -- The least plan by counts is the least plan, and the other way round.
+    pub least-by-counts : {p : List ℕ} → LeastByCounts i counts 0 p ↔ LeastPlan i counts p
+    least-by-counts {p} = (
+      λ L.
+          record {
+            allowed = L .allowed;
+            least = λ r a. omega (arith, allowed-cost p (L .allowed), allowed-cost r a, L .least r a);
+            first = λ r a e. L .first r a (omega (arith, allowed-cost p (L .allowed), allowed-cost r a));
+          },
+      λ L.
+          record {
+            allowed = L .allowed;
+            least = λ r a. omega (arith, allowed-cost p (L .allowed), allowed-cost r a, L .least r a);
+            first = λ r a e. L .first r a (omega (arith, allowed-cost p (L .allowed), allowed-cost r a));
+          },
+    )
 
     -- The search over the list finds the least plan and its cost (thesis 4.12, 5.7).
     pub searched-plan : (searchedPlan i counts 0 ≡ leastPlan i counts) × (searchedCost i counts 0 ≡ leastCost i counts)
     searched-plan =
         let L = searched-least i counts 0 asc (ready .loads) in
-        let same = least-plan-unique i counts _ _ (by-counts-least L) (least-plan i counts asc (ready .loads)) in
+        let same = least-plan-unique i counts _ _ (least-by-counts .0 L) (least-plan i counts asc (ready .loads)) in
         let cost = searched-cost i counts 0 asc (ready .loads) ∙ sym (allowed-cost (searchedPlan i counts 0) (L .allowed)) in
         (same, cost ∙ ap (planCost i) same)
 
@@ -68,14 +77,22 @@ module _ {i : Instance} (ready : Plannable i) where
     unfolding planCost
     least-sheet = (plan-sheet-serves i (leastPlan i counts) least-plan-fits, refl)
 
+  -- The counts of a sheet that serves are a plan over all counts.
+  pub sheet-counts-allowed : (s : List ℕ) → serves i s ≡ true → Allowed i (allCounts (i .modules)) (countsOf i s)
+  sheet-counts-allowed s e =
+      let fit = sheet-counts-fit i s (ready .steps) e in
+      record { slotwise = fit .slotwise; member = λ t h. all-member (i .modules) _ .0 (fit .in-rack t h); served = fit .served }
+
+  -- As a plan they cost at most what the sheet costs.
+  pub sheet-counts-cost : (s : List ℕ) → serves i s ≡ true → planCost i (countsOf i s) ≤ sheetCost i s
+  sheet-counts-cost s e =
+      omega (arith, plan-cost-counts i (countsOf i s) (sheet-counts-fit i s (ready .steps) e), sheet-at-least i (ready .convex) s e)
+
   -- Condition 3, exact: no sheet that serves costs less than the least plan over all counts (thesis 3.8).
   pub exact-least : (s : List ℕ) → serves i s ≡ true → leastCost i (allCounts (i .modules)) ≤ sheetCost i s
   exact-least s e =
-      let fit = sheet-counts-fit i s (ready .steps) e in
-      let counted : Allowed i (allCounts (i .modules)) (countsOf i s) =
-      record { slotwise = fit .slotwise; member = λ t h. all-member (i .modules) _ .0 (fit .in-rack t h); served = fit .served } in
-      let least = least-plan i (allCounts (i .modules)) (all-ascending (i .modules) (ready .some)) (ready .loads) .least _ counted in
-      omega (arith, plan-cost-counts i (countsOf i s) fit, sheet-at-least i (ready .convex) s e)
+      let least = least-plan i (allCounts (i .modules)) (all-ascending (i .modules) (ready .some)) (ready .loads) .least in
+      omega (arith, least (countsOf i s) (sheet-counts-allowed s e), sheet-counts-cost s e)
 
   -- Over a list that grows by r the least plan costs at most r times as much as any sheet that serves (thesis 5.5 and 5.11, for whole
   -- ratios), whether the table falls or not.

@@ -20,7 +20,7 @@ use Rattle.theory.specs.Ties.{NotAfterIn, not-after-suc, not-after-same}
 
 module _ (i : Instance) (start : ℕ) where
   -- The count after t slots depends on the first t slots alone.
-  count-same : (t : ℕ) (p r : List ℕ) → ((u : ℕ) → u < t → getD p u 0 ≡ getD r u 0) → countAt start p t ≡ countAt start r t
+  pub count-same : (t : ℕ) (p r : List ℕ) → ((u : ℕ) → u < t → getD p u 0 ≡ getD r u 0) → countAt start p t ≡ countAt start r t
   unfolding countAt
   count-same zero p r same = refl
   count-same (suc t) p r same = same t (omega arith)

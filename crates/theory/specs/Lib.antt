@@ -16,8 +16,14 @@ pub mod Potential
 pub mod Ratio
 pub mod CountLists
 pub mod Condition3
+pub mod SmallestPlans
+pub mod AgreeingShows
+pub mod ReversedShows
 pub mod Refusals
 pub mod Outcomes
+pub mod CourseBook
+pub mod RelatedCards
+pub mod BookExamples
 pub mod LongInput
 pub mod Generator
 pub mod PracticeCards

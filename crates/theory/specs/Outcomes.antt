@@ -214,19 +214,28 @@ module _ (k : Planner) (c p w : List ℕ) where
     planner-cost room = planner-tests given ∙ rw room
 
   -- An accepted card is planned by either planner wherever the buffers have the bytes asked for.
+  pub planner-answer :
+      Accepted c → instanceOf c .slots ≤ length p → workBytes k (instanceOf c) ≤ length w →
+      answer (planShow k c p w) ≡ Cost (plannedCost k (instanceOf c))
+  unfolding buffersOf anyShort
+  planner-answer given room work = planner-cost given (rw (le-ltb _ _ room, le-ltb _ _ work))
+
   pub always-planned :
       Accepted c → instanceOf c .slots ≤ length p → workBytes k (instanceOf c) ≤ length w → numberOf (answer (planShow k c p w)) ≡ 0
-  unfolding buffersOf anyShort
-  always-planned given room work = ap numberOf (planner-cost given (rw (le-ltb _ _ room, le-ltb _ _ work)))
+  always-planned given room work = ap numberOf (planner-answer given room work)
 
-  -- Where a planner gives number 0, sheet call and marking accept the plan that it writes, with the planner's answer.
+  -- Where a planner gives number 0, the first T bytes of its plan buffer at exit are its plan.
+  pub plan-written :
+      numberOf (answer (planShow k c p w)) ≡ 0 → take (instanceOf c .slots) (planAtExit (planShow k c p w)) ≡ plannedBy k (instanceOf c)
+  plan-written e =
+      let planned = succeeded (planShow k c p w) e in
+      rw plan-at-exit (written-taken (planBuffer k (instanceOf c) p) _ planned (best-fits k c (planner-on planned) .slotwise))
+
+  -- Sheet call and marking accept that plan, with the planner's answer.
   pub planner-marked :
       numberOf (answer (planShow k c p w)) ≡ 0 → (s : List ℕ) → sheetBytes (instanceOf c) ≤ length s →
       Marked c (take (instanceOf c .slots) (planAtExit (planShow k c p w))) s (answer (planShow k c p w))
   unfolding successCost
   planner-marked e s room =
-      let i = instanceOf c in
       let planned = succeeded (planShow k c p w) e in
-      let given = planner-on planned in
-      rw (plan-at-exit, written-taken (planBuffer k i p) (i .slots) planned (best-fits k c given .slotwise), planned)
-      (sheet-accepted k c given s room)
+      rw (plan-written e, planned) (sheet-accepted k c (planner-on planned) s room)

@@ -12,10 +12,27 @@ use Rattle.lists.specs.Tests.{every-at, every-all}
 use Rattle.lists.specs.Members.{snoc-before}
 use Rattle.model.specs.Instance.{Instance}
 use Rattle.model.specs.Counts.{canServe}
-use Rattle.model.specs.Plans.{Allowed, planServes}
+use Rattle.model.specs.Plans.{Member, Allowed, planServes}
 use Rattle.columns.specs.Column.{countAtPlace}
 
 module _ (i : Instance) (counts : List ℕ) where
+  -- Each count of an allowed plan serves its slot's load.
+  pub allowed-serves : {p : List ℕ} → Allowed i counts p → (t : ℕ) → t < i .slots → canServe i (getD p t 0) (i .load t) ≡ true
+  unfolding planServes
+  allowed-serves {p} a = every-at (i .slots) (λ t. canServe i (getD p t 0) (i .load t)) (a .served)
+
+  -- A plan whose counts are from the list and serve their slots' loads is allowed.
+  pub serves-allowed :
+      (p : List ℕ) → length p ≡ i .slots →
+      ((t : ℕ) → t < i .slots → Member (getD p t 0) counts × (canServe i (getD p t 0) (i .load t) ≡ true)) → Allowed i counts p
+  unfolding planServes
+  serves-allowed p e slot =
+      record {
+        slotwise = e;
+        member = λ t h. slot t h .0;
+        served = every-all (i .slots) (λ t. canServe i (getD p t 0) (i .load t)) (λ t h. slot t h .1);
+      }
+
   -- In the first t slots each count of a plan stands at a place that serves.
   abbrev pub Placed : List ℕ → ℕ → Type 0
   Placed p t =
@@ -38,19 +55,9 @@ module _ (i : Instance) (counts : List ℕ) where
 
   -- The counts of an allowed plan stand at places that serve.
   pub placed-of : {p : List ℕ} → Allowed i counts p → Placed p (i .slots)
-  unfolding planServes
-  placed-of {p} a u h =
-      let (k, inside, here) = a .member u h in
-      (k, inside, here, rw here (every-at (i .slots) (λ t. canServe i (getD p t 0) (i .load t)) (a .served) u h))
+  placed-of {p} a u h = let (k, inside, here) = a .member u h in (k, inside, here, rw here (allowed-serves a u h))
 
   -- A plan whose counts stand at places that serve is allowed.
   pub allowed-of : (p : List ℕ) → length p ≡ i .slots → Placed p (i .slots) → Allowed i counts p
-  unfolding planServes
   allowed-of p e placed =
-      record {
-        slotwise = e;
-        member = λ t h. let (k, inside, here, serves) = placed t h in (k, inside, here);
-        served =
-            every-all (i .slots) (λ t. canServe i (getD p t 0) (i .load t))
-            (λ t h. let (k, inside, here, serves) = placed t h in rw here at serves);
-      }
+      serves-allowed p e (λ t h. let (k, inside, here, serves) = placed t h in ((k, inside, here), rw here at serves))

@@ -6,7 +6,7 @@ use mathlib.Core.Logic.{⊎-elim}
 use native.Mathlib.Nat.{le-refl, le-of-lt, mul-zero}
 use native.Mathlib.Omega.{arith}
 use Rattle.lists.specs.Numbers.{le-or-lt}
-use Rattle.lists.specs.Sums.{sum, sum-mono, sum-const}
+use Rattle.lists.specs.Sums.{sum, sum-mono, sum-const, sum-balance}
 use Rattle.model.specs.Instance.{Instance}
 use Rattle.model.specs.Sheets.{off, isOff, changeCost}
 use Rattle.model.specs.Plans.{moduleByte}
@@ -41,9 +41,7 @@ switch-balance (suc m) a b = omega (arith, switch-balance m a b, byte (isOff (a 
 -- Over n changes of rows those active first and those that go on are as many as those active last and those that go off.
 pub switches-balance : (m : ℕ) (r : ℕ → ℕ → ℕ) (n : ℕ) →
     activeIn m (r 0) + sum n (λ t. startedIn m (r t) (r (suc t))) ≡ activeIn m (r n) + sum n (λ t. stoppedIn m (r t) (r (suc t)))
-unfolding sum
-switches-balance m r zero = refl
-switches-balance m r (suc n) = omega (arith, switches-balance m r n, switch-balance m (r n) (r (suc n)))
+switches-balance m r n = sum-balance n (λ t. activeIn m (r t)) _ _ (λ t. switch-balance m (r t) (r (suc t)))
 
 -- The changes cost a price for each module that goes on and one for each that goes off.
 pub change-cost : (i : Instance) (m : ℕ) (a b : ℕ → ℕ) →

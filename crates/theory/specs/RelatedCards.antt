@@ -1,0 +1,161 @@
+-- The cards of document 02, §3, are there: each accepted card has an accepted card that is the show backwards, one for every larger rack, and
+-- one that is the show and then another, where both together have at most 1,024 slots.
+use Prim.Native.Nat.{ℕ, _+_, _*_, _≤_, _<_}
+use mathlib.Core.Path.{_≡_, refl, sym, _∙_}
+use mathlib.Core.Bool.{true}
+use mathlib.Core.Logic.{⊎-elim}
+use mathlib.Core.List.{List, _++_, reverse}
+use native.Mathlib.Nat.{le-trans, le-dest, mul-le-mul-right}
+use native.Mathlib.Omega.{arith}
+use lib.Dec.{leb}
+use lib.ListN.{length, getD, length-append, length-reverse, List·getD-append}
+use lib.Seq.{getD-append-add}
+use borrow.Author.Tests.{le-leb}
+use Rattle.lists.specs.Numbers.{le-or-lt}
+use Rattle.lists.specs.Tests.{every-all, and-left, and-right, and-both}
+use Rattle.lists.specs.Lists.{equal-tabulate, getD-reverse}
+use Rattle.model.specs.Instance.{Instance, instanceOf, cardBytes, inOrder, rackNumber, pricesInRange, convex, loadsInRange}
+use Rattle.model.specs.Calls.{Accepted}
+use Rattle.model.specs.RelatedShows.{Agree, loadsOf, Reversed, LargerRack, Concatenated}
+use Rattle.laws.specs.Acceptance.{modules-range, slots-range, load-range}
+use Rattle.laws.specs.Encoding.{accepted-in-order, in-order-fits, in-order-accepted, card-bytes-show}
+use Rattle.theory.specs.AgreeingShows.{agree-back, agree-on, loads-slots, loads-at}
+use Rattle.theory.specs.ReversedShows.{from-back}
+
+-- The show with the table and the prices of i, a rack of m modules and other loads.
+abbrev withLoads : Instance → (m : ℕ) → (loads : List ℕ) → Instance
+withLoads i m l =
+    record {
+      modules = m;
+      topStep = i .topStep;
+      slots = length l;
+      powerUp = i .powerUp;
+      powerDown = i .powerDown;
+      table = i .table;
+      load = λ t. getD l t 0;
+    }
+
+-- A card with the table and the prices of a show, a rack of m modules and the loads l.
+record CardFor (i : Instance) (m : ℕ) (l d : List ℕ) : Type 0 where
+  accepted : Accepted d
+  agree : Agree i (instanceOf d)
+  rack : instanceOf d .modules ≡ m
+  loads : loadsOf (instanceOf d) ≡ l
+
+-- No element of a list is above a bound.
+abbrev Within : ℕ → List ℕ → Type 0
+Within most l = (t : ℕ) → t < length l → getD l t 0 ≤ most
+
+within-append : (most : ℕ) (a b : List ℕ) → Within most a → Within most b → Within most (a ++ b)
+within-append most a b first second t h =
+    ⊎-elim
+    (λ (later : length a ≤ t).
+    let (u, here) = le-dest later in
+    rw (sym here, getD-append-add a b u 0) (second u (omega (arith, length-append a b))))
+    (λ (before : t < length a). rw (List·getD-append a b 0 t before) (first t before))
+    (le-or-lt (length a) t)
+
+module _ (i : Instance) (m : ℕ) (l : List ℕ) where
+  loads-in-order :
+      inOrder i ≡ true → rackNumber m ≡ true → length l ≤ 1024 → Within (m * i .topStep) l →
+      inOrder (withLoads i m l) ≡ true
+  unfolding inOrder pricesInRange loadsInRange
+  loads-in-order e rack short fit =
+      let loads = every-all (length l) (λ t. leb (getD l t 0) (m * i .topStep)) (λ t h. le-leb _ _ (fit t h)) in
+      let prices : pricesInRange i ≡ true = search (and-left, and-right) in
+      let convexity : convex (i .topStep) (i .table) ≡ true = search (and-left, and-right) in
+      let top : rackNumber (i .topStep) ≡ true = search (and-left, and-right) in
+      and-both (and-both rack top) (and-both (le-leb _ _ short) (and-both prices (and-both convexity loads)))
+
+module _ (c : List ℕ) (C : Accepted c) where
+  abbrev show : Instance
+  show = instanceOf c
+
+  -- Every rack and every loads that fit it have a card with the table and the prices of an accepted card.
+  card-for :
+      (m : ℕ) (l : List ℕ) → rackNumber m ≡ true → length l ≤ 1024 → Within (m * show .topStep) l →
+      (d : List ℕ) × CardFor show m l d
+  unfolding loadsOf
+  card-for m l rack short fit =
+      let i = withLoads show m l in
+      let order = loads-in-order show m l (accepted-in-order c C) rack short fit in
+      let same = card-bytes-show i (in-order-fits i order) in (
+        cardBytes i,
+        record {
+          accepted = in-order-accepted i order;
+          agree =
+              record {
+                topStep = same .agree .topStep;
+                powerUp = same .agree .powerUp;
+                powerDown = same .agree .powerDown;
+                table = same .agree .table;
+              };
+          rack = same .modules;
+          loads = sym (equal-tabulate (sym (same .slots)) (λ k h. sym (same .load k (rw (same .slots) at h))));
+        },
+      )
+
+  rack-number : rackNumber (show .modules) ≡ true
+  rack-number = let (low, high) = modules-range c C in and-both (le-leb _ _ low) (le-leb _ _ high)
+
+  loads-length : length (loadsOf show) ≤ 1024
+  loads-length = rw (loads-slots show refl) at (slots-range c C)
+
+  loads-fit : Within (show .modules * show .topStep) (loadsOf show)
+  loads-fit t h =
+      let inside : t < show .slots = rw (loads-slots show refl) h in
+      rw (loads-at show refl t inside) at (load-range c C t inside)
+
+  -- An accepted card has an accepted card that is its show backwards.
+  pub reversed-card : (d : List ℕ) × Accepted d × Reversed show (instanceOf d)
+  reversed-card =
+      let (d, card) =
+      card-for (show .modules) (reverse (loadsOf show)) rack-number (rw (length-reverse (loadsOf show)) loads-length) turned in
+      (d, card .accepted, record { agree = card .agree; rack = card .rack; loads = card .loads })
+    where
+      turned : Within (show .modules * show .topStep) (reverse (loadsOf show))
+      turned t h =
+          let (u, e) = from-back (length (loadsOf show)) t (rw (length-reverse (loadsOf show)) at h) in
+          rw (getD-reverse (loadsOf show) t u 0 e) (loads-fit u (omega arith))
+
+  -- It has an accepted card for every number of modules from its own to 200.
+  pub larger-card :
+      (m : ℕ) → show .modules ≤ m → m ≤ 200 → (d : List ℕ) × Accepted d × LargerRack show (instanceOf d) × (instanceOf d .modules ≡ m)
+  larger-card m more most =
+      let (low, high) = modules-range c C in
+      let rack = and-both (le-leb 1 m (omega arith)) (le-leb m 200 most) in
+      let wider : Within (m * show .topStep) (loadsOf show) = λ t h. le-trans (loads-fit t h) (mul-le-mul-right (show .topStep) more) in
+      let (d, card) = card-for m (loadsOf show) rack loads-length wider in
+      (d, card .accepted, record { agree = card .agree; rack = rw (card .rack) more; loads = card .loads }, card .rack)
+
+-- Two accepted cards with equal rack, table and prices and at most 1,024 slots together have an accepted card that is the first show and then
+-- the second.
+pub concatenated-card :
+    (c d : List ℕ) → Accepted c → Accepted d → Agree (instanceOf c) (instanceOf d) → instanceOf d .modules ≡ instanceOf c .modules →
+    instanceOf c .slots + instanceOf d .slots ≤ 1024 →
+    (e : List ℕ) × Accepted e × Concatenated (instanceOf c) (instanceOf d) (instanceOf e)
+concatenated-card c d C D agree rack short =
+    let i = instanceOf c in
+    let (e, card) = card-for c C (i .modules) (loadsOf i ++ loadsOf (instanceOf d)) (rack-number c C) together (within-append _ first second (loads-fit c C) second-fit) in (
+      e,
+      card .accepted,
+      record {
+        agree-first = card .agree;
+        agree-second = agree-on (agree-back agree) (card .agree);
+        rack-first = card .rack;
+        rack-second = card .rack ∙ sym rack;
+        loads = card .loads;
+      },
+    )
+  where
+    first : List ℕ
+    first = loadsOf (instanceOf c)
+
+    second : List ℕ
+    second = loadsOf (instanceOf d)
+
+    together : length (first ++ second) ≤ 1024
+    together = omega (arith, length-append first second, loads-slots (instanceOf c) refl, loads-slots (instanceOf d) refl)
+
+    second-fit : Within (instanceOf c .modules * instanceOf c .topStep) second
+    second-fit t h = rw (sym rack, sym (agree .topStep)) (loads-fit d D t h)

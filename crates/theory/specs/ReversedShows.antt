@@ -1,0 +1,153 @@
+-- A show played backwards (document 02, §3): a plan in reverse costs the same there, since its counts, from 0 back to 0, rise as much as they
+-- fall. So the least plan in reverse is the least plan, and, being the smallest in every slot, the one of the tie rule.
+use Prim.Native.Nat.{ℕ, zero, suc, _+_, _-_, _*_, _≤_, _<_}
+use mathlib.Core.Path.{_≡_, refl, sym, ap, _∙_}
+use mathlib.Core.List.{List, reverse, reverse-reverse}
+use native.Mathlib.Nat.{le-dest}
+use native.Mathlib.Omega.{arith}
+use lib.ListN.{length, getD, length-reverse, List·getD-eq-default}
+use Rattle.lists.specs.Sums.{sum, sum-add, sum-scale, sum-reverse, sum-balance}
+use Rattle.lists.specs.Lists.{getD-reverse}
+use Rattle.model.specs.Instance.{Instance}
+use Rattle.model.specs.Counts.{operatingCost}
+use Rattle.model.specs.Thesis.{switchingPrice, countAt, slotCost, countsCost}
+use Rattle.model.specs.Plans.{Allowed}
+use Rattle.model.specs.RelatedShows.{loadsOf, Reversed}
+use Rattle.theory.specs.Hypotheses.{LoadsFit, Plannable, costOfFirst, LeastByCounts}
+use Rattle.theory.specs.PlacedPlans.{allowed-serves, serves-allowed}
+use Rattle.theory.specs.SmallestPlans.{smallest-by-counts}
+use Rattle.theory.specs.AgreeingShows.{agree-back, loads-slots, loads-at, serve-same, operating-same, price-same, agree-plannable}
+
+-- Place t of n from the front is a place u from the back.
+pub from-back : (n t : ℕ) → t < n → (u : ℕ) × (t + u + 1 ≡ n)
+from-back n t h = let (u, e) = le-dest h in (u, omega arith)
+
+-- The show is the backwards show played backwards.
+pub reversed-back : {i j : Instance} → Reversed i j → Reversed j i
+reversed-back {i} {j} back =
+    record {
+      agree = agree-back (back .agree);
+      rack = sym (back .rack);
+      loads = sym (reverse-reverse (loadsOf i)) ∙ ap reverse (sym (back .loads));
+    }
+
+-- How much the counts of a plan rise in the first n slots, from 0 before the first one.
+abbrev risesIn : ℕ → List ℕ → ℕ
+risesIn n p = sum n (λ t. countAt 0 p (suc t) - countAt 0 p t)
+
+module _ (n : ℕ) (p : List ℕ) (size : length p ≡ n) where
+  -- After the last slot the count is 0.
+  count-after : countAt 0 p (suc n) ≡ 0
+  unfolding countAt
+  count-after = List·getD-eq-default p 0 (omega arith)
+
+  -- So there is no rise after it.
+  rises-after : risesIn (suc n) p ≡ risesIn n p
+  unfolding sum
+  rises-after = omega (arith, count-after)
+
+  -- The counts rise as much as they fall.
+  rises-fall : risesIn (suc n) p ≡ sum (suc n) (λ t. countAt 0 p t - countAt 0 p (suc t))
+  unfolding countAt
+  rises-fall =
+      let x = countAt 0 p in
+      omega (arith, count-after, sum-balance (suc n) x (λ t. x (suc t) - x t) (λ t. x t - x (suc t)) (λ t. omega arith))
+
+  -- The counts of a plan in reverse, with 0 before and after, are those of the plan from the back.
+  reversed-count : (t u : ℕ) → t + u ≡ suc n → countAt 0 (reverse p) t ≡ countAt 0 p u
+  unfolding countAt
+  reversed-count zero u e = let last : u ≡ suc n = omega arith in rw last (sym count-after)
+  reversed-count (suc t) zero e = List·getD-eq-default (reverse p) 0 (omega (arith, length-reverse p))
+  reversed-count (suc t) (suc u) e = getD-reverse p t u 0 (omega arith)
+
+-- In reverse the counts of a plan rise by as much.
+reversed-rises : (n : ℕ) (p : List ℕ) → length p ≡ n → risesIn n (reverse p) ≡ risesIn n p
+reversed-rises n p size =
+    let turned : risesIn (suc n) (reverse p) ≡ sum (suc n) (λ t. countAt 0 p t - countAt 0 p (suc t)) =
+    sum-reverse (suc n)
+    (λ t u e. rw (reversed-count n p size (suc t) u (omega arith), reversed-count n p size t (suc u) (omega arith))) in
+    sym (rises-after n (reverse p) (length-reverse p ∙ size)) ∙ turned ∙ sym (rises-fall n p size) ∙ rises-after n p size
+
+-- A plan of n slots costs what its counts cost to operate, and the switching price for each rise.
+cost-rises :
+    (i : Instance) (p : List ℕ) (n : ℕ) → i .slots ≡ n →
+    countsCost i 0 p ≡ sum n (λ t. operatingCost i (countAt 0 p (suc t)) (i .load t)) + switchingPrice i * risesIn n p
+unfolding countsCost slotCost
+cost-rises i p n e =
+    ap (λ t. costOfFirst i 0 p t) e ∙
+    omega (
+      arith,
+      sum-add n (λ t. operatingCost i (countAt 0 p (suc t)) (i .load t)) (λ t. switchingPrice i * (countAt 0 p (suc t) - countAt 0 p t)),
+      sum-scale n (switchingPrice i) (λ t. countAt 0 p (suc t) - countAt 0 p t),
+    )
+
+module _ {i j : Instance} (back : Reversed i j) where
+  pub reversed-slots : j .slots ≡ i .slots
+  reversed-slots = loads-slots j (back .loads) ∙ length-reverse (loadsOf i) ∙ sym (loads-slots i refl)
+
+  reversed-load : (t u : ℕ) → t + u + 1 ≡ i .slots → j .load t ≡ i .load u
+  reversed-load t u e =
+      loads-at j (back .loads) t (omega (arith, reversed-slots)) ∙
+      getD-reverse (loadsOf i) t u 0 (e ∙ loads-slots i refl) ∙ sym (loads-at i refl u (omega arith))
+
+  -- It can be planned where the show can.
+  pub reversed-plannable : Plannable i → Plannable j
+  reversed-plannable ready = agree-plannable (back .agree) ready (omega (arith, back .rack)) fit
+    where
+      slot : (t u : ℕ) → t + u + 1 ≡ i .slots → j .load t ≤ j .modules * j .topStep
+      slot t u e = rw (reversed-load t u e, back .rack, back .agree .topStep) (ready .loads u (omega arith))
+
+      fit : LoadsFit j
+      fit t h = let (u, e) = from-back (i .slots) t (rw reversed-slots at h) in slot t u e
+
+  -- An allowed plan in reverse.
+  module _ {counts p : List ℕ} (P : Allowed i counts p) where
+    -- It is allowed for the backwards show.
+    pub reversed-allowed : Allowed j counts (reverse p)
+    reversed-allowed =
+        serves-allowed j counts (reverse p) (length-reverse p ∙ P .slotwise ∙ sym reversed-slots)
+        (λ t h.
+        let (u, e) = from-back (i .slots) t (rw reversed-slots at h) in
+        rw (getD-reverse p t u 0 (e ∙ sym (P .slotwise)), reversed-load t u e, serve-same (back .agree))
+        (P .member u (omega arith), allowed-serves i counts P u (omega arith)))
+
+    -- It costs there what the plan costs.
+    pub reversed-cost : countsCost j 0 (reverse p) ≡ countsCost i 0 p
+    unfolding countAt
+    reversed-cost =
+        let operating :
+        sum (i .slots) (λ t. operatingCost j (countAt 0 (reverse p) (suc t)) (j .load t)) ≡
+        sum (i .slots) (λ t. operatingCost i (countAt 0 p (suc t)) (i .load t)) =
+        sum-reverse (i .slots)
+        (λ t u e.
+        rw (reversed-count (i .slots) p (P .slotwise) (suc t) (suc u) (omega arith), reversed-load t u e)
+        (operating-same (back .agree) _ _ (allowed-serves i counts P u (omega arith)))) in
+        cost-rises j (reverse p) (i .slots) reversed-slots ∙
+        rw (operating, price-same (back .agree), reversed-rises (i .slots) p (P .slotwise), cost-rises i p (i .slots) refl)
+
+-- The least plan by counts in reverse is the least plan by counts of the backwards show.
+pub reversed-least :
+    {i j : Instance} → Reversed i j → (counts : List ℕ) {p : List ℕ} → LeastByCounts i counts 0 p → LeastByCounts j counts 0 (reverse p)
+reversed-least {i} {j} back counts {p} L =
+    record {
+      allowed = reversed-allowed back (L .allowed);
+      least = λ r R. omega (arith, cost, cost-back r R, L .least (reverse r) (reversed-allowed (reversed-back back) R));
+      first = λ r R same t h _. let (u, e) = from-back (i .slots) t (rw (reversed-slots back) at h) in below r R same t u e;
+    }
+  where
+    cost : countsCost j 0 (reverse p) ≡ countsCost i 0 p
+    cost = reversed-cost back (L .allowed)
+
+    cost-back : (r : List ℕ) → Allowed j counts r → countsCost i 0 (reverse r) ≡ countsCost j 0 r
+    cost-back r R = reversed-cost (reversed-back back) R
+
+    below :
+        (r : List ℕ) → Allowed j counts r → countsCost j 0 r ≡ countsCost j 0 (reverse p) →
+        (t u : ℕ) → t + u + 1 ≡ i .slots → getD (reverse p) t 0 ≤ getD r t 0
+    below r R same t u e =
+        let here : getD (reverse p) t 0 ≡ getD p u 0 = getD-reverse p t u 0 (e ∙ sym (L .allowed .slotwise)) in
+        let there : getD (reverse r) u 0 ≡ getD r t 0 = getD-reverse r u t 0 (omega (arith, R .slotwise, reversed-slots back)) in
+        omega (
+          arith,
+          smallest-by-counts i counts 0 L (reverse r) (reversed-allowed (reversed-back back) R) (cost-back r R ∙ same ∙ cost) u (omega arith),
+        )
