@@ -109,7 +109,18 @@ def words_of_plan(data):
     return said.partition(b"\n")[0] + b"\n"
 
 
-ACCEPTED = ("a", "e", "empty", "falls-first", "keep-burning", "v-shaped")
+# The cards of the course book's page, with the cost and the plan that it prints of each.
+COURSE_BOOK = {
+    "a": (32, "3 1 1"),
+    "backwards": (32, "1 1 3"),
+    "second": (16, "2"),
+    "joined": (39, "3 2 2 2"),
+    "rack-of-two": (20, "2"),
+    "rack-of-three": (18, "3"),
+    "rack-of-four": (16, "4"),
+    "two-least": (1, "1 0"),
+}
+ACCEPTED = (*COURSE_BOOK, "e", "empty", "falls-first", "keep-burning", "v-shaped")
 EXACT = b"# exact plan: no sheet that serves the show costs less\n"
 COARSE = b"# coarse plan: at most twice the least cost, NOT the key of the exact plan\n"
 BRIGHTER = "slots with more light than their load, which costs less at their counts: "
@@ -155,6 +166,21 @@ def coarse_keys():
             require(f"coarse {command} of {name}", status == 0 and b"Coarse plan, cost %s" % cost in out and not err)
     accepted = b"accepted: 2 modules, top step 2, 1 slot, warm-up 0, cool-down 0\n"
     expect("a falling table, checked", lamp("check", SAMPLES / "v-shaped.card"), 0, accepted)
+
+
+def course_book():
+    """The shows of the course book's page have the costs and the plans that it prints."""
+    for name, (cost, plan) in COURSE_BOOK.items():
+        key = lamp("key", SAMPLES / f"{name}.card")[1]
+        require(f"the course book's {name}", f"\ncost {cost}\nplan {plan}\n".encode() in key)
+    for name, coarse in {"three-modules": 3, "four-modules": 4}.items():
+        for words, title, cost in ((["--coarse"], COARSE, coarse), ([], EXACT, 3)):
+            key = lamp("key", *words, SAMPLES / f"{name}.show")[1]
+            require(f"the course book's {name}, {words}", title + b"cost %d\nplan %d\n" % (cost, cost) in key)
+    for last, cost in {b"- -": 1, b"0 -": 1, b"0 0": 2}.items():
+        wanted = b"cost %d\nleast 1\nabove %d\n" % (cost, cost - 1)
+        marked = lamp("mark", SAMPLES / "two-least.card", "-", data=b"1 -\n" + last + b"\n")
+        expect(f"the course book's two-least, last slot {last}", marked, 0, wanted)
 
 
 D_BYTES = bytes([2, 2, 2, 255, 0, 255, 2, 255, 255])
@@ -1010,6 +1036,7 @@ with tempfile.TemporaryDirectory() as place:
     shows_and_cards()
     checks()
     keys()
+    course_book()
     marks()
     refused_sheets()
     no_sheets()

@@ -1,6 +1,9 @@
 //! The calls of the safe binding with their whole outcome: a call that is lent buffers returns them with its answer.
+use crate::cards::Card;
 use lamp::calls;
 pub use lamp::planning::Planner;
+
+pub const BOTH: [Planner; 2] = [Planner::Exact, Planner::Coarse];
 
 /// A number and a cost, as C has them.
 #[derive(Clone, Copy, Debug, PartialEq, Eq)]
@@ -83,4 +86,13 @@ pub fn plan(planner: Planner, card: &[u8], plan: &[u8], work: &[u8]) -> Outcome 
     let (mut plan, mut work) = (plan.to_vec(), work.to_vec());
     let answer = planner.plan(card, &mut plan, &mut work).into();
     Outcome { answer, buffers: vec![plan, work] }
+}
+
+/// The cost and the plan that a planner gives for an accepted card, in areas that are just long enough.
+pub fn planned(planner: Planner, card: &Card) -> (u64, Vec<u8>) {
+    let (bytes, slots) = (card.bytes(), card.loads.len());
+    let work = planner.work_bytes(card.modules.into(), slots);
+    let mut found = plan(planner, &bytes, &vec![7; slots], &vec![7; work]);
+    assert_eq!(found.answer.number, 0, "{planner:?}: {card:?}");
+    (found.answer.cost, found.buffers.swap_remove(0))
 }

@@ -6,4 +6,5 @@ pub mod classes;
 pub mod plain;
 pub mod practice;
 pub mod random;
+pub mod searches;
 pub mod shows;

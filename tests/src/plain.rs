@@ -123,6 +123,12 @@ impl Show {
         sheet.chunks(self.modules as usize).map(light).collect()
     }
 
+    /// The counts of such a sheet: how many modules are active in each slot.
+    pub fn active(&self, sheet: &[u8]) -> Vec<u8> {
+        let count = |row: &[u8]| row.iter().filter(|byte| **byte != OFF).count() as u8;
+        sheet.chunks(self.modules as usize).map(count).collect()
+    }
+
     /// Which of 11, 12, 13 a sheet gets first, if any. 13 is for too little light only.
     pub fn sheet_refusal(&self, sheet: &[u8]) -> Option<u64> {
         let modules = self.modules as usize;

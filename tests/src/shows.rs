@@ -36,6 +36,27 @@ pub fn card(random: &mut Random, modules: u64, top: u64, slots: u64, steepest: u
     Card { modules: modules as u8, top: top as u8, up: price(random), down: price(random), table, loads }
 }
 
+/// An accepted card of any size, mostly a small one.
+pub fn of_any_size(random: &mut Random, steepest: u64) -> Card {
+    let (modules, top, slots) = (1 + random.below(200), 1 + random.below(200), random.below(1_025));
+    let small = (1 + random.below(9), 1 + random.below(5), random.below(14));
+    let (modules, top, slots) = if random.below(10) == 0 { (modules, top, slots) } else { small };
+    card(random, modules, top, slots, steepest)
+}
+
+/// An accepted card that has at most so many sheets, few enough to go through all of them.
+pub fn of_few_sheets(random: &mut Random, most: u64) -> Card {
+    loop {
+        let (modules, top, slots) = (1 + random.below(6), 1 + random.below(3), random.below(4));
+        // few shows without slots, which have one sheet, and none with too many sheets
+        if slots == 0 && random.below(10) != 0 || (top + 2).pow((modules * slots) as u32) > most {
+            continue;
+        }
+        let steepest = random.pick(&[1, 2, 6]);
+        return card(random, modules, top, slots, steepest);
+    }
+}
+
 /// The names of the classes that a card belongs to.
 pub fn classes(card: &Card) -> Vec<&'static str> {
     let falls = card.table.windows(2).any(|w| w[1] < w[0]);

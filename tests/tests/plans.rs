@@ -1,13 +1,12 @@
 //! `lamp_plan_exact` and `lamp_plan_coarse` against searches through all sheets with enough light and through all plans, and against a
 //! plain dynamic program; and that no call gives 9.
-use lamp_tests::boundary::{self, difference, mark, Answer, Outcome, Planner};
+use lamp_tests::boundary::{self, difference, mark, Answer, Outcome, Planner, BOTH};
 use lamp_tests::cards::{card_a, largest, lowest_at, small, Card};
 use lamp_tests::classes::Classes;
 use lamp_tests::plain::{self, Show, OFF};
 use lamp_tests::random::Random;
+use lamp_tests::searches::{least_plans, serving_sheets};
 use lamp_tests::shows;
-
-const BOTH: [Planner; 2] = [Planner::Exact, Planner::Coarse];
 
 fn compare(planner: Planner, card: &[u8], plan: &[u8], work: &[u8]) -> Outcome {
     let found = boundary::plan(planner, card, plan, work);
@@ -79,15 +78,6 @@ fn more_light_where_it_costs_less() {
     assert_eq!(boundary::sheet(&card.bytes(), &[1, 1, 1], &[7; 6]).buffers[0], [2, OFF, 1, OFF, 1, OFF]);
 }
 
-/// All lists of `length` bytes from `bytes`, the last place counting slowest.
-fn lists(bytes: &[u8], length: usize) -> Vec<Vec<u8>> {
-    let mut out = vec![Vec::new()];
-    for _ in 0..length {
-        out = bytes.iter().flat_map(|byte| out.iter().map(move |list: &Vec<u8>| [&list[..], &[*byte]].concat())).collect();
-    }
-    out
-}
-
 /// The least cost over ALL sheets that serve the show, which have at least the load in every slot: over those with just the loads, and
 /// over those with more light than the load in some slot, if there are any.
 struct LeastSheets {
@@ -96,19 +86,10 @@ struct LeastSheets {
 }
 
 impl LeastSheets {
-    /// Goes through all sheets. The library marks each as the plain rules do.
+    /// Goes through all sheets.
     fn of(card: &Card, show: &Show) -> Self {
-        let card = card.bytes();
-        let bytes: Vec<u8> = (0..=show.top as u8).chain([OFF]).collect();
         let mut out = LeastSheets { just: None, more: None };
-        for sheet in lists(&bytes, show.modules as usize * show.slots()) {
-            let marked = mark(&card, &sheet);
-            if let Some(number) = show.sheet_refusal(&sheet) {
-                assert_eq!(marked, Answer::refused(number), "{show:?}, sheet {sheet:?}");
-                continue;
-            }
-            let cost = show.sheet_cost(&sheet);
-            assert_eq!(marked, Answer::cost(cost), "{show:?}, sheet {sheet:?}");
+        for (sheet, cost) in serving_sheets(card, show) {
             let least = if show.lights(&sheet) == show.loads { &mut out.just } else { &mut out.more };
             *least = Some(least.map_or(cost, |least| least.min(cost)));
         }
@@ -130,34 +111,10 @@ impl LeastSheets {
     }
 }
 
-/// All least plans over the counts, in tie order.
-fn least_plans(show: &Show, counts: &[u64]) -> Vec<Vec<u8>> {
-    let counts: Vec<u8> = counts.iter().map(|count| *count as u8).collect();
-    let mut plans: Vec<Vec<u8>> = lists(&counts, show.slots()).into_iter().filter(|plan| show.plan_refusal(plan).is_none()).collect();
-    let cost = |plan: &Vec<u8>| show.sheet_cost(&show.sheet(plan));
-    let least = plans.iter().map(cost).min().unwrap();
-    plans.retain(|plan| cost(plan) == least);
-    plans.sort_by(|a, b| a.iter().rev().cmp(b.iter().rev()));
-    plans
-}
-
 /// The classes of `all_sheets` that speak of more light than the load.
 const FALLS: &str = "the table falls somewhere";
 const SOME_MORE: &str = "some least sheet has more light than the load";
 const ALL_MORE: &str = "every least sheet has more light than the load";
-
-/// Makes a card with few enough sheets to go through all of them.
-fn card_of_few_sheets(random: &mut Random) -> Card {
-    loop {
-        let (modules, top, slots) = (1 + random.below(6), 1 + random.below(3), random.below(4));
-        // few shows without slots, which have one sheet, and none with too many sheets
-        if slots == 0 && random.below(10) != 0 || (top + 2).pow((modules * slots) as u32) > 20_000 {
-            continue;
-        }
-        let steepest = random.pick(&[1, 2, 6]);
-        return shows::card(random, modules, top, slots, steepest);
-    }
-}
 
 /// The exact planner gives the first of the least plans, and the sheet of it costs the least of all sheets. The function returns
 /// how many least plans there are.
@@ -194,7 +151,7 @@ fn all_sheets() {
     let mut classes = Classes::new("6,000 small shows against all sheets with enough light (seed 51)", &names);
     let mut random = Random::new(51);
     for _ in 0..SHOWS {
-        let card = card_of_few_sheets(&mut random);
+        let card = shows::of_few_sheets(&mut random, 20_000);
         let show = plain::read_card(&card.bytes()).unwrap();
         let sheets = LeastSheets::of(&card, &show);
         let several = compare_exact(&card, &show, sheets.least()) > 1;

@@ -12,14 +12,6 @@ use lamp_tests::plain::{self, OFF};
 use lamp_tests::random::Random;
 use lamp_tests::shows;
 
-/// A card of any size, mostly a small one.
-fn any_card(random: &mut Random) -> Card {
-    let (modules, top, slots) = (1 + random.below(200), 1 + random.below(200), random.below(1_025));
-    let small = (1 + random.below(9), 1 + random.below(5), random.below(14));
-    let (modules, top, slots) = if random.below(10) == 0 { (modules, top, slots) } else { small };
-    shows::card(random, modules, top, slots, 90)
-}
-
 /// The card that the text of `lamp show` makes.
 fn read_back(card: &[u8]) -> Vec<u8> {
     let text = show_text::write(&Show::read(card).unwrap());
@@ -31,7 +23,7 @@ fn cards_read_back() {
     let mut classes = Classes::new("cards read back (seed 91)", &shows::ALL_CLASSES);
     let mut random = Random::new(91);
     for _ in 0..20_000 {
-        let card = any_card(&mut random);
+        let card = shows::of_any_size(&mut random, 90);
         let show = Show::read(&card.bytes()).unwrap();
         let fields = (show.modules, show.top, show.warm_up, show.cool_down, &show.table, &show.loads);
         assert_eq!(fields, (card.modules, card.top, card.up, card.down, &card.table, &card.loads));
@@ -48,7 +40,7 @@ fn refused_cards_read_back() {
     let mut classes = Classes::new("refused cards read back (seed 92)", &["1", "2", "3", "4", "5", "6", "7", "8"]);
     let mut random = Random::new(92);
     for _ in 0..20_000 {
-        let card = any_card(&mut random);
+        let card = shows::of_any_size(&mut random, 90);
         let bytes = shows::damaged(&mut random, &card);
         let number = check_card(&bytes).number;
         match Show::read(&bytes) {
@@ -87,7 +79,7 @@ fn typing_errors_are_seen() {
 fn shows_typed_in_many_ways() {
     let mut random = Random::new(93);
     for _ in 0..5_000 {
-        let card = any_card(&mut random);
+        let card = shows::of_any_size(&mut random, 90);
         let list = |random: &mut Random, numbers: Vec<String>| {
             let gaps = [" ", "  ", "\t", "\n", "\r\n", "\r", " # some\n", " # more\r", "\n\n   "];
             numbers.into_iter().fold(String::new(), |text, number| text + random.pick(&gaps) + &number)
@@ -185,7 +177,7 @@ fn told(card: &[u8]) -> String {
 fn every_refused_card_has_a_place() {
     let mut random = Random::new(94);
     for _ in 0..50_000 {
-        let card = any_card(&mut random);
+        let card = shows::of_any_size(&mut random, 90);
         let mut bytes = shows::damaged(&mut random, &card);
         if random.below(2) == 0 && !bytes.is_empty() {
             let place = random.below(bytes.len() as u64) as usize;
