@@ -96,14 +96,17 @@ concatenated-least-cost {i} {j} {k} ready ready′ both counts asc =
       concatenated-cost both P R 0,
     )
 
--- A planner gives a card one cost and one plan: with the shortest buffers that are long enough, for one.
+-- A planner gives a card no more than one cost and one plan.
 module _ (k : Planner) (c : List ℕ) where
+  -- What holds with all buffers that are long enough holds with the shortest of them.
   at-shortest :
       {G : List ℕ → List ℕ → Type 0} →
       ((plan work : List ℕ) → instanceOf c .slots ≤ length plan → workBytes k (instanceOf c) ≤ length work → G plan work) →
       G (replicate (instanceOf c .slots) 0) (replicate (workBytes k (instanceOf c)) 0)
   at-shortest given =
-      given _ _ (omega (arith, length-replicate {A = ℕ} (instanceOf c .slots) 0)) (omega (arith, length-replicate {A = ℕ} (workBytes k (instanceOf c)) 0))
+      let plan : length (replicate {A = ℕ} (instanceOf c .slots) 0) ≡ instanceOf c .slots = length-replicate _ 0 in
+      let work : length (replicate {A = ℕ} (workBytes k (instanceOf c)) 0) ≡ workBytes k (instanceOf c) = length-replicate _ 0 in
+      given _ _ (omega arith) (omega arith)
 
   pub planned-at-one : {x y : ℕ} → PlannedAt k c x → PlannedAt k c y → x ≡ y
   planned-at-one one other = at-shortest one .cost-is ∙ sym (at-shortest other .cost-is)
@@ -121,7 +124,7 @@ module _ (k : Planner) (c : List ℕ) (given : Accepted c) where
   pub planned-as : PlannedAs k c (plannedBy k (instanceOf c))
   planned-as p w room work = plan-written k c p w (always-planned k c p w given room work)
 
--- Backwards, on cards: either planner gives the two cards the same cost.
+-- Backwards, on cards.
 module _ (k : Planner) (c d : List ℕ) (C : Accepted c) (D : Accepted d) (back : Reversed (instanceOf c) (instanceOf d)) where
   ready : Plannable (instanceOf c)
   ready = accepted-plannable c C
@@ -129,6 +132,7 @@ module _ (k : Planner) (c d : List ℕ) (C : Accepted c) (D : Accepted d) (back 
   asc : Ascending (allowedCounts k (instanceOf c .modules)) (instanceOf c .modules)
   asc = planner-counts-ascending k _ (ready .some)
 
+  -- Either planner gives the two cards the same cost.
   pub reversed-card-cost : (x : ℕ) × PlannedAt k c x × PlannedAt k d x
   reversed-card-cost =
       let same = ap (λ m. leastCost (instanceOf d) (allowedCounts k m)) (back .rack) ∙ reversed-least-cost ready back _ asc in
@@ -154,12 +158,11 @@ pub concatenated-card-cost :
     (k : Planner) (c d e : List ℕ) → Accepted c → Accepted d → Accepted e → Concatenated (instanceOf c) (instanceOf d) (instanceOf e) →
     (x y z : ℕ) × PlannedAt k c x × PlannedAt k d y × PlannedAt k e z × (z ≤ x + y)
 concatenated-card-cost k c d e C D E both =
-    let ready = accepted-plannable c C in
     let asc = planner-counts-ascending k _ (accepted-plannable e E .some) in
     let bound : plannedCost k (instanceOf e) ≤ plannedCost k (instanceOf c) + plannedCost k (instanceOf d) =
     omega (
       arith,
-      concatenated-least-cost ready (accepted-plannable d D) both _ asc,
+      concatenated-least-cost (accepted-plannable c C) (accepted-plannable d D) both _ asc,
       ap (λ m. leastCost (instanceOf c) (allowedCounts k m)) (both .rack-first),
       ap (λ m. leastCost (instanceOf d) (allowedCounts k m)) (both .rack-second),
     ) in

@@ -71,7 +71,7 @@ module _ (c : List ℕ) (C : Accepted c) where
   abbrev show : Instance
   show = instanceOf c
 
-  -- Every rack and every loads that fit it have a card with the table and the prices of an accepted card.
+  -- For each rack, and loads that it serves, there is a card with the table and the prices of an accepted card.
   card-for :
       (m : ℕ) (l : List ℕ) → rackNumber m ≡ true → length l ≤ 1024 → Within (m * show .topStep) l →
       (d : List ℕ) × CardFor show m l d
@@ -135,8 +135,8 @@ pub concatenated-card :
     instanceOf c .slots + instanceOf d .slots ≤ 1024 →
     (e : List ℕ) × Accepted e × Concatenated (instanceOf c) (instanceOf d) (instanceOf e)
 concatenated-card c d C D agree rack short =
-    let i = instanceOf c in
-    let (e, card) = card-for c C (i .modules) (loadsOf i ++ loadsOf (instanceOf d)) (rack-number c C) together (within-append _ first second (loads-fit c C) second-fit) in (
+    let fit = within-append _ first second (loads-fit c C) second-fit in
+    let (e, card) = card-for c C (instanceOf c .modules) (first ++ second) (rack-number c C) together fit in (
       e,
       card .accepted,
       record {

@@ -54,7 +54,7 @@ module _ (i : Instance) where
       omega (arith, operating-sorted x y l, mul-le-mul-left (switchingPrice i) (rises-sorted a b x y))
 
   -- The plan that has in each slot the count that f makes of those of two plans.
-  abbrev slotwise : (f : ℕ → ℕ → ℕ) (p r : List ℕ) → List ℕ
+  abbrev pub slotwise : (f : ℕ → ℕ → ℕ) (p r : List ℕ) → List ℕ
   slotwise f p r = tabulate (i .slots) (λ t. f (getD p t 0) (getD r t 0))
 
   slotwise-count :
