@@ -4,6 +4,7 @@ import fcntl
 import itertools
 import os
 import pathlib
+import re
 import shutil
 import signal
 import subprocess
@@ -109,18 +110,8 @@ def words_of_plan(data):
     return said.partition(b"\n")[0] + b"\n"
 
 
-# The cards of the course book's page, with the cost and the plan that it prints of each.
-COURSE_BOOK = {
-    "a": (32, "3 1 1"),
-    "backwards": (32, "1 1 3"),
-    "second": (16, "2"),
-    "joined": (39, "3 2 2 2"),
-    "rack-of-two": (20, "2"),
-    "rack-of-three": (18, "3"),
-    "rack-of-four": (16, "4"),
-    "two-least": (1, "1 0"),
-}
-ACCEPTED = (*COURSE_BOOK, "e", "empty", "falls-first", "keep-burning", "v-shaped")
+BOOK_CARDS = ("a", "backwards", "second", "joined", "rack-of-two", "rack-of-three", "rack-of-four", "two-least")
+ACCEPTED = (*BOOK_CARDS, "e", "empty", "falls-first", "keep-burning", "v-shaped")
 EXACT = b"# exact plan: no sheet that serves the show costs less\n"
 COARSE = b"# coarse plan: at most twice the least cost, NOT the key of the exact plan\n"
 BRIGHTER = "slots with more light than their load, which costs less at their counts: "
@@ -169,14 +160,15 @@ def coarse_keys():
 
 
 def course_book():
-    """The shows of the course book's page have the costs and the plans that it prints."""
-    for name, (cost, plan) in COURSE_BOOK.items():
-        key = lamp("key", SAMPLES / f"{name}.card")[1]
-        require(f"the course book's {name}", f"\ncost {cost}\nplan {plan}\n".encode() in key)
-    for name, coarse in {"three-modules": 3, "four-modules": 4}.items():
-        for words, title, cost in ((["--coarse"], COARSE, coarse), ([], EXACT, 3)):
-            key = lamp("key", *words, SAMPLES / f"{name}.show")[1]
-            require(f"the course book's {name}, {words}", title + b"cost %d\nplan %d\n" % (cost, cost) in key)
+    """The commands that the course book's page prints give the costs and the plans beside them, and every card of the page has one."""
+    page = (ROOT / "docs" / "COURSE-BOOK.md").read_text(encoding="utf-8")
+    rows = re.findall(r"^\| [^|]* \| `(bin/[^`|]*)` \| (\d+) \| ([\d ]+) \|$", page, re.MULTILINE)
+    require("each command of the course book is in a row", len(rows) == len(re.findall("`bin/[^`]*samples/", page)))
+    for command, cost, plan in rows:
+        printed = subprocess.run(command.split(), cwd=ROOT, capture_output=True, check=True).stdout
+        require(f"the course book's {command}", f"\ncost {cost}\nplan {plan}\n".encode() in b"\n" + printed)
+    for name in BOOK_CARDS:
+        require(f"the course book has {name}", any(command == f"bin/plan samples/{name}.card" for command, _, _ in rows))
     for last, cost in {b"- -": 1, b"0 -": 1, b"0 0": 2}.items():
         wanted = b"cost %d\nleast 1\nabove %d\n" % (cost, cost - 1)
         marked = lamp("mark", SAMPLES / "two-least.card", "-", data=b"1 -\n" + last + b"\n")

@@ -88,11 +88,10 @@ pub record Book : Type 0 where
       LargerRack (instanceOf (card dearStep 3 (4 ∷ []))) (instanceOf (card dearStep 4 (4 ∷ []))) ×
       Given exact (card dearStep 2 (4 ∷ [])) 20 (2 ∷ []) × Given exact (card dearStep 3 (4 ∷ [])) 18 (3 ∷ []) ×
       Given exact (card dearStep 4 (4 ∷ [])) 16 (4 ∷ [])
-  -- It need not: example A costs 32 on a rack of 4 too.
+  -- It need not: 3, 3.
   pub more-modules-equal :
-      LargerRack (instanceOf (card ratesA 3 (6 ∷ 0 ∷ 2 ∷ []))) (instanceOf (card ratesA 4 (6 ∷ 0 ∷ 2 ∷ []))) ×
-      Given exact (card ratesA 4 (6 ∷ 0 ∷ 2 ∷ [])) 32 (3 ∷ 1 ∷ 1 ∷ [])
-  -- A module more can raise the coarse planner's cost: 3, 4.
+      Given exact (card warmUpOnly 3 (3 ∷ [])) 3 (3 ∷ []) × Given exact (card warmUpOnly 4 (3 ∷ [])) 3 (3 ∷ [])
+  -- On the same two cards a module more raises the coarse planner's cost: 3, 4.
   pub more-modules-coarse :
       LargerRack (instanceOf (card warmUpOnly 3 (3 ∷ []))) (instanceOf (card warmUpOnly 4 (3 ∷ []))) ×
       Given coarse (card warmUpOnly 3 (3 ∷ [])) 3 (3 ∷ []) × Given coarse (card warmUpOnly 4 (3 ∷ [])) 4 (4 ∷ [])
@@ -131,10 +130,7 @@ book-examples =
         given dearStep exact 3 (4 ∷ []) refl refl refl,
         given dearStep exact 4 (4 ∷ []) refl refl refl,
       );
-      more-modules-equal = (
-        record { agree = agree ratesA 3 4 (6 ∷ 0 ∷ 2 ∷ []) (6 ∷ 0 ∷ 2 ∷ []) refl refl; rack = omega arith; loads = refl },
-        given ratesA exact 4 (6 ∷ 0 ∷ 2 ∷ []) refl refl refl,
-      );
+      more-modules-equal = (given warmUpOnly exact 3 (3 ∷ []) refl refl refl, given warmUpOnly exact 4 (3 ∷ []) refl refl refl);
       more-modules-coarse = (
         record { agree = agree warmUpOnly 3 4 (3 ∷ []) (3 ∷ []) refl refl; rack = omega arith; loads = refl },
         given warmUpOnly coarse 3 (3 ∷ []) refl refl refl,
