@@ -1,9 +1,9 @@
 -- Of all plans of least cost the one that the tie rule chooses is the smallest in every slot. The reason: of two plans the slot-wise smaller
 -- one and the slot-wise larger one together cost no more than the two, since the price of a rise is convex in the difference of two counts.
 use Prim.Native.Nat.{ℕ, zero, suc, _+_, _-_, _≤_, _<_, min, max}
-use mathlib.Core.Path.{_≡_, refl, sym, _∙_}
+use mathlib.Core.Path.{_≡_, sym, _∙_}
 use mathlib.Core.Bool.{true}
-use mathlib.Core.Logic.{_⊎_, inl, inr, ⊎-elim}
+use mathlib.Core.Logic.{⊎-elim}
 use mathlib.Core.List.{List}
 use native.Mathlib.Nat.{le-of-lt, min-le-left, min-le-right, min-eq-left, min-eq-right, max-eq-left, max-eq-right, mul-le-mul-left}
 use native.Mathlib.Omega.{arith}
@@ -12,13 +12,13 @@ use Rattle.lists.specs.Numbers.{le-or-lt}
 use Rattle.lists.specs.Sums.{sum, sum-mono, sum-add}
 use Rattle.lists.specs.Lists.{tabulate, length-tabulate, getD-tabulate}
 use Rattle.model.specs.Instance.{Instance}
-use Rattle.model.specs.Counts.{operatingCost, allCounts}
+use Rattle.model.specs.Counts.{canServe, operatingCost, allCounts}
 use Rattle.model.specs.Sheets.{serves, sheetCost, activeAt, countsOf}
 use Rattle.model.specs.Thesis.{switchingPrice, countAt, slotCost, countsCost}
-use Rattle.model.specs.Plans.{Allowed, planCost, leastPlan, leastCost}
+use Rattle.model.specs.Plans.{Member, Allowed, planCost, leastPlan, leastCost}
 use Rattle.columns.specs.Column.{Ascending}
 use Rattle.theory.specs.Hypotheses.{Plannable, LeastByCounts}
-use Rattle.theory.specs.PlacedPlans.{placed-of, allowed-of}
+use Rattle.theory.specs.PlacedPlans.{allowed-serves, serves-allowed}
 use Rattle.theory.specs.Ties.{not-after-equal}
 use Rattle.theory.specs.Enumeration.{least-plan}
 use Rattle.theory.specs.CountLists.{all-ascending}
@@ -66,16 +66,14 @@ module _ (i : Instance) where
 
   -- Where f chooses one of two counts, it makes an allowed plan of two allowed plans.
   slotwise-allowed :
-      (f : ℕ → ℕ → ℕ) → ((x y : ℕ) → (f x y ≡ x) ⊎ (f x y ≡ y)) → {counts p r : List ℕ} → Allowed i counts p → Allowed i counts r →
-      Allowed i counts (slotwise f p r)
+      (f : ℕ → ℕ → ℕ) → ((x y : ℕ) (G : ℕ → Type 0) → G x → G y → G (f x y)) → {counts p r : List ℕ} → Allowed i counts p →
+      Allowed i counts r → Allowed i counts (slotwise f p r)
   slotwise-allowed f choice {counts} {p} {r} P R =
-      allowed-of i counts (slotwise f p r) (length-tabulate (i .slots) _)
+      serves-allowed i counts (slotwise f p r) (length-tabulate (i .slots) _)
       (λ t h.
       rw (getD-tabulate (i .slots) (λ t. f (getD p t 0) (getD r t 0)) t 0 h)
-      (⊎-elim
-      (λ (e : f (getD p t 0) (getD r t 0) ≡ getD p t 0). rw e (placed-of i counts P t h))
-      (λ (e : f (getD p t 0) (getD r t 0) ≡ getD r t 0). rw e (placed-of i counts R t h))
-      (choice (getD p t 0) (getD r t 0))))
+      (choice (getD p t 0) (getD r t 0) (λ n. Member n counts × (canServe i n (i .load t) ≡ true))
+      (P .member t h, allowed-serves i counts P t h) (R .member t h, allowed-serves i counts R t h)))
 
   -- The slot-wise smaller and the slot-wise larger of two plans together cost no more than the two.
   pub slotwise-cost :
@@ -112,10 +110,10 @@ module _ (i : Instance) where
       smaller-below t h = rw (getD-tabulate (i .slots) (λ t. min (getD p t 0) (getD r t 0)) t 0 h) (min-le-left _ _, min-le-right _ _)
 
       S : Allowed i counts smaller
-      S = slotwise-allowed min (λ x y. sorted x y (λ s l. (s ≡ x) ⊎ (s ≡ y)) (λ h. inl refl) (λ h. inr refl)) (L .allowed) R
+      S = slotwise-allowed min (λ x y G a b. sorted x y (λ s l. G s) (λ _. a) (λ _. b)) (L .allowed) R
 
       Q : Allowed i counts (slotwise max p r)
-      Q = slotwise-allowed max (λ x y. sorted x y (λ s l. (l ≡ x) ⊎ (l ≡ y)) (λ h. inr refl) (λ h. inl refl)) (L .allowed) R
+      Q = slotwise-allowed max (λ x y G a b. sorted x y (λ s l. G l) (λ _. b) (λ _. a)) (L .allowed) R
 
       p-smaller : p ≡ smaller
       p-smaller =
