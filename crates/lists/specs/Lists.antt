@@ -7,7 +7,7 @@ use mathlib.Core.Bool.{Bool, true, false, cond, _&&_, false≢true}
 use lib.Dec.{eqb}
 use lib.ListN.{length, getD, drop, replicate, length-append, length-replicate, length-reverse, getD-replicate, List·getD-append}
 use lib.Seq.{getD-append-add, getD-at, ext-getD}
-use native.Mathlib.Nat.{not-suc-le-zero, le-of-suc-le-suc, eq-or-lt-of-le, mul-le-mul-right}
+use native.Mathlib.Nat.{not-suc-le-zero, le-of-suc-le-suc, le-dest, eq-or-lt-of-le, mul-le-mul-right}
 use native.Mathlib.Omega.{arith}
 use borrow.Author.Tests.{eq-eqb, eqb-true}
 use Rattle.lists.specs.Tests.{and-left, and-right}
@@ -43,6 +43,10 @@ tabulate-same n {f} same = equal-tabulate (length-tabulate n f) (λ k h. getD-ta
 -- The table of a function that is x below n is x, n times over.
 pub tabulate-constant : (n : ℕ) {f : ℕ → ℕ} {x : ℕ} → ((k : ℕ) → k < n → f k ≡ x) → tabulate n f ≡ replicate n x
 tabulate-constant n {x = x} same = sym (equal-tabulate (length-replicate n x) (λ k h. getD-replicate n k x 0 h ∙ sym (same k h)))
+
+-- Place t of n from the front is a place u from the back.
+pub from-back : (n t : ℕ) → t < n → (u : ℕ) × (t + u + 1 ≡ n)
+from-back n t h = let (u, e) = le-dest h in (u, omega arith)
 
 -- Element j of a list in reverse is the element as far from the end.
 pub getD-reverse : (l : List ℕ) (j k d : ℕ) → j + k + 1 ≡ length l → getD (reverse l) j d ≡ getD l k d

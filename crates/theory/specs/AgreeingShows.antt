@@ -1,5 +1,5 @@
--- Shows that agree in table and prices (document 02, §3): a slot costs the same in both. So a plan of one show, on a larger rack or followed by
--- the plan of another show, is a plan of the other.
+-- Shows that agree in table and prices (document 02, §3): a slot with the same count and load costs the same in both. So a plan costs the
+-- same on a larger rack, and a plan of one show followed by a plan of another costs at most as much as the two.
 use Prim.Native.Nat.{ℕ, zero, suc, _+_, _-_, _*_, _/_, _%_, _≤_, _<_}
 use mathlib.Core.Path.{_≡_, refl, sym, ap, ap₂, _∙_}
 use mathlib.Core.Bool.{true}
@@ -14,13 +14,14 @@ use Rattle.lists.specs.Numbers.{le-or-lt}
 use Rattle.lists.specs.Division.{quotient-lt}
 use Rattle.lists.specs.Ranges.{least-over-same}
 use Rattle.lists.specs.Sums.{sum-ext, sum-mono, sum-join}
-use Rattle.lists.specs.Lists.{length-tabulate, getD-tabulate}
+use Rattle.lists.specs.Lists.{tabulate, length-tabulate, getD-tabulate, tabulate-same}
 use Rattle.model.specs.Instance.{Instance}
 use Rattle.model.specs.MoreLight.{leastFrom}
 use Rattle.model.specs.Counts.{canServe, operatingCost}
 use Rattle.model.specs.Thesis.{switchingPrice, countAt, slotCost, countsCost}
 use Rattle.model.specs.Plans.{Member, Allowed}
 use Rattle.model.specs.RelatedShows.{Agree, loadsOf, LargerRack, Concatenated}
+use Rattle.laws.specs.Encoding.{SameShow}
 use Rattle.laws.specs.Operating.{operating-formula}
 use Rattle.theory.specs.Hypotheses.{LoadsFit, Plannable, costOfFirst}
 use Rattle.theory.specs.Least.{count-same}
@@ -55,6 +56,11 @@ module _ (i : Instance) {l : List ℕ} (e : loadsOf i ≡ l) where
   unfolding loadsOf
   loads-at t h = sym (getD-tabulate (i .slots) (i .load) t 0 h) ∙ ap (λ x. getD x t 0) e
 
+-- Shows that are the same have the same loads.
+pub same-loads : {i j : Instance} → SameShow i j → loadsOf j ≡ loadsOf i
+unfolding loadsOf
+same-loads {i} {j} same = ap (λ n. tabulate n (j .load)) (same .slots) ∙ tabulate-same (i .slots) (same .load)
+
 module _ {i j : Instance} (agree : Agree i j) where
   least-from-same : (k : ℕ) → k ≤ i .topStep → leastFrom j k ≡ leastFrom i k
   unfolding leastFrom
@@ -82,8 +88,8 @@ module _ {i j : Instance} (agree : Agree i j) where
   pub price-same : switchingPrice j ≡ switchingPrice i
   price-same = ap₂ (λ a b. a + b) (agree .powerUp) (agree .powerDown)
 
-  -- So does a slot whose count serves its load.
-  pub slot-same : (prev x l : ℕ) → canServe i x l ≡ true → slotCost j prev x l ≡ slotCost i prev x l
+  -- A slot whose count serves its load costs the same in both.
+  slot-same : (prev x l : ℕ) → canServe i x l ≡ true → slotCost j prev x l ≡ slotCost i prev x l
   unfolding slotCost
   slot-same prev x l serves = rw (operating-same x l serves, price-same)
 
@@ -108,7 +114,7 @@ module _ {i j : Instance} (larger : LargerRack i j) where
   larger-load : (t : ℕ) → t < i .slots → j .load t ≡ i .load t
   larger-load t h = loads-at j (larger .loads) t (rw larger-slots h) ∙ sym (loads-at i refl t h)
 
-  -- It can be planned where the show can.
+  -- A show can be planned on the larger rack where it can be planned.
   pub larger-plannable : Plannable i → Plannable j
   larger-plannable ready = agree-plannable (larger .agree) ready (larger .rack) fit
     where
@@ -127,7 +133,7 @@ module _ {i j : Instance} (larger : LargerRack i j) where
       let inside : t < i .slots = rw larger-slots at h in
       (within _ (a .member t inside), rw (larger-load t inside, serve-same (larger .agree)) (allowed-serves i few a t inside)))
 
-  -- It costs the same there.
+  -- A plan costs the same on the larger rack.
   pub larger-cost : (start : ℕ) {few p : List ℕ} → Allowed i few p → countsCost j start p ≡ countsCost i start p
   unfolding countsCost countAt
   larger-cost start {few} {p} a =
@@ -171,15 +177,17 @@ module _ {i j k : Instance} (both : Concatenated i j k) where
       (first t)
       (le-or-lt (i .slots) t)
 
-  -- It can be planned where both can.
-  pub concatenated-plannable : Plannable i → Plannable j → Plannable k
-  concatenated-plannable ready ready′ = agree-plannable (both .agree-first) ready (omega (arith, both .rack-first)) fit
-    where
-      fit : LoadsFit k
-      fit =
-          by-part (λ t. k .load t ≤ k .modules * k .topStep)
-          (λ t h. rw (concatenated-first t h, both .rack-first, both .agree-first .topStep) (ready .loads t h))
-          (λ t h. rw (concatenated-second t h, both .rack-second, both .agree-second .topStep) (ready′ .loads t h))
+  -- Both shows can be planned where the joined show can.
+  pub concatenated-plannable : Plannable k → Plannable i × Plannable j
+  concatenated-plannable ready = (
+    agree-plannable (agree-back (both .agree-first)) ready (omega (arith, both .rack-first))
+        (λ t h.
+        rw (concatenated-first t h, both .rack-first, both .agree-first .topStep) at (ready .loads t (omega (arith, concatenated-slots)))),
+    agree-plannable (agree-back (both .agree-second)) ready (omega (arith, both .rack-second))
+        (λ t h.
+        rw (concatenated-second t h, both .rack-second, both .agree-second .topStep) at
+        (ready .loads (i .slots + t) (omega (arith, concatenated-slots)))),
+  )
 
   -- Plans of the two, with counts from one list.
   module _ {counts p r : List ℕ} (P : Allowed i counts p) (R : Allowed j counts r) where
@@ -215,7 +223,7 @@ module _ {i j k : Instance} (both : Concatenated i j k) where
     count-before start zero = omega arith
     count-before start (suc t) = rw (add-suc (i .slots) t, count-second t) (omega arith)
 
-    -- So it costs at most as much as there.
+    -- A slot of the second costs at most as much as in its own show.
     slot-second :
         (start t : ℕ) → t < j .slots →
         slotCost k (countAt start (p ++ r) (i .slots + t)) (countAt start (p ++ r) (suc (i .slots + t))) (k .load (i .slots + t)) ≤
@@ -225,7 +233,7 @@ module _ {i j k : Instance} (both : Concatenated i j k) where
         rw (count-second t, concatenated-second t h, slot-same (both .agree-second) _ _ _ (allowed-serves j counts R t h))
         (more-before j _ _ _ _ (count-before start t))
 
-    -- It costs at most what the two cost.
+    -- One plan after the other costs at most what the two cost, each from its own start.
     pub concatenated-cost : (start : ℕ) → countsCost k start (p ++ r) ≤ countsCost i start p + countsCost j 0 r
     unfolding countsCost
     concatenated-cost start =

@@ -1,27 +1,28 @@
 -- The worked examples of docs/COURSE-BOOK.md, on cards: each fact of the course book on cards that meet its hypotheses, and that no fact says
 -- more than is true.
 use Prim.Native.Nat.{ℕ, _≤_}
-use mathlib.Core.Path.{_≡_, refl}
+use mathlib.Core.Path.{_≡_, refl, sym, ap, ap₂, _∙_}
 use mathlib.Core.Bool.{true}
-use mathlib.Core.List.{List, [], _∷_, flatMap}
+use mathlib.Core.List.{List, [], _∷_, _++_, flatMap, reverse}
 use native.Mathlib.Omega.{arith}
 use Rattle.lists.specs.Tests.{every}
 use Rattle.lists.specs.Sums.{sum}
 use Rattle.lists.specs.Ranges.{leastOver, firstOver}
-use Rattle.lists.specs.Lists.{tabulate, rows, keep}
+use Rattle.lists.specs.Lists.{tabulate, equal-tabulate, rows, keep}
 use Rattle.lists.specs.Bytes.{littleEndian, bytesOf}
 use Rattle.model.specs.Instance.{Instance, instanceOf, cardBytes, inOrder, convexAt, convex, tableInRange, pricesInRange, loadsInRange}
 use Rattle.model.specs.MoreLight.{leastFrom, activeStep}
 use Rattle.model.specs.Counts.{canServe, allCounts, powerOfTwo, coarseCounts}
-use Rattle.model.specs.Sheets.{stateAt, stepCost, changeCost, sheetOperatingCost, sheetSwitchingCost, sheetCost}
+use Rattle.model.specs.Sheets.{off, stateAt, sheetLength, sheetEntries, lightAt, sheetLight, serves, stepCost, changeCost}
+use Rattle.model.specs.Sheets.{sheetOperatingCost, sheetSwitchingCost, sheetCost}
 use Rattle.model.specs.Plans.{moduleByte, slotRow, sheetOf, planCost, planServes, plansInOrder, cheapest, cheapestOf, leastPlan}
 use Rattle.model.specs.Planners.{Planner, exact, coarse, allowedCounts, plannedBy, plannedCost}
 use Rattle.model.specs.Calls.{Accepted}
 use Rattle.model.specs.RelatedShows.{Agree, loadsOf, Reversed, LargerRack, Concatenated, PlannedAt, PlannedAs}
 use Rattle.model.specs.Examples.{showOf, cardOf}
-use Rattle.laws.specs.Encoding.{in-order-fits, in-order-accepted, card-bytes-show}
-use Rattle.theory.specs.AgreeingShows.{agree-back, agree-on}
-use Rattle.theory.specs.CourseBook.{larger-card-cost, planned-at, planned-as, planned-at-one}
+use Rattle.laws.specs.Encoding.{SameShow, in-order-fits, in-order-accepted, card-bytes-show}
+use Rattle.theory.specs.AgreeingShows.{agree-back, agree-on, same-loads}
+use Rattle.theory.specs.CourseBook.{planned-at, planned-as, planned-at-one, NeverDearer}
 
 -- A table and prices.
 pub record Rates : Type 0 where
@@ -34,18 +35,18 @@ pub record Rates : Type 0 where
 abbrev pub card : Rates → (m : ℕ) → (loads : List ℕ) → List ℕ
 card f m l = cardOf m (f .topStep) (f .powerUp) (f .powerDown) (f .table) l
 
--- Example A's rates; rates with a dear second step; rates by which only a warm-up costs; and rates by which only a module costs.
+-- Example A's rates; rates with a dear second step; rates by which only a start costs; and rates by which only an active module costs.
 abbrev pub ratesA : Rates
 ratesA = record { topStep = 2; powerUp = 3; powerDown = 2; table = 1 ∷ 2 ∷ 4 ∷ [] }
 
 abbrev pub dearStep : Rates
 dearStep = record { topStep = 2; powerUp = 1; powerDown = 1; table = 1 ∷ 2 ∷ 8 ∷ [] }
 
-abbrev pub warmUpOnly : Rates
-warmUpOnly = record { topStep = 1; powerUp = 1; powerDown = 0; table = 0 ∷ 0 ∷ [] }
+abbrev pub powerUpOnly : Rates
+powerUpOnly = record { topStep = 1; powerUp = 1; powerDown = 0; table = 0 ∷ 0 ∷ [] }
 
-abbrev pub moduleOnly : Rates
-moduleOnly = record { topStep = 1; powerUp = 0; powerDown = 0; table = 1 ∷ 1 ∷ [] }
+abbrev pub tableOnly : Rates
+tableOnly = record { topStep = 1; powerUp = 0; powerDown = 0; table = 1 ∷ 1 ∷ [] }
 
 -- A card is accepted, and a planner gives it the cost x and the plan p.
 pub record Given (k : Planner) (c : List ℕ) (x : ℕ) (p : List ℕ) : Type 0 where
@@ -57,7 +58,7 @@ module _ (f : Rates) where
   abbrev show : (m : ℕ) → (loads : List ℕ) → Instance
   show m l = showOf m (f .topStep) (f .powerUp) (f .powerDown) (f .table) l
 
-  -- What is computed of a show gives what a planner gives its card.
+  -- What is computed of a show in order gives what a planner gives its card.
   given :
       (k : Planner) (m : ℕ) (l : List ℕ) {x : ℕ} {p : List ℕ} → inOrder (show m l) ≡ true → plannedCost k (instanceOf (card f m l)) ≡ x →
       plannedBy k (instanceOf (card f m l)) ≡ p → Given k (card f m l) x p
@@ -66,117 +67,138 @@ module _ (f : Rates) where
       let accepted = in-order-accepted (show m l) order in
       record { accepted = accepted; cost = rw cost at (planned-at k c accepted); plan = rw plan at (planned-as k c accepted) }
 
+  -- What is read from the card of a show in order is the show.
+  written : (m : ℕ) (l : List ℕ) → inOrder (show m l) ≡ true → SameShow (show m l) (instanceOf (card f m l))
+  written m l order = card-bytes-show (show m l) (in-order-fits (show m l) order)
+
+  loads : (m : ℕ) (l : List ℕ) → inOrder (show m l) ≡ true → loadsOf (instanceOf (card f m l)) ≡ l
+  unfolding loadsOf
+  loads m l order = same-loads (written m l order) ∙ sym (equal-tabulate refl (λ k h. refl))
+
   -- Cards with the same rates agree.
   agree :
       (m n : ℕ) (l r : List ℕ) → inOrder (show m l) ≡ true → inOrder (show n r) ≡ true →
       Agree (instanceOf (card f m l)) (instanceOf (card f n r))
   agree m n l r e e′ =
-      let here = card-bytes-show (show m l) (in-order-fits (show m l) e) in
-      let there = card-bytes-show (show n r) (in-order-fits (show n r) e′) in
       let same : Agree (show m l) (show n r) = record { topStep = refl; powerUp = refl; powerDown = refl; table = λ k h. refl } in
-      agree-on (agree-back (here .agree)) (agree-on same (there .agree))
+      agree-on (agree-back (written m l e .agree)) (agree-on same (written n r e′ .agree))
+
+  reversed-cards :
+      (m : ℕ) (l : List ℕ) → inOrder (show m l) ≡ true → inOrder (show m (reverse l)) ≡ true →
+      Reversed (instanceOf (card f m l)) (instanceOf (card f m (reverse l)))
+  reversed-cards m l e e′ =
+      record {
+        agree = agree m m l (reverse l) e e′;
+        rack = written m (reverse l) e′ .modules ∙ sym (written m l e .modules);
+        loads = loads m (reverse l) e′ ∙ ap reverse (sym (loads m l e));
+      }
+
+  larger-cards :
+      (m n : ℕ) (l : List ℕ) → m ≤ n → inOrder (show m l) ≡ true → inOrder (show n l) ≡ true →
+      LargerRack (instanceOf (card f m l)) (instanceOf (card f n l))
+  larger-cards m n l more e e′ =
+      record {
+        agree = agree m n l l e e′;
+        rack = omega (arith, written m l e .modules, written n l e′ .modules);
+        loads = loads n l e′ ∙ sym (loads m l e);
+      }
+
+  concatenated-cards :
+      (m : ℕ) (l r : List ℕ) → inOrder (show m l) ≡ true → inOrder (show m r) ≡ true → inOrder (show m (l ++ r)) ≡ true →
+      Concatenated (instanceOf (card f m l)) (instanceOf (card f m r)) (instanceOf (card f m (l ++ r)))
+  concatenated-cards m l r e e′ e″ =
+      record {
+        agree-first = agree m m l (l ++ r) e e″;
+        agree-second = agree m m r (l ++ r) e′ e″;
+        rack-first = written m (l ++ r) e″ .modules ∙ sym (written m l e .modules);
+        rack-second = written m (l ++ r) e″ .modules ∙ sym (written m r e′ .modules);
+        loads = loads m (l ++ r) e″ ∙ sym (ap₂ (λ a b. a ++ b) (loads m l e) (loads m r e′));
+      }
+
+-- The loads of example A.
+abbrev pub loadsA : List ℕ
+loadsA = 6 ∷ 0 ∷ 2 ∷ []
+
+-- The card of document 01's example F.
+abbrev pub cardF : List ℕ
+cardF = card powerUpOnly 2 (1 ∷ 0 ∷ [])
 
 -- The examples of the course book, each with the cards that it speaks of.
 pub record Book : Type 0 where
   -- Example A and example A backwards cost the same, and the plan is the plan backwards.
-  pub backwards :
-      Reversed (instanceOf (card ratesA 3 (6 ∷ 0 ∷ 2 ∷ []))) (instanceOf (card ratesA 3 (2 ∷ 0 ∷ 6 ∷ []))) ×
-      Given exact (card ratesA 3 (6 ∷ 0 ∷ 2 ∷ [])) 32 (3 ∷ 1 ∷ 1 ∷ []) × Given exact (card ratesA 3 (2 ∷ 0 ∷ 6 ∷ [])) 32 (1 ∷ 1 ∷ 3 ∷ [])
+  pub reversed :
+      Reversed (instanceOf (card ratesA 3 loadsA)) (instanceOf (card ratesA 3 (reverse loadsA))) ×
+      Given exact (card ratesA 3 loadsA) 32 (3 ∷ 1 ∷ 1 ∷ []) × Given exact (card ratesA 3 (reverse loadsA)) 32 (1 ∷ 1 ∷ 3 ∷ [])
   -- Each module more can lower the least cost: 20, 18, 16.
-  pub more-modules :
+  pub larger :
       LargerRack (instanceOf (card dearStep 2 (4 ∷ []))) (instanceOf (card dearStep 3 (4 ∷ []))) ×
       LargerRack (instanceOf (card dearStep 3 (4 ∷ []))) (instanceOf (card dearStep 4 (4 ∷ []))) ×
       Given exact (card dearStep 2 (4 ∷ [])) 20 (2 ∷ []) × Given exact (card dearStep 3 (4 ∷ [])) 18 (3 ∷ []) ×
       Given exact (card dearStep 4 (4 ∷ [])) 16 (4 ∷ [])
-  -- It need not: 3, 3.
-  pub more-modules-equal :
-      Given exact (card warmUpOnly 3 (3 ∷ [])) 3 (3 ∷ []) × Given exact (card warmUpOnly 4 (3 ∷ [])) 3 (3 ∷ [])
-  -- On the same two cards a module more raises the coarse planner's cost: 3, 4.
-  pub more-modules-coarse :
-      LargerRack (instanceOf (card warmUpOnly 3 (3 ∷ []))) (instanceOf (card warmUpOnly 4 (3 ∷ []))) ×
-      Given coarse (card warmUpOnly 3 (3 ∷ [])) 3 (3 ∷ []) × Given coarse (card warmUpOnly 4 (3 ∷ [])) 4 (4 ∷ [])
-  -- Example A and a show of cost 16 cost 39 joined, less than 48 and more than 32.
-  pub joined :
-      Concatenated (instanceOf (card ratesA 3 (6 ∷ 0 ∷ 2 ∷ []))) (instanceOf (card ratesA 3 (3 ∷ [])))
-      (instanceOf (card ratesA 3 (6 ∷ 0 ∷ 2 ∷ 3 ∷ []))) ×
-      Given exact (card ratesA 3 (3 ∷ [])) 16 (2 ∷ []) × Given exact (card ratesA 3 (6 ∷ 0 ∷ 2 ∷ 3 ∷ [])) 39 (3 ∷ 2 ∷ 2 ∷ 2 ∷ [])
+  -- A module more can leave the least cost as it is, 3 and 3, and raise the coarse planner's cost, 3 and 4.
+  pub larger-coarse :
+      LargerRack (instanceOf (card powerUpOnly 3 (3 ∷ []))) (instanceOf (card powerUpOnly 4 (3 ∷ []))) ×
+      Given exact (card powerUpOnly 3 (3 ∷ [])) 3 (3 ∷ []) × Given exact (card powerUpOnly 4 (3 ∷ [])) 3 (3 ∷ []) ×
+      Given coarse (card powerUpOnly 3 (3 ∷ [])) 3 (3 ∷ []) × Given coarse (card powerUpOnly 4 (3 ∷ [])) 4 (4 ∷ [])
+  -- Example A, which costs 32, and a show of cost 16 cost 39 joined: less than 48, and more than 32.
+  pub concatenated :
+      Concatenated (instanceOf (card ratesA 3 loadsA)) (instanceOf (card ratesA 3 (3 ∷ []))) (instanceOf (card ratesA 3 (loadsA ++ (3 ∷ [])))) ×
+      Given exact (card ratesA 3 (3 ∷ [])) 16 (2 ∷ []) × Given exact (card ratesA 3 (loadsA ++ (3 ∷ []))) 39 (3 ∷ 2 ∷ 2 ∷ 2 ∷ [])
   -- Two shows can cost the sum joined: 1 and 1, 2.
-  pub joined-equal :
-      Concatenated (instanceOf (card moduleOnly 1 (1 ∷ []))) (instanceOf (card moduleOnly 1 (1 ∷ [])))
-      (instanceOf (card moduleOnly 1 (1 ∷ 1 ∷ []))) ×
-      Given exact (card moduleOnly 1 (1 ∷ [])) 1 (1 ∷ []) × Given exact (card moduleOnly 1 (1 ∷ 1 ∷ [])) 2 (1 ∷ 1 ∷ [])
-  -- Example F's plan is 1 0, and the plan 1 1 costs as much.
+  pub concatenated-equal :
+      Concatenated (instanceOf (card tableOnly 1 (1 ∷ []))) (instanceOf (card tableOnly 1 (1 ∷ []))) (instanceOf (card tableOnly 1 (1 ∷ 1 ∷ []))) ×
+      Given exact (card tableOnly 1 (1 ∷ [])) 1 (1 ∷ []) × Given exact (card tableOnly 1 (1 ∷ 1 ∷ [])) 2 (1 ∷ 1 ∷ [])
+  -- Example F's plan is 1 0. The plan 1 1 costs as much, and so does its sheet, which has one module active in the second slot.
   pub two-least :
-      Given exact (card warmUpOnly 2 (1 ∷ 0 ∷ [])) 1 (1 ∷ 0 ∷ []) ×
-      (planServes (instanceOf (card warmUpOnly 2 (1 ∷ 0 ∷ []))) (1 ∷ 1 ∷ []) ≡ true) ×
-      (planCost (instanceOf (card warmUpOnly 2 (1 ∷ 0 ∷ []))) (1 ∷ 1 ∷ []) ≡ 1)
+      Given exact cardF 1 (1 ∷ 0 ∷ []) × (planServes (instanceOf cardF) (1 ∷ 1 ∷ []) ≡ true) × (planCost (instanceOf cardF) (1 ∷ 1 ∷ []) ≡ 1) ×
+      (serves (instanceOf cardF) (1 ∷ off ∷ 0 ∷ off ∷ []) ≡ true) × (sheetCost (instanceOf cardF) (1 ∷ off ∷ 0 ∷ off ∷ []) ≡ 1)
 
 pub book-examples : Book
 unfolding every sum tabulate rows keep flatMap littleEndian bytesOf instanceOf cardBytes convexAt convex tableInRange pricesInRange
-    loadsInRange inOrder canServe allCounts powerOfTwo coarseCounts stateAt stepCost changeCost sheetOperatingCost sheetSwitchingCost
-    sheetCost moduleByte slotRow sheetOf planCost planServes plansInOrder cheapest cheapestOf leastPlan leastOver firstOver leastFrom
-    activeStep allowedCounts plannedBy loadsOf
+    loadsInRange inOrder canServe allCounts powerOfTwo coarseCounts stateAt sheetLength sheetEntries lightAt sheetLight serves stepCost
+    changeCost sheetOperatingCost sheetSwitchingCost sheetCost moduleByte slotRow sheetOf planCost planServes plansInOrder cheapest
+    cheapestOf leastPlan leastOver firstOver leastFrom activeStep allowedCounts plannedBy
 book-examples =
     record {
-      backwards = (
-        record { agree = agree ratesA 3 3 (6 ∷ 0 ∷ 2 ∷ []) (2 ∷ 0 ∷ 6 ∷ []) refl refl; rack = refl; loads = refl },
-        given ratesA exact 3 (6 ∷ 0 ∷ 2 ∷ []) refl refl refl,
-        given ratesA exact 3 (2 ∷ 0 ∷ 6 ∷ []) refl refl refl,
+      reversed = (
+        reversed-cards ratesA 3 loadsA refl refl,
+        given ratesA exact 3 loadsA refl refl refl,
+        given ratesA exact 3 (reverse loadsA) refl refl refl,
       );
-      more-modules = (
-        record { agree = agree dearStep 2 3 (4 ∷ []) (4 ∷ []) refl refl; rack = omega arith; loads = refl },
-        record { agree = agree dearStep 3 4 (4 ∷ []) (4 ∷ []) refl refl; rack = omega arith; loads = refl },
+      larger = (
+        larger-cards dearStep 2 3 (4 ∷ []) (omega arith) refl refl,
+        larger-cards dearStep 3 4 (4 ∷ []) (omega arith) refl refl,
         given dearStep exact 2 (4 ∷ []) refl refl refl,
         given dearStep exact 3 (4 ∷ []) refl refl refl,
         given dearStep exact 4 (4 ∷ []) refl refl refl,
       );
-      more-modules-equal = (given warmUpOnly exact 3 (3 ∷ []) refl refl refl, given warmUpOnly exact 4 (3 ∷ []) refl refl refl);
-      more-modules-coarse = (
-        record { agree = agree warmUpOnly 3 4 (3 ∷ []) (3 ∷ []) refl refl; rack = omega arith; loads = refl },
-        given warmUpOnly coarse 3 (3 ∷ []) refl refl refl,
-        given warmUpOnly coarse 4 (3 ∷ []) refl refl refl,
+      larger-coarse = (
+        larger-cards powerUpOnly 3 4 (3 ∷ []) (omega arith) refl refl,
+        given powerUpOnly exact 3 (3 ∷ []) refl refl refl,
+        given powerUpOnly exact 4 (3 ∷ []) refl refl refl,
+        given powerUpOnly coarse 3 (3 ∷ []) refl refl refl,
+        given powerUpOnly coarse 4 (3 ∷ []) refl refl refl,
       );
-      joined = (
-        record {
-          agree-first = agree ratesA 3 3 (6 ∷ 0 ∷ 2 ∷ []) (6 ∷ 0 ∷ 2 ∷ 3 ∷ []) refl refl;
-          agree-second = agree ratesA 3 3 (3 ∷ []) (6 ∷ 0 ∷ 2 ∷ 3 ∷ []) refl refl;
-          rack-first = refl;
-          rack-second = refl;
-          loads = refl;
-        },
+      concatenated = (
+        concatenated-cards ratesA 3 loadsA (3 ∷ []) refl refl refl,
         given ratesA exact 3 (3 ∷ []) refl refl refl,
-        given ratesA exact 3 (6 ∷ 0 ∷ 2 ∷ 3 ∷ []) refl refl refl,
+        given ratesA exact 3 (loadsA ++ (3 ∷ [])) refl refl refl,
       );
-      joined-equal = (
-        record {
-          agree-first = agree moduleOnly 1 1 (1 ∷ []) (1 ∷ 1 ∷ []) refl refl;
-          agree-second = agree moduleOnly 1 1 (1 ∷ []) (1 ∷ 1 ∷ []) refl refl;
-          rack-first = refl;
-          rack-second = refl;
-          loads = refl;
-        },
-        given moduleOnly exact 1 (1 ∷ []) refl refl refl,
-        given moduleOnly exact 1 (1 ∷ 1 ∷ []) refl refl refl,
+      concatenated-equal = (
+        concatenated-cards tableOnly 1 (1 ∷ []) (1 ∷ []) refl refl refl,
+        given tableOnly exact 1 (1 ∷ []) refl refl refl,
+        given tableOnly exact 1 (1 ∷ 1 ∷ []) refl refl refl,
       );
-      two-least = (given warmUpOnly exact 2 (1 ∷ 0 ∷ []) refl refl refl, refl, refl);
+      two-least = (given powerUpOnly exact 2 (1 ∷ 0 ∷ []) refl refl refl, refl, refl, refl, refl);
     }
 
--- A planner for which more modules never cost more: the exact one is such (`larger-card-cost`).
-abbrev NeverDearer : Planner → Type 0
-NeverDearer k =
-    (c d : List ℕ) → Accepted c → Accepted d → LargerRack (instanceOf c) (instanceOf d) →
-    (x y : ℕ) × PlannedAt k c x × PlannedAt k d y × (y ≤ x)
-
-pub exact-never-dearer : NeverDearer exact
-exact-never-dearer = larger-card-cost
-
--- The coarse planner is not.
+-- The coarse planner is not one by which more modules never cost more.
 pub coarse-sometimes-dearer : NeverDearer coarse → ⊥
 coarse-sometimes-dearer never =
-    let (larger, three, four) = book-examples .more-modules-coarse in
+    let (larger, _, _, three, four) = book-examples .larger-coarse in
     let (x, y, at-three, at-four, below) = never _ _ (three .accepted) (four .accepted) larger in
     omega (
       arith,
-      planned-at-one coarse (card warmUpOnly 3 (3 ∷ [])) (three .cost) at-three,
-      planned-at-one coarse (card warmUpOnly 4 (3 ∷ [])) (four .cost) at-four,
+      planned-at-one coarse (card powerUpOnly 3 (3 ∷ [])) (three .cost) at-three,
+      planned-at-one coarse (card powerUpOnly 4 (3 ∷ [])) (four .cost) at-four,
     )

@@ -83,7 +83,7 @@ module _ {i : Instance} (ready : Plannable i) where
       let fit = sheet-counts-fit i s (ready .steps) e in
       record { slotwise = fit .slotwise; member = λ t h. all-member (i .modules) _ .0 (fit .in-rack t h); served = fit .served }
 
-  -- As a plan they cost at most what the sheet costs.
+  -- The counts of a sheet that serves cost as a plan at most what the sheet costs.
   pub sheet-counts-cost : (s : List ℕ) → serves i s ≡ true → planCost i (countsOf i s) ≤ sheetCost i s
   sheet-counts-cost s e =
       omega (arith, plan-cost-counts i (countsOf i s) (sheet-counts-fit i s (ready .steps) e), sheet-at-least i (ready .convex) s e)

@@ -40,7 +40,7 @@ module _ {i j : Instance} (ready : Plannable i) (back : Reversed i j) (counts : 
       least-plan-unique j counts _ _ (least-plan j counts asc-back (ready-back .loads))
       (least-by-counts ready-back counts asc-back .0 (reversed-least back counts L))
 
-  -- 'A show played backwards has the same least cost.'
+  -- 'A show played backwards has the same least cost'.
   pub reversed-least-cost : leastCost j counts ≡ leastCost i counts
   reversed-least-cost =
       let ready-back = reversed-plannable back ready in
@@ -78,21 +78,21 @@ module _ {i j : Instance} (ready : Plannable i) (larger : LargerRack i j) where
 
 -- Joined, on shows: 'Two shows with equal rack, table and prices .., joined end to end, cost at most the two least costs together.'
 pub concatenated-least-cost :
-    {i j k : Instance} → Plannable i → Plannable j → Concatenated i j k → (counts : List ℕ) → Ascending counts (k .modules) →
+    {i j k : Instance} → Plannable k → Concatenated i j k → (counts : List ℕ) → Ascending counts (k .modules) →
     leastCost k counts ≤ leastCost i counts + leastCost j counts
-concatenated-least-cost {i} {j} {k} ready ready′ both counts asc =
+concatenated-least-cost {i} {j} {k} ready both counts asc =
     let asc-first : Ascending counts (i .modules) = rw (both .rack-first) at asc in
     let asc-second : Ascending counts (j .modules) = rw (both .rack-second) at asc in
-    let joined = concatenated-plannable both ready ready′ in
-    let P = least-plan i counts asc-first (ready .loads) .allowed in
-    let R = least-plan j counts asc-second (ready′ .loads) .allowed in
+    let (first, second) = concatenated-plannable both ready in
+    let P = least-plan i counts asc-first (first .loads) .allowed in
+    let R = least-plan j counts asc-second (second .loads) .allowed in
     let there = concatenated-allowed both P R in
-    let least = least-plan k counts asc (joined .loads) .least _ there in
+    let least = least-plan k counts asc (ready .loads) .least _ there in
     omega (
       arith,
-      allowed-cost ready counts asc-first _ P,
-      allowed-cost ready′ counts asc-second _ R,
-      allowed-cost joined counts asc _ there,
+      allowed-cost first counts asc-first _ P,
+      allowed-cost second counts asc-second _ R,
+      allowed-cost ready counts asc _ there,
       concatenated-cost both P R 0,
     )
 
@@ -112,7 +112,7 @@ module _ (k : Planner) (c : List ℕ) where
   planned-at-one one other = at-shortest one .cost-is ∙ sym (at-shortest other .cost-is)
 
   pub planned-as-one : {p r : List ℕ} → PlannedAs k c p → PlannedAs k c r → p ≡ r
-  planned-as-one one other = sym (at-shortest one) ∙ at-shortest other
+  planned-as-one one other = sym (at-shortest one .1) ∙ at-shortest other .1
 
 -- What a planner gives for an accepted card.
 module _ (k : Planner) (c : List ℕ) (given : Accepted c) where
@@ -122,7 +122,7 @@ module _ (k : Planner) (c : List ℕ) (given : Accepted c) where
       record { number-is = sym (ap numberOf e); cost-is = sym (ap costOf e) }
 
   pub planned-as : PlannedAs k c (plannedBy k (instanceOf c))
-  planned-as p w room work = plan-written k c p w (always-planned k c p w given room work)
+  planned-as p w room work = let number = always-planned k c p w given room work in (number, plan-written k c p w number)
 
 -- Backwards, on cards.
 module _ (k : Planner) (c d : List ℕ) (C : Accepted c) (D : Accepted d) (back : Reversed (instanceOf c) (instanceOf d)) where
@@ -138,17 +138,21 @@ module _ (k : Planner) (c d : List ℕ) (C : Accepted c) (D : Accepted d) (back 
       let same = ap (λ m. leastCost (instanceOf d) (allowedCounts k m)) (back .rack) ∙ reversed-least-cost ready back _ asc in
       (plannedCost k (instanceOf c), planned-at k c C, rw same at (planned-at k d D))
 
-  -- Its plan for the second card is its plan for the first one in reverse, byte for byte.
+  -- Either planner's plan for the second card is its plan for the first one in reverse, byte for byte.
   pub reversed-card-plan : (p : List ℕ) × PlannedAs k c p × PlannedAs k d (reverse p)
   unfolding plannedBy
   reversed-card-plan =
       let same = ap (λ m. leastPlan (instanceOf d) (allowedCounts k m)) (back .rack) ∙ reversed-least-plan ready back _ asc in
       (plannedBy k (instanceOf c), planned-as k c C, rw same at (planned-as k d D))
 
--- More modules, on cards: the exact planner gives the card with more modules no higher cost.
-pub larger-card-cost :
+-- A planner by which more modules never cost more, on cards.
+abbrev pub NeverDearer : Planner → Type 0
+NeverDearer k =
     (c d : List ℕ) → Accepted c → Accepted d → LargerRack (instanceOf c) (instanceOf d) →
-    (x y : ℕ) × PlannedAt exact c x × PlannedAt exact d y × (y ≤ x)
+    (x y : ℕ) × PlannedAt k c x × PlannedAt k d y × (y ≤ x)
+
+-- More modules, on cards: the exact planner gives the card with more modules no higher cost.
+pub larger-card-cost : NeverDearer exact
 larger-card-cost c d C D larger =
     (_, _, planned-at exact c C, planned-at exact d D, larger-exact-cost (accepted-plannable c C) larger)
 
@@ -158,11 +162,11 @@ pub concatenated-card-cost :
     (k : Planner) (c d e : List ℕ) → Accepted c → Accepted d → Accepted e → Concatenated (instanceOf c) (instanceOf d) (instanceOf e) →
     (x y z : ℕ) × PlannedAt k c x × PlannedAt k d y × PlannedAt k e z × (z ≤ x + y)
 concatenated-card-cost k c d e C D E both =
-    let asc = planner-counts-ascending k _ (accepted-plannable e E .some) in
+    let ready = accepted-plannable e E in
     let bound : plannedCost k (instanceOf e) ≤ plannedCost k (instanceOf c) + plannedCost k (instanceOf d) =
     omega (
       arith,
-      concatenated-least-cost (accepted-plannable c C) (accepted-plannable d D) both _ asc,
+      concatenated-least-cost ready both _ (planner-counts-ascending k _ (ready .some)),
       ap (λ m. leastCost (instanceOf c) (allowedCounts k m)) (both .rack-first),
       ap (λ m. leastCost (instanceOf d) (allowedCounts k m)) (both .rack-second),
     ) in

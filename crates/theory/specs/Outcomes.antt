@@ -231,7 +231,7 @@ module _ (k : Planner) (c p w : List ℕ) where
       let planned = succeeded (planShow k c p w) e in
       rw plan-at-exit (written-taken (planBuffer k (instanceOf c) p) _ planned (best-fits k c (planner-on planned) .slotwise))
 
-  -- Sheet call and marking accept that plan, with the planner's answer.
+  -- Where a planner gives number 0, sheet call and marking accept the plan that it writes, with the planner's answer.
   pub planner-marked :
       numberOf (answer (planShow k c p w)) ≡ 0 → (s : List ℕ) → sheetBytes (instanceOf c) ≤ length s →
       Marked c (take (instanceOf c .slots) (planAtExit (planShow k c p w))) s (answer (planShow k c p w))

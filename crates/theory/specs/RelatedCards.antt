@@ -13,14 +13,13 @@ use lib.Seq.{getD-append-add}
 use borrow.Author.Tests.{le-leb}
 use Rattle.lists.specs.Numbers.{le-or-lt}
 use Rattle.lists.specs.Tests.{every-all, and-left, and-right, and-both}
-use Rattle.lists.specs.Lists.{equal-tabulate, getD-reverse}
+use Rattle.lists.specs.Lists.{equal-tabulate, from-back, getD-reverse}
 use Rattle.model.specs.Instance.{Instance, instanceOf, cardBytes, inOrder, rackNumber, pricesInRange, convex, loadsInRange}
 use Rattle.model.specs.Calls.{Accepted}
 use Rattle.model.specs.RelatedShows.{Agree, loadsOf, Reversed, LargerRack, Concatenated}
 use Rattle.laws.specs.Acceptance.{modules-range, slots-range, load-range}
 use Rattle.laws.specs.Encoding.{accepted-in-order, in-order-fits, in-order-accepted, card-bytes-show}
-use Rattle.theory.specs.AgreeingShows.{agree-back, agree-on, loads-slots, loads-at}
-use Rattle.theory.specs.ReversedShows.{from-back}
+use Rattle.theory.specs.AgreeingShows.{agree-back, agree-on, loads-slots, loads-at, same-loads}
 
 -- The show with the table and the prices of i, a rack of m modules and other loads.
 abbrev withLoads : Instance → (m : ℕ) → (loads : List ℕ) → Instance
@@ -91,7 +90,7 @@ module _ (c : List ℕ) (C : Accepted c) where
                 table = same .agree .table;
               };
           rack = same .modules;
-          loads = sym (equal-tabulate (sym (same .slots)) (λ k h. sym (same .load k (rw (same .slots) at h))));
+          loads = same-loads same ∙ sym (equal-tabulate refl (λ k h. refl));
         },
       )
 
@@ -118,7 +117,7 @@ module _ (c : List ℕ) (C : Accepted c) where
           let (u, e) = from-back (length (loadsOf show)) t (rw (length-reverse (loadsOf show)) at h) in
           rw (getD-reverse (loadsOf show) t u 0 e) (loads-fit u (omega arith))
 
-  -- It has an accepted card for every number of modules from its own to 200.
+  -- An accepted card has an accepted card of its show for every number of modules from its own to 200.
   pub larger-card :
       (m : ℕ) → show .modules ≤ m → m ≤ 200 → (d : List ℕ) × Accepted d × LargerRack show (instanceOf d) × (instanceOf d .modules ≡ m)
   larger-card m more most =

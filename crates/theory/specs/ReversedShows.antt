@@ -1,13 +1,12 @@
 -- A show played backwards (document 02, §3): a plan in reverse costs the same there, since its counts, from 0 back to 0, rise as much as they
 -- fall. So the least plan in reverse is the least plan, and, being the smallest in every slot, the one of the tie rule.
-use Prim.Native.Nat.{ℕ, zero, suc, _+_, _-_, _*_, _≤_, _<_}
+use Prim.Native.Nat.{ℕ, zero, suc, _+_, _-_, _*_, _≤_}
 use mathlib.Core.Path.{_≡_, refl, sym, ap, _∙_}
 use mathlib.Core.List.{List, reverse, reverse-reverse}
-use native.Mathlib.Nat.{le-dest}
 use native.Mathlib.Omega.{arith}
 use lib.ListN.{length, getD, length-reverse, List·getD-eq-default}
 use Rattle.lists.specs.Sums.{sum, sum-add, sum-scale, sum-reverse, sum-balance}
-use Rattle.lists.specs.Lists.{getD-reverse}
+use Rattle.lists.specs.Lists.{from-back, getD-reverse}
 use Rattle.model.specs.Instance.{Instance}
 use Rattle.model.specs.Counts.{operatingCost}
 use Rattle.model.specs.Thesis.{switchingPrice, countAt, slotCost, countsCost}
@@ -18,12 +17,8 @@ use Rattle.theory.specs.PlacedPlans.{allowed-serves, serves-allowed}
 use Rattle.theory.specs.SmallestPlans.{smallest-by-counts}
 use Rattle.theory.specs.AgreeingShows.{agree-back, loads-slots, loads-at, serve-same, operating-same, price-same, agree-plannable}
 
--- Place t of n from the front is a place u from the back.
-pub from-back : (n t : ℕ) → t < n → (u : ℕ) × (t + u + 1 ≡ n)
-from-back n t h = let (u, e) = le-dest h in (u, omega arith)
-
 -- The show is the backwards show played backwards.
-pub reversed-back : {i j : Instance} → Reversed i j → Reversed j i
+reversed-back : {i j : Instance} → Reversed i j → Reversed j i
 reversed-back {i} {j} back =
     record {
       agree = agree-back (back .agree);
@@ -41,7 +36,7 @@ module _ (n : ℕ) (p : List ℕ) (size : length p ≡ n) where
   unfolding countAt
   count-after = List·getD-eq-default p 0 (omega arith)
 
-  -- So there is no rise after it.
+  -- After the last slot no count rises.
   rises-after : risesIn (suc n) p ≡ risesIn n p
   unfolding sum
   rises-after = omega (arith, count-after)
@@ -82,7 +77,7 @@ cost-rises i p n e =
     )
 
 module _ {i j : Instance} (back : Reversed i j) where
-  pub reversed-slots : j .slots ≡ i .slots
+  reversed-slots : j .slots ≡ i .slots
   reversed-slots = loads-slots j (back .loads) ∙ length-reverse (loadsOf i) ∙ sym (loads-slots i refl)
 
   reversed-load : (t u : ℕ) → t + u + 1 ≡ i .slots → j .load t ≡ i .load u
@@ -90,7 +85,7 @@ module _ {i j : Instance} (back : Reversed i j) where
       loads-at j (back .loads) t (omega (arith, reversed-slots)) ∙
       getD-reverse (loadsOf i) t u 0 (e ∙ loads-slots i refl) ∙ sym (loads-at i refl u (omega arith))
 
-  -- It can be planned where the show can.
+  -- The backwards show can be planned where the show can.
   pub reversed-plannable : Plannable i → Plannable j
   reversed-plannable ready = agree-plannable (back .agree) ready (omega (arith, back .rack)) fit
     where
@@ -100,10 +95,9 @@ module _ {i j : Instance} (back : Reversed i j) where
       fit : LoadsFit j
       fit t h = let (u, e) = from-back (i .slots) t (rw reversed-slots at h) in slot t u e
 
-  -- An allowed plan in reverse.
   module _ {counts p : List ℕ} (P : Allowed i counts p) where
-    -- It is allowed for the backwards show.
-    pub reversed-allowed : Allowed j counts (reverse p)
+    -- An allowed plan in reverse is allowed for the backwards show.
+    reversed-allowed : Allowed j counts (reverse p)
     reversed-allowed =
         serves-allowed j counts (reverse p) (length-reverse p ∙ P .slotwise ∙ sym reversed-slots)
         (λ t h.
@@ -111,7 +105,7 @@ module _ {i j : Instance} (back : Reversed i j) where
         rw (getD-reverse p t u 0 (e ∙ sym (P .slotwise)), reversed-load t u e, serve-same (back .agree))
         (P .member u (omega arith), allowed-serves i counts P u (omega arith)))
 
-    -- It costs there what the plan costs.
+    -- An allowed plan in reverse costs on the backwards show what the plan costs.
     pub reversed-cost : countsCost j 0 (reverse p) ≡ countsCost i 0 p
     unfolding countAt
     reversed-cost =

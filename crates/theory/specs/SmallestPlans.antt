@@ -109,18 +109,18 @@ module _ (i : Instance) where
       smaller-below : (t : ℕ) → t < i .slots → (getD smaller t 0 ≤ getD p t 0) × (getD smaller t 0 ≤ getD r t 0)
       smaller-below t h = rw (getD-tabulate (i .slots) (λ t. min (getD p t 0) (getD r t 0)) t 0 h) (min-le-left _ _, min-le-right _ _)
 
-      S : Allowed i counts smaller
-      S = slotwise-allowed min (λ x y G a b. sorted x y (λ s l. G s) (λ _. a) (λ _. b)) (L .allowed) R
+      smaller-allowed : Allowed i counts smaller
+      smaller-allowed = slotwise-allowed min (λ x y G a b. sorted x y (λ s l. G s) (λ _. a) (λ _. b)) (L .allowed) R
 
-      Q : Allowed i counts (slotwise max p r)
-      Q = slotwise-allowed max (λ x y G a b. sorted x y (λ s l. G l) (λ _. b) (λ _. a)) (L .allowed) R
+      larger-allowed : Allowed i counts (slotwise max p r)
+      larger-allowed = slotwise-allowed max (λ x y G a b. sorted x y (λ s l. G l) (λ _. b) (λ _. a)) (L .allowed) R
 
       p-smaller : p ≡ smaller
       p-smaller =
           let as-cheap : countsCost i start smaller ≡ countsCost i start p =
-          omega (arith, slotwise-cost start p r, L .least smaller S, L .least (slotwise max p r) Q) in
-          not-after-equal (i .slots) p smaller (L .allowed .slotwise) (S .slotwise)
-          (L .first smaller S as-cheap) (λ u g _. smaller-below u g .0)
+          omega (arith, slotwise-cost start p r, L .least smaller smaller-allowed, L .least (slotwise max p r) larger-allowed) in
+          not-after-equal (i .slots) p smaller (L .allowed .slotwise) (smaller-allowed .slotwise)
+          (L .first smaller smaller-allowed as-cheap) (λ u g _. smaller-below u g .0)
 
 module _ {i : Instance} (ready : Plannable i) where
   -- The least plan over any ascending list of allowed counts has in every slot at most the count of every other allowed plan that costs as
