@@ -1,5 +1,6 @@
 //! The three facts of document 02, section 3, and two more that the course book has: a show played backwards, a rack with more modules, two
-//! shows joined end to end, and which of several least plans is given. All costs and plans are the library's.
+//! shows joined end to end, and which of several least plans is given. The costs and plans that a fact compares are the library's. Beside them
+//! stand the plain rules, where they are quick enough, so that a library that is wrong in the same way twice is noticed.
 use lamp_tests::boundary::{planned, Planner, BOTH};
 use lamp_tests::cards::{largest, lowest_at, Card};
 use lamp_tests::classes::Classes;
@@ -64,11 +65,25 @@ const ONE_LEAST: &str = "few plans, one of them least";
 const SEVERAL_LEAST: &str = "few plans, several of them least";
 const SEVERAL_AND_OTHER: &str = "few plans, several of them least, and the plan is not its own reverse";
 
+const BY_PLAIN_RULES: &str = "compared with the plain rules";
+const LONG_BY_PLAIN_RULES: &str = "compared with the plain rules, over 100 slots";
+
+/// The cost and the plan by the plain rules, of a show that is not too large for them.
+fn by_plain_rules(planner: Planner, card: &Card) -> Option<(u64, Vec<u8>)> {
+    let show = plain::read_card(&card.bytes()).unwrap();
+    let work = u64::from(card.modules).pow(2) * u64::from(card.top) * card.loads.len() as u64;
+    (work <= 2_000_000).then(|| show.least_plan(&show.counts(planner == Planner::Coarse)))
+}
+
 /// The show with its loads in reverse has the same cost, and its plan is the plan in reverse.
 fn compare_backwards(classes: &mut Classes, planner: Planner, card: &Card) {
     let backwards = Card { loads: reversed(&card.loads), ..card.clone() };
     let (cost, plan) = planned(planner, card);
     assert_eq!(planned(planner, &backwards), (cost, reversed(&plan)), "{planner:?}: {card:?}");
+    if let Some(wanted) = by_plain_rules(planner, card) {
+        assert_eq!((cost, &plan), (wanted.0, &wanted.1), "{planner:?}: {card:?}");
+        see(classes, planner, &[(BY_PLAIN_RULES, true), (LONG_BY_PLAIN_RULES, plan.len() > 100)]);
+    }
     let (other, least) = (plan != reversed(&plan), least_of_few(planner, card));
     let several = least.is_some_and(|plans| plans > 1);
     see(classes, planner, &[(OTHER_PLAN, other), (OWN_REVERSE, !other), (ONE_LEAST, least == Some(1))]);
@@ -77,7 +92,8 @@ fn compare_backwards(classes: &mut Classes, planner: Planner, card: &Card) {
 
 #[test]
 fn backwards() {
-    let of_each = [OTHER_PLAN, OWN_REVERSE, ONE_LEAST, SEVERAL_LEAST, SEVERAL_AND_OTHER];
+    let of_each =
+        [OTHER_PLAN, OWN_REVERSE, ONE_LEAST, SEVERAL_LEAST, SEVERAL_AND_OTHER, BY_PLAIN_RULES, LONG_BY_PLAIN_RULES];
     let mut classes = classes("10,102 shows played backwards (seed 151)", &of_each, &["the loads are not their own reverse"]);
     for card in many_shows(&mut Random::new(151)) {
         BOTH.into_iter().for_each(|planner| compare_backwards(&mut classes, planner, &card));
