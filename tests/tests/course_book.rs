@@ -92,8 +92,7 @@ fn compare_backwards(classes: &mut Classes, planner: Planner, card: &Card) {
 
 #[test]
 fn backwards() {
-    let of_each =
-        [OTHER_PLAN, OWN_REVERSE, ONE_LEAST, SEVERAL_LEAST, SEVERAL_AND_OTHER, BY_PLAIN_RULES, LONG_BY_PLAIN_RULES];
+    let of_each = [OTHER_PLAN, OWN_REVERSE, ONE_LEAST, SEVERAL_LEAST, SEVERAL_AND_OTHER, BY_PLAIN_RULES, LONG_BY_PLAIN_RULES];
     let mut classes = classes("10,102 shows played backwards (seed 151)", &of_each, &["the loads are not their own reverse"]);
     for card in many_shows(&mut Random::new(151)) {
         BOTH.into_iter().for_each(|planner| compare_backwards(&mut classes, planner, &card));
