@@ -110,7 +110,7 @@ def words_of_plan(data):
     return said.partition(b"\n")[0] + b"\n"
 
 
-BOOK_CARDS = ("a", "backwards", "second", "joined", "rack-of-two", "rack-of-three", "rack-of-four", "two-least")
+BOOK_CARDS = ("a", "backwards", "second", "joined", "rack-of-two", "rack-of-three", "rack-of-four", "several-least")
 ACCEPTED = (*BOOK_CARDS, "e", "empty", "falls-first", "keep-burning", "v-shaped")
 EXACT = b"# exact plan: no sheet that serves the show costs less\n"
 COARSE = b"# coarse plan: at most twice the least cost, NOT the key of the exact plan\n"
@@ -169,10 +169,9 @@ def course_book():
         require(f"the course book's {command}", f"\ncost {cost}\nplan {plan}\n".encode() in b"\n" + printed)
     for name in BOOK_CARDS:
         require(f"the course book has {name}", any(command == f"bin/plan samples/{name}.card" for command, _, _ in rows))
-    for last, cost in {b"- -": 1, b"0 -": 1, b"0 0": 2}.items():
-        wanted = b"cost %d\nleast 1\nabove %d\n" % (cost, cost - 1)
-        marked = lamp("mark", SAMPLES / "two-least.card", "-", data=b"1 -\n" + last + b"\n")
-        expect(f"the course book's two-least, last slot {last}", marked, 0, wanted)
+    for sheet, cost in {b"2 -\n2 -\n": 4, b"2 -\n1 1\n": 4, b"1 1\n2 -\n": 4, b"1 1\n1 1\n": 4, b"2 -\n2 0\n": 5}.items():
+        marked = lamp("mark", SAMPLES / "several-least.card", "-", data=sheet)
+        expect(f"the course book's several-least, {sheet}", marked, 0, b"cost %d\nleast 4\nabove %d\n" % (cost, cost - 4))
 
 
 D_BYTES = bytes([2, 2, 2, 255, 0, 255, 2, 255, 255])

@@ -1,5 +1,4 @@
--- The worked examples of docs/COURSE-BOOK.md, on cards: each fact of the course book on cards that meet its hypotheses, and that no fact says
--- more than is true.
+-- The worked examples of docs/COURSE-BOOK.md, on cards that meet the hypotheses of its facts; and that sharper forms of the facts fail.
 use Prim.Native.Nat.{ℕ, _≤_}
 use mathlib.Core.Path.{_≡_, refl, sym, ap, ap₂, _∙_}
 use mathlib.Core.Bool.{true}
@@ -13,7 +12,7 @@ use Rattle.lists.specs.Bytes.{littleEndian, bytesOf}
 use Rattle.model.specs.Instance.{Instance, instanceOf, cardBytes, inOrder, convexAt, convex, tableInRange, pricesInRange, loadsInRange}
 use Rattle.model.specs.MoreLight.{leastFrom, activeStep}
 use Rattle.model.specs.Counts.{canServe, allCounts, powerOfTwo, coarseCounts}
-use Rattle.model.specs.Sheets.{off, stateAt, sheetLength, sheetEntries, lightAt, sheetLight, serves, stepCost, changeCost}
+use Rattle.model.specs.Sheets.{stateAt, sheetLength, sheetEntries, lightAt, sheetLight, serves, stepCost, changeCost}
 use Rattle.model.specs.Sheets.{sheetOperatingCost, sheetSwitchingCost, sheetCost}
 use Rattle.model.specs.Plans.{moduleByte, slotRow, sheetOf, planCost, planServes, plansInOrder, cheapest, cheapestOf, leastPlan}
 use Rattle.model.specs.Planners.{Planner, exact, coarse, allowedCounts, plannedBy, plannedCost}
@@ -46,7 +45,7 @@ abbrev pub powerUpOnly : Rates
 powerUpOnly = record { topStep = 1; powerUp = 1; powerDown = 0; table = 0 ∷ 0 ∷ [] }
 
 abbrev pub tableOnly : Rates
-tableOnly = record { topStep = 1; powerUp = 0; powerDown = 0; table = 1 ∷ 1 ∷ [] }
+tableOnly = record { topStep = 2; powerUp = 0; powerDown = 0; table = 1 ∷ 1 ∷ 2 ∷ [] }
 
 -- A card is accepted, and a planner gives it the cost x and the plan p.
 pub record Given (k : Planner) (c : List ℕ) (x : ℕ) (p : List ℕ) : Type 0 where
@@ -119,9 +118,9 @@ module _ (f : Rates) where
 abbrev pub loadsA : List ℕ
 loadsA = 6 ∷ 0 ∷ 2 ∷ []
 
--- The card of document 01's example F.
-abbrev pub cardF : List ℕ
-cardF = card powerUpOnly 2 (1 ∷ 0 ∷ [])
+-- A card with two modules and the loads 2 2.
+abbrev pub cardOfSeveral : List ℕ
+cardOfSeveral = card tableOnly 2 (2 ∷ 2 ∷ [])
 
 -- The examples of the course book, each with the cards that it speaks of.
 pub record Book : Type 0 where
@@ -148,10 +147,11 @@ pub record Book : Type 0 where
   pub concatenated-equal :
       Concatenated (instanceOf (card tableOnly 1 (1 ∷ []))) (instanceOf (card tableOnly 1 (1 ∷ []))) (instanceOf (card tableOnly 1 (1 ∷ 1 ∷ []))) ×
       Given exact (card tableOnly 1 (1 ∷ [])) 1 (1 ∷ []) × Given exact (card tableOnly 1 (1 ∷ 1 ∷ [])) 2 (1 ∷ 1 ∷ [])
-  -- Example F's plan is 1 0. The plan 1 1 costs as much, and so does its sheet, which has one module active in the second slot.
-  pub two-least :
-      Given exact cardF 1 (1 ∷ 0 ∷ []) × (planServes (instanceOf cardF) (1 ∷ 1 ∷ []) ≡ true) × (planCost (instanceOf cardF) (1 ∷ 1 ∷ []) ≡ 1) ×
-      (serves (instanceOf cardF) (1 ∷ off ∷ 0 ∷ off ∷ []) ≡ true) × (sheetCost (instanceOf cardF) (1 ∷ off ∷ 0 ∷ off ∷ []) ≡ 1)
+  -- The plan is 1 1. The plan 2 2 costs as much, and so does its sheet, which has two modules active in each slot.
+  pub several-least :
+      Given exact cardOfSeveral 4 (1 ∷ 1 ∷ []) × (planServes (instanceOf cardOfSeveral) (2 ∷ 2 ∷ []) ≡ true) ×
+      (planCost (instanceOf cardOfSeveral) (2 ∷ 2 ∷ []) ≡ 4) ×
+      (serves (instanceOf cardOfSeveral) (1 ∷ 1 ∷ 1 ∷ 1 ∷ []) ≡ true) × (sheetCost (instanceOf cardOfSeveral) (1 ∷ 1 ∷ 1 ∷ 1 ∷ []) ≡ 4)
 
 pub book-examples : Book
 unfolding every sum tabulate rows keep flatMap littleEndian bytesOf instanceOf cardBytes convexAt convex tableInRange pricesInRange
@@ -189,7 +189,7 @@ book-examples =
         given tableOnly exact 1 (1 ∷ []) refl refl refl,
         given tableOnly exact 1 (1 ∷ 1 ∷ []) refl refl refl,
       );
-      two-least = (given powerUpOnly exact 2 (1 ∷ 0 ∷ []) refl refl refl, refl, refl, refl, refl);
+      several-least = (given tableOnly exact 2 (2 ∷ 2 ∷ []) refl refl refl, refl, refl, refl, refl);
     }
 
 -- The coarse planner is not one by which more modules never cost more.
