@@ -46,11 +46,14 @@ pub record AcceptsExactly (card sheet : List ℕ) (number : ℕ) : Type 0 where
 abbrev pub frontCard : List ℕ → List ℕ
 frontCard area = take (cardLength (instanceOf area)) area
 
+-- Something holds with every plan and work buffer that is long enough for a planner and a card.
+abbrev pub WithRoom : Planner → (card : List ℕ) → ((plan work : List ℕ) → Type 0) → Type 0
+WithRoom k card holds =
+    (plan work : List ℕ) → instanceOf card .slots ≤ length plan → workBytes k (instanceOf card) ≤ length work → holds plan work
+
 -- A planner plans a card with every plan and work buffer that is long enough.
 abbrev pub AlwaysPlanned : Planner → (card : List ℕ) → Type 0
-AlwaysPlanned k card =
-    (plan work : List ℕ) → instanceOf card .slots ≤ length plan → workBytes k (instanceOf card) ≤ length work →
-    numberOf (answer (planShow k card plan work)) ≡ 0
+AlwaysPlanned k card = WithRoom k card (λ plan work. numberOf (answer (planShow k card plan work)) ≡ 0)
 
 -- 'Every card it writes is accepted, also by the coarse planner' (02 §1): the card at the front of the area at exit is accepted, either
 -- planner plans it, and it is no longer than the longest practice card.

@@ -3,12 +3,13 @@
 use Prim.Native.Nat.{ℕ, _≤_}
 use mathlib.Core.Path.{_≡_}
 use mathlib.Core.List.{List, _++_, reverse}
-use lib.ListN.{length, take}
+use lib.ListN.{take}
 use Rattle.lists.specs.Lists.{tabulate}
 use Rattle.model.specs.Answers.{numberOf}
 use Rattle.model.specs.Instance.{Instance, instanceOf}
-use Rattle.model.specs.Planners.{Planner, workBytes}
+use Rattle.model.specs.Planners.{Planner}
 use Rattle.model.specs.Calls.{planShow, answer, planAtExit, Gives}
+use Rattle.model.specs.Promises.{WithRoom}
 
 -- Two shows agree in table and prices: the same F(0) to F(Q), warm-up price and cool-down price. What is asked of their racks and loads is
 -- said by each of the three records that follow.
@@ -44,13 +45,13 @@ pub record Concatenated (i j k : Instance) : Type 0 where
 
 -- A planner gives a card this cost: with every plan and work buffer that is long enough its number is 0 and its cost is this one.
 abbrev pub PlannedAt : Planner → (card : List ℕ) → (cost : ℕ) → Type 0
-PlannedAt k card cost =
-    (plan work : List ℕ) → instanceOf card .slots ≤ length plan → workBytes k (instanceOf card) ≤ length work →
-    Gives (planShow k card plan work) 0 cost
+PlannedAt k card cost = WithRoom k card (λ plan work. Gives (planShow k card plan work) 0 cost)
 
 -- A planner gives a card this plan: with every plan and work buffer that is long enough its number is 0 and the first T bytes of the plan
 -- buffer at exit are these counts.
 abbrev pub PlannedAs : Planner → (card : List ℕ) → (counts : List ℕ) → Type 0
 PlannedAs k card counts =
-    (plan work : List ℕ) → instanceOf card .slots ≤ length plan → workBytes k (instanceOf card) ≤ length work →
-    (numberOf (answer (planShow k card plan work)) ≡ 0) × (take (instanceOf card .slots) (planAtExit (planShow k card plan work)) ≡ counts)
+    WithRoom k card
+    (λ plan work.
+    (numberOf (answer (planShow k card plan work)) ≡ 0) ×
+    (take (instanceOf card .slots) (planAtExit (planShow k card plan work)) ≡ counts))

@@ -15,6 +15,7 @@ use Rattle.model.specs.Thesis.{countsCost}
 use Rattle.model.specs.Plans.{Member, Allowed, planCost, leastPlan, leastCost}
 use Rattle.model.specs.Planners.{Planner, exact, allowedCounts, workBytes, plannedBy, plannedCost}
 use Rattle.model.specs.Calls.{Accepted}
+use Rattle.model.specs.Promises.{WithRoom}
 use Rattle.model.specs.RelatedShows.{Reversed, LargerRack, Concatenated, PlannedAt, PlannedAs}
 use Rattle.columns.specs.Column.{Ascending}
 use Rattle.theory.specs.Hypotheses.{Plannable}
@@ -100,8 +101,7 @@ concatenated-least-cost {i} {j} {k} ready both counts asc =
 module _ (k : Planner) (c : List ℕ) where
   -- What holds with all buffers that are long enough holds with the shortest of them.
   at-shortest :
-      {G : List ℕ → List ℕ → Type 0} →
-      ((plan work : List ℕ) → instanceOf c .slots ≤ length plan → workBytes k (instanceOf c) ≤ length work → G plan work) →
+      {G : List ℕ → List ℕ → Type 0} → WithRoom k c G →
       G (replicate (instanceOf c .slots) 0) (replicate (workBytes k (instanceOf c)) 0)
   at-shortest given =
       let plan : length (replicate {A = ℕ} (instanceOf c .slots) 0) ≡ instanceOf c .slots = length-replicate _ 0 in
