@@ -3,7 +3,6 @@
 use Prim.Native.Nat.{ℕ, _*_, _≤_}
 use mathlib.Core.Path.{_≡_, refl, sym, ap, _∙_}
 use mathlib.Core.Bool.{true}
-use mathlib.Core.Logic.{_↔_}
 use mathlib.Core.List.{List}
 use native.Mathlib.Nat.{mul-le-mul-left}
 use native.Mathlib.Omega.{arith}
@@ -42,30 +41,26 @@ module _ {i : Instance} (ready : Plannable i) where
     pub allowed-cost : (p : List ℕ) → Allowed i counts p → planCost i p ≡ countsCost i 0 p
     allowed-cost p a = plan-cost-counts i p (allowed-fits a)
 
-    -- The least plan by counts is the least plan, and the other way round.
-    pub least-by-counts : {p : List ℕ} → LeastByCounts i counts 0 p ↔ LeastPlan i counts p
-    least-by-counts {p} = (
-      λ L.
-          record {
-            allowed = L .allowed;
-            least = λ r a. omega (arith, allowed-cost p (L .allowed), allowed-cost r a, L .least r a);
-            first = λ r a e. L .first r a (omega (arith, allowed-cost p (L .allowed), allowed-cost r a));
-          },
-      λ L.
-          record {
-            allowed = L .allowed;
-            least = λ r a. omega (arith, allowed-cost p (L .allowed), allowed-cost r a, L .least r a);
-            first = λ r a e. L .first r a (omega (arith, allowed-cost p (L .allowed), allowed-cost r a));
-          },
-    )
+    -- The least plan by counts is the least plan.
+    pub by-counts-least : {p : List ℕ} → LeastByCounts i counts 0 p → LeastPlan i counts p
+    by-counts-least {p} L =
+        record {
+          allowed = L .allowed;
+          least = λ r a. omega (arith, allowed-cost p (L .allowed), allowed-cost r a, L .least r a);
+          first = λ r a e. L .first r a (omega (arith, allowed-cost p (L .allowed), allowed-cost r a));
+        }
 
     -- The search over the list finds the least plan and its cost (thesis 4.12, 5.7).
     pub searched-plan : (searchedPlan i counts 0 ≡ leastPlan i counts) × (searchedCost i counts 0 ≡ leastCost i counts)
     searched-plan =
         let L = searched-least i counts 0 asc (ready .loads) in
-        let same = least-plan-unique i counts _ _ (least-by-counts .0 L) (least-plan i counts asc (ready .loads)) in
+        let same = least-plan-unique i counts _ _ (by-counts-least L) (least-plan i counts asc (ready .loads)) in
         let cost = searched-cost i counts 0 asc (ready .loads) ∙ sym (allowed-cost (searchedPlan i counts 0) (L .allowed)) in
         (same, cost ∙ ap (planCost i) same)
+
+    -- The least plan is the least plan by counts.
+    pub least-by-counts : LeastByCounts i counts 0 (leastPlan i counts)
+    least-by-counts = rw (searched-plan .0) at (searched-least i counts 0 asc (ready .loads))
 
     -- The least plan has a sheet that can be written.
     pub least-plan-fits : PlanFits i (leastPlan i counts)

@@ -21,7 +21,7 @@ use Rattle.columns.specs.Column.{Ascending}
 use Rattle.theory.specs.Hypotheses.{Plannable}
 use Rattle.theory.specs.Enumeration.{least-plan, least-plan-unique}
 use Rattle.theory.specs.CountLists.{all-member, planner-counts-ascending}
-use Rattle.theory.specs.Condition3.{allowed-cost, least-by-counts, accepted-plannable}
+use Rattle.theory.specs.Condition3.{allowed-cost, by-counts-least, least-by-counts, accepted-plannable}
 use Rattle.theory.specs.Outcomes.{planner-answer, always-planned, plan-written}
 use Rattle.theory.specs.SmallestPlans.{least-plan-smallest, least-sheet-smallest}
 use Rattle.theory.specs.AgreeingShows.{larger-plannable, larger-allowed, larger-cost}
@@ -37,9 +37,8 @@ module _ {i j : Instance} (ready : Plannable i) (back : Reversed i j) (counts : 
   pub reversed-least-plan : leastPlan j counts ≡ reverse (leastPlan i counts)
   reversed-least-plan =
       let ready-back = reversed-plannable back ready in
-      let L = least-by-counts ready counts asc .1 (least-plan i counts asc (ready .loads)) in
       least-plan-unique j counts _ _ (least-plan j counts asc-back (ready-back .loads))
-      (least-by-counts ready-back counts asc-back .0 (reversed-least back counts L))
+      (by-counts-least ready-back counts asc-back (reversed-least back counts (least-by-counts ready counts asc)))
 
   -- 'A show played backwards has the same least cost'.
   pub reversed-least-cost : leastCost j counts ≡ leastCost i counts

@@ -213,13 +213,14 @@ module _ (k : Planner) (c p w : List ℕ) where
     unfolding firstRefusal applies
     planner-cost room = planner-tests given ∙ rw room
 
-  -- An accepted card is planned by either planner wherever the buffers have the bytes asked for.
+  -- On an accepted card either planner answers its cost wherever the buffers have the bytes asked for.
   pub planner-answer :
       Accepted c → instanceOf c .slots ≤ length p → workBytes k (instanceOf c) ≤ length w →
       answer (planShow k c p w) ≡ Cost (plannedCost k (instanceOf c))
   unfolding buffersOf anyShort
   planner-answer given room work = planner-cost given (rw (le-ltb _ _ room, le-ltb _ _ work))
 
+  -- An accepted card is planned by either planner wherever the buffers have the bytes asked for.
   pub always-planned :
       Accepted c → instanceOf c .slots ≤ length p → workBytes k (instanceOf c) ≤ length w → numberOf (answer (planShow k c p w)) ≡ 0
   always-planned given room work = ap numberOf (planner-answer given room work)

@@ -131,7 +131,7 @@ module _ {i : Instance} (ready : Plannable i) where
   least-plan-smallest counts asc r R same =
       let L = least-plan i counts asc (ready .loads) in
       let cost = allowed-cost ready counts asc in
-      smallest-by-counts i counts 0 (least-by-counts ready counts asc .1 L) r R
+      smallest-by-counts i counts 0 (least-by-counts ready counts asc) r R
       (sym (cost r R) ∙ same ∙ cost (leastPlan i counts) (L .allowed))
 
   -- A sheet that serves at the least cost has in every slot at least as many active modules as the least plan over all counts.
