@@ -49,7 +49,7 @@ module _ (s p x : List ℕ) where
 
   pub make-refused : {c : Checked} {y : Refusal} → c ≡ checkedOf s → c ≡ Invalid y → Made s p x (Refused y) x
   unfolding answer requestOf refusals
-  make-refused is e = made-kept (sym (on-card-refused s _ _ _ _ (refused-answer s is e))) refl
+  make-refused is e = made-kept (sym (on-card-refused s _ _ _ _ _ (refused-answer s is e))) refl
 
   module _ {h : Header} (r : Ready s h) where
     module _ (slotwise : length p ≡ h .slots) where

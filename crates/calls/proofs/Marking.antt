@@ -24,7 +24,7 @@ use Rattle.card.proofs.Sizes.{sheet-size}
 module _ (s x : List ℕ) where
   pub mark-refused : {c : Checked} {y : Refusal} → c ≡ checkedOf s → c ≡ Invalid y → Refused y ≡ answer (markSheet s x)
   unfolding answer requestOf refusals
-  mark-refused is e = sym (on-card-refused s _ _ _ _ (refused-answer s is e))
+  mark-refused is e = sym (on-card-refused s _ _ _ _ _ (refused-answer s is e))
 
   module _ {h : Header} (r : Ready s h) where
     pub mark-length : (length x ≡ h .modules * h .slots → ⊥) → Refused WrongLength ≡ answer (markSheet s x)

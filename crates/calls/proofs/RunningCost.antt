@@ -25,14 +25,14 @@ use Rattle.counts.specs.Serving.{Served}
 module _ (s : List ℕ) (n l : ℕ) where
   pub pair-refused : {c : Checked} {x : Refusal} → c ≡ checkedOf s → c ≡ Invalid x → Refused x ≡ answer (runningCost s n l)
   unfolding answer requestOf refusals
-  pair-refused is e = sym (on-card-refused s _ _ _ _ (refused-answer s is e))
+  pair-refused is e = sym (on-card-refused s _ _ _ _ _ (refused-answer s is e))
 
   module _ {h : Header} (r : Ready s h) where
     tests :
         answer (runningCost s n l) ≡
         firstRefusal (applies (onCard s [] (pair n l))) (EntryRange ∷ LoadNotServed ∷ []) (Cost (operatingCost (instanceOf s) n l))
     unfolding answer requestOf refusals successCost
-    tests = on-card-passed s _ _ _ _ (r .accepted)
+    tests = on-card-passed s _ _ _ _ _ (r .accepted)
 
     pub pair-entry : h .modules < n → Refused EntryRange ≡ answer (runningCost s n l)
     unfolding firstRefusal applies entriesInRange

@@ -28,6 +28,9 @@ pub fn refusal_number(x: Refusal) -> u64
         Refusal::EntryRange => 12,
         Refusal::LoadNotServed => 13,
         Refusal::ZeroStart => 14,
+        Refusal::NotPermitted => 15,
+        Refusal::SeatUnavailable => 16,
+        Refusal::AllowanceSpent => 17,
     }
 }
 
@@ -125,7 +128,7 @@ pub fn make_sheet(card: &[u8], plan: &[u8], sheet: &mut [u8]) -> Answer
 }
 
 // Marking on an accepted card.
-fn mark_sheet_on(card: &[u8], h: Header, sheet: &[u8]) -> Answer
+pub fn mark_sheet_on(card: &[u8], h: Header, sheet: &[u8]) -> Answer
     requires { ⌜ Ready (now card) h ⌝ }
     ensures { λ r. ⌜ r ≡ answer (markSheet (now (card .entry)) (now (sheet .entry))) ⌝ }
 {

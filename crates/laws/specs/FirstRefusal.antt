@@ -55,3 +55,18 @@ module _ (test : Refusal → Bool) where
   first-through (x ∷ xs) a b e =
       let p = first-passed xs b e in
       rw (p .0) (first-through xs a b (p .1))
+
+-- Two tests agree on a list of refusals as far as the first that applies, and so do the answers where none applies.
+unfoldable pub Alike : (t u : Refusal → Bool) → List Refusal → (a b : Answer) → Type 0
+Alike t u [] a b = a ≡ b
+Alike t u (x ∷ xs) a b = (t x ≡ u x) × (t x ≡ false → Alike t u xs a b)
+
+-- Tests that agree so far give the same first refusal or the same answer.
+pub first-alike : (t u : Refusal → Bool) (xs : List Refusal) (a b : Answer) → Alike t u xs a b → firstRefusal t xs a ≡ firstRefusal u xs b
+unfolding firstRefusal Alike
+first-alike t u [] a b e = e
+first-alike t u (x ∷ xs) a b (same, rest) =
+    ⊎-elim
+    (λ (h : t x ≡ true). let k : u x ≡ true = sym same ∙ h in rw (h, k))
+    (λ (h : t x ≡ false). let k : u x ≡ false = sym same ∙ h in rw (h, k) (first-alike t u xs a b (rest h)))
+    (true-or-false (t x))

@@ -3,6 +3,8 @@ pub mod AnswerNumber
 pub mod FirstRefusal
 pub mod Acceptance
 pub mod OnCard
+pub mod SittingLaws
+pub mod SittingRecords
 pub mod Encoding
 pub mod PracticeAccepted
 pub mod Tables

@@ -15,6 +15,7 @@ pub mod ExclusiveOr
 pub mod Filling
 pub mod Prefixes
 pub mod Searching
+pub mod FirstPlace
 pub mod Parts
 pub mod Rows
 pub mod Writing

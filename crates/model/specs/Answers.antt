@@ -3,7 +3,7 @@ use Prim.Native.Nat.{ℕ}
 use Rattle.model.specs.declared.Refusal.{Refusal}
 use Rattle.model.specs.declared.Refusal.the-variants.{NotACard, Version, RackSize, SlotCount, CardLength, PriceRange, NotConvex}
 use Rattle.model.specs.declared.Refusal.the-variants.{LoadRange, NotMonotone, BufferTooShort, WrongLength, EntryRange, LoadNotServed}
-use Rattle.model.specs.declared.Refusal.the-variants.{ZeroStart}
+use Rattle.model.specs.declared.Refusal.the-variants.{ZeroStart, NotPermitted, SeatUnavailable, AllowanceSpent}
 use Rattle.model.specs.declared.Answer.{Answer}
 use Rattle.model.specs.declared.Answer.the-variants.{Cost, Refused}
 
@@ -23,6 +23,9 @@ refusalNumber WrongLength = 11
 refusalNumber EntryRange = 12
 refusalNumber LoadNotServed = 13
 refusalNumber ZeroStart = 14
+refusalNumber NotPermitted = 15
+refusalNumber SeatUnavailable = 16
+refusalNumber AllowanceSpent = 17
 
 -- The number of an answer: 'A success gives number 0', a refusal its number.
 abbrev pub numberOf : Answer → ℕ

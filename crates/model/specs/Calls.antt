@@ -1,8 +1,10 @@
--- Every call's whole outcome: its answer, and the bytes of each lent buffer at exit (document 01, 'Refused', 'The plans'; 02 §1, §2).
+-- Every call's whole outcome: its answer, and the bytes of each lent buffer at exit (document 01, 'Refused', 'The plans'; 02 §1, §2,
+-- §4).
 use Prim.Native.Nat.{ℕ, _*_}
 use mathlib.Core.Path.{_≡_}
 use mathlib.Core.Bool.{Bool, true, false, cond, not, _||_}
 use mathlib.Core.List.{List, [], _∷_, _++_, map}
+use mathlib.Core.Option.{Option·getD}
 use lib.ListN.{length, getD, replicate}
 use lib.Dec.{leb, ltb, eqb}
 use Rattle.lists.specs.Tests.{every, allOf}
@@ -10,7 +12,7 @@ use Rattle.lists.specs.Lists.{sameList, writtenOver}
 use Rattle.model.specs.declared.Refusal.{Refusal}
 use Rattle.model.specs.declared.Refusal.the-variants.{NotACard, Version, RackSize, SlotCount, CardLength, PriceRange, NotConvex}
 use Rattle.model.specs.declared.Refusal.the-variants.{LoadRange, NotMonotone, BufferTooShort, WrongLength, EntryRange, LoadNotServed}
-use Rattle.model.specs.declared.Refusal.the-variants.{ZeroStart}
+use Rattle.model.specs.declared.Refusal.the-variants.{ZeroStart, NotPermitted, SeatUnavailable, AllowanceSpent}
 use Rattle.model.specs.declared.Answer.{Answer}
 use Rattle.model.specs.declared.Answer.the-variants.{Cost, Refused}
 use Rattle.model.specs.Answers.{numberOf, costOf}
@@ -19,10 +21,16 @@ use Rattle.model.specs.Instance.{rackNumber, convex, neverFalls, pricesI
 use Rattle.model.specs.Counts.{canServe, operatingCost, roundedCount}
 use Rattle.model.specs.Sheets.{sheetLength, sheetEntries, sheetLight, sheetCost}
 use Rattle.model.specs.Plans.{planServes, planCost, sheetOf}
-use Rattle.model.specs.Planners.{Planner, workBytes, plannedBy, plannedCost}
+use Rattle.model.specs.Planners.{Planner, exact, workBytes, plannedBy, plannedCost}
 use Rattle.model.specs.Practice.{practiceShow}
+use Rattle.model.specs.declared.Seat.{Seat}
+use Rattle.model.specs.declared.Sitting.{Sitting}
+use Rattle.model.specs.Acts.{Act, openSitting, seatCandidate, closeSitting, submitSheet, readLeast, readLowest, readUsed, Facts}
+use Rattle.model.specs.Acts.{notPermitted, seatUnavailable, allowanceSpent}
+use Rattle.model.specs.SittingState.{factsOf, stateOf}
 
--- The calls, each with what it is handed: the bytes of card, plan, work and sheet at entry, and numbers.
+-- The calls, each with what it is handed: the bytes of card, plan, work and sheet at entry, and numbers. An act of a sitting is handed the
+-- sitting and the list of seats besides.
 pub data Call : Type 0 where
   checkCard : (card : List ℕ) → Call
   runningCost : (card : List ℕ) (count load : ℕ) → Call
@@ -31,6 +39,7 @@ pub data Call : Type 0 where
   markSheet : (card sheet : List ℕ) → Call
   roundCount : (count modules : ℕ) → Call
   practiceCard : (start : ℕ) (card : List ℕ) → Call
+  actIn : (sitting : Sitting) (seats : List Seat) (act : Act) → Call
 
 -- What a call is asked about: a count and a load, a plan or a sheet, each handed in with a card, a count in a rack of a given size, or
 -- the start of a practice show.
@@ -106,7 +115,17 @@ sheetBuffer i p s = record { entry = s; asked = sheetBytes i; writes = sheetOf i
 abbrev pub cardBuffer : Instance → (card : List ℕ) → Buffer
 cardBuffer i c = record { entry = c; asked = cardLength i; writes = cardBytes i }
 
--- The buffers lent to a call, in the order of its parameters.
+-- The buffers of bytes lent to an act: to opening 'the exact planner's areas'.
+unfoldable pub actBuffers : Act → List Buffer
+actBuffers (openSitting d a c p w) = planBuffer exact (instanceOf c) p ∷ workBuffer exact (instanceOf c) w ∷ []
+actBuffers (seatCandidate d c) = []
+actBuffers (closeSitting d) = []
+actBuffers (submitSheet d c s) = []
+actBuffers (readLeast d) = []
+actBuffers (readLowest d c) = []
+actBuffers (readUsed d) = []
+
+-- The buffers of bytes lent to a call, in the order of its parameters.
 unfoldable pub buffersOf : Call → List Buffer
 buffersOf (checkCard c) = []
 buffersOf (runningCost c n l) = []
@@ -115,31 +134,63 @@ buffersOf (makeSheet c p s) = sheetBuffer (instanceOf c) p s ∷ []
 buffersOf (markSheet c s) = []
 buffersOf (roundCount n m) = []
 buffersOf (practiceCard s c) = cardBuffer (practiceShow s) c ∷ []
+buffersOf (actIn z xs a) = actBuffers a
 
 -- One of the buffers is too short. Refusal 10: 'a lent area shorter than asked for'.
 unfoldable pub anyShort : List Buffer → Bool
 anyShort [] = false
 anyShort (b ∷ bs) = ltb (length (b .entry)) (b .asked) || anyShort bs
 
--- What the refusals look at: the bytes of a card, the numbers that have to be from 1 to 200, the lent buffers, and what is handed in.
+-- When a call comes: outside a sitting, or as an act of one of which the rules know some facts.
+pub data Moment : Type 0 where
+  outside : Moment
+  during : (facts : Facts) (act : Act) → Moment
+
+-- A test on an act of a sitting, which finds nothing outside.
+unfoldable pub onAct : (Facts → Act → Bool) → Moment → Bool
+onAct test outside = false
+onAct test (during f a) = test f a
+
+-- What the refusals look at: the bytes of a card, the numbers that have to be from 1 to 200, the lent buffers, what is handed in, and the
+-- moment.
 pub record Request : Type 0 where
   pub card : List ℕ
   pub rack : List ℕ
   pub buffers : List Buffer
   pub handed : HandedIn
+  pub moment : Moment
 
--- A request on a card, whose m and Q are the numbers of its rack.
+-- A request on a card, whose m and Q are the numbers of its rack, at a moment.
+abbrev pub onCardAt : List ℕ → List Buffer → HandedIn → Moment → Request
+onCardAt c bs h t =
+    record { card = c; rack = instanceOf c .modules ∷ instanceOf c .topStep ∷ []; buffers = bs; handed = h; moment = t }
+
+-- A request on a card outside a sitting.
 abbrev pub onCard : List ℕ → List Buffer → HandedIn → Request
-onCard c bs h =
-    record { card = c; rack = instanceOf c .modules ∷ instanceOf c .topStep ∷ []; buffers = bs; handed = h }
+onCard c bs h = onCardAt c bs h outside
 
 -- A request on a rack alone: 'The rounded count takes n and m only.'
 abbrev pub onRack : (count modules : ℕ) → Request
-onRack n m = record { card = []; rack = m ∷ []; buffers = []; handed = inRack n m }
+onRack n m = record { card = []; rack = m ∷ []; buffers = []; handed = inRack n m; moment = outside }
 
 -- A request on a start alone, which has no card to read and no rack to judge.
 abbrev pub onStart : (start : ℕ) → List Buffer → Request
-onStart s bs = record { card = []; rack = []; buffers = bs; handed = fromStart s }
+onStart s bs = record { card = []; rack = []; buffers = bs; handed = fromStart s; moment = outside }
+
+-- A request on a sitting alone.
+abbrev pub onSitting : Facts → Act → Request
+onSitting f a = record { card = []; rack = []; buffers = []; handed = nothing; moment = during f a }
+
+-- What the refusals of an act look at: opening and submitting are on a card.
+unfoldable pub actRequest : Facts → Act → Request
+actRequest f (openSitting d a c p w) =
+    onCardAt c (actBuffers (openSitting d a c p w)) nothing (during f (openSitting d a c p w))
+actRequest f (seatCandidate d c) = onSitting f (seatCandidate d c)
+actRequest f (closeSitting d) = onSitting f (closeSitting d)
+actRequest f (submitSheet d c s) = onCardAt c [] (sheet s) (during f (submitSheet d c s))
+actRequest f (readLeast d) = onSitting f (readLeast d)
+actRequest f (readLowest d c) = onSitting f (readLowest d c)
+actRequest f (readUsed d) = onSitting f (readUsed d)
 
 -- What the refusals of each call look at.
 unfoldable pub requestOf : Call → Request
@@ -150,6 +201,7 @@ requestOf (makeSheet c p s) = onCard c (buffersOf (makeSheet c p s)) (plan p)
 requestOf (markSheet c s) = onCard c [] (sheet s)
 requestOf (roundCount n m) = onRack n m
 requestOf (practiceCard s c) = onStart s (buffersOf (practiceCard s c))
+requestOf (actIn z xs a) = actRequest (factsOf (stateOf z xs)) a
 
 -- The show that a request's card says.
 abbrev pub shown : Request → Instance
@@ -171,10 +223,25 @@ applies r WrongLength = not (rightLength (shown r) (r .handed))
 applies r EntryRange = not (entriesInRange (shown r) (r .handed))
 applies r LoadNotServed = not (loadsServed (shown r) (r .handed))
 applies r ZeroStart = startsAtZero (r .handed)
+applies r NotPermitted = onAct notPermitted (r .moment)
+applies r SeatUnavailable = onAct seatUnavailable (r .moment)
+applies r AllowanceSpent = onAct allowanceSpent (r .moment)
 
 -- 'All calls on a card check 1 to 8.'
 abbrev pub cardRefusals : List Refusal
 cardRefusals = NotACard ∷ Version ∷ RackSize ∷ SlotCount ∷ CardLength ∷ PriceRange ∷ NotConvex ∷ LoadRange ∷ []
+
+-- The refusals of each act, in the order in which they are tested: opening is answered as the exact planner and then by 15 and 17 ('after 1
+-- to 10'); 'each answered as marking does', where 15, 16 and 17 'for hand-ins .. are tested in this order before 11 to 13'.
+unfoldable pub actRefusals : Act → List Refusal
+actRefusals (openSitting d a c p w) = cardRefusals ++ (BufferTooShort ∷ NotPermitted ∷ AllowanceSpent ∷ [])
+actRefusals (seatCandidate d c) = NotPermitted ∷ SeatUnavailable ∷ []
+actRefusals (closeSitting d) = NotPermitted ∷ []
+actRefusals (submitSheet d c s) =
+    cardRefusals ++ (NotPermitted ∷ SeatUnavailable ∷ AllowanceSpent ∷ WrongLength ∷ EntryRange ∷ LoadNotServed ∷ [])
+actRefusals (readLeast d) = NotPermitted ∷ SeatUnavailable ∷ []
+actRefusals (readLowest d c) = NotPermitted ∷ SeatUnavailable ∷ []
+actRefusals (readUsed d) = NotPermitted ∷ []
 
 -- The refusals of each call, in the order in which they are tested: 'Running cost adds 12 and 13; the sheet adds 10 to 13; marking adds 11
 -- to 13; the two planners add 10'; 'the coarse planner takes every accepted table and 9 is never given' (02 §2); a practice card '14, before
@@ -187,6 +254,17 @@ refusals (makeSheet c p s) = cardRefusals ++ (BufferTooShort ∷ WrongLength ∷
 refusals (markSheet c s) = cardRefusals ++ (WrongLength ∷ EntryRange ∷ LoadNotServed ∷ [])
 refusals (roundCount n m) = RackSize ∷ EntryRange ∷ []
 refusals (practiceCard s c) = ZeroStart ∷ BufferTooShort ∷ []
+refusals (actIn z xs a) = actRefusals a
+
+-- A submission has an order of its own: 17 stands before 11.
+unfoldable pub actOwnOrder : Act → Bool
+actOwnOrder (openSitting d a c p w) = false
+actOwnOrder (seatCandidate d c) = false
+actOwnOrder (closeSitting d) = false
+actOwnOrder (submitSheet d c s) = true
+actOwnOrder (readLeast d) = false
+actOwnOrder (readLowest d c) = false
+actOwnOrder (readUsed d) = false
 
 -- The calls for which a paragraph of document 02 sets an order among refusals that is not that of their numbers: 'that order holds
 -- instead of the lowest number, in condition 1 too' (02 §1). The list of every other call ascends.
@@ -198,12 +276,24 @@ ownOrder (makeSheet c p s) = false
 ownOrder (markSheet c s) = false
 ownOrder (roundCount n m) = false
 ownOrder (practiceCard s c) = true
+ownOrder (actIn z xs a) = actOwnOrder a
 
 -- The first refusal of a list that applies, or else the given answer. In an ascending list it is the lowest one: 'Of several, the lowest
 -- number is given.'
 unfoldable pub firstRefusal : (Refusal → Bool) → List Refusal → Answer → Answer
 firstRefusal test [] success = success
 firstRefusal test (x ∷ xs) success = cond (test x) (Refused x) (firstRefusal test xs success)
+
+-- The cost that an act gives with a success: 'opening gives the least cost', a submission is 'answered as marking does', and what is read;
+-- where there is no lowest cost, the cost is 0.
+unfoldable pub actCost : Facts → Act → ℕ
+actCost f (openSitting d a c p w) = plannedCost exact (instanceOf c)
+actCost f (seatCandidate d c) = 0
+actCost f (closeSitting d) = 0
+actCost f (submitSheet d c s) = sheetCost (instanceOf c) s
+actCost f (readLeast d) = f .least
+actCost f (readLowest d c) = Option·getD (f .lowest c) 0
+actCost f (readUsed d) = f .used
 
 -- The cost that a success gives: 'the plan's from a planner or the sheet call, the sheet's from marking, the pair's from running cost.
 -- The rounded count gives its count in that place; a call without a cost gives 0.'
@@ -215,6 +305,7 @@ successCost (makeSheet c p s) = planCost (instanceOf c) p
 successCost (markSheet c s) = sheetCost (instanceOf c) s
 successCost (roundCount n m) = roundedCount m n
 successCost (practiceCard s c) = 0
+successCost (actIn z xs a) = actCost (factsOf (stateOf z xs)) a
 
 -- The answer of a call.
 unfoldable pub answer : Call → Answer

@@ -9,7 +9,10 @@ pub mod Thesis
 pub mod Plans
 pub mod Planners
 pub mod Practice
+pub mod Acts
+pub mod SittingState
 pub mod Calls
+pub mod Sittings
 pub mod Promises
 pub mod RelatedShows
 pub mod Listing

@@ -30,10 +30,45 @@ pub enum Refusal {
     LoadNotServed,
     // 14, start 0 of a practice show (02 §1)
     ZeroStart,
+    // 15, an act in a sitting that the caller has no right to (02 §4)
+    NotPermitted,
+    // 16, a seat that is unknown, numbered 0, taken or beyond the list (02 §4)
+    SeatUnavailable,
+    // 17, an allowance that is spent or outside its range (02 §4)
+    AllowanceSpent,
 }
 
 // The answer of a call: a cost (the rounded count in its place), or a refusal.
 pub enum Answer {
     Cost(u64),
     Refused(Refusal),
+}
+
+// A seat of a sitting (02 §4), a record without padding: a candidate's number, 0 in an empty record, and the lowest cost marked so far,
+// which there is if `marked` is not 0.
+#[repr(C)]
+pub struct Seat {
+    pub lowest: u64,
+    pub candidate: u16,
+    pub marked: u16,
+    pub reserved: u32,
+}
+
+// A sitting (02 §4), which the host keeps and hands to each act: `state` is 1 while it is open and 2 once it is closed.
+#[repr(C)]
+pub struct Sitting {
+    pub state: u64,
+    pub allowance: u64,
+    pub submissions: u64,
+    pub least: u64,
+}
+
+// What an act of a sitting returns: a refusal's number, or 0, the cost, whether the cost is a lowest cost, and the sitting as the act
+// leaves it.
+#[repr(C)]
+pub struct Reply {
+    pub number: u64,
+    pub cost: u64,
+    pub marked: u64,
+    pub sitting: Sitting,
 }

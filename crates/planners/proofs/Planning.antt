@@ -1,11 +1,14 @@
 -- The answer of a planner, by its tests on the buffers, and its buffers at exit.
 use Prim.Native.Nat.{ℕ, _≤_, _<_}
-use mathlib.Core.Path.{_≡_, sym, ap, _∙_}
+use mathlib.Core.Path.{_≡_, refl, sym, ap, _∙_}
+use mathlib.Core.Bool.{Bool, true, false, not, _&&_, _||_}
 use mathlib.Core.List.{List, _++_}
 use native.Mathlib.Omega.{arith}
 use lib.ListN.{length, take, drop, replicate, length-replicate}
 use lib.Seq.{length-take-le}
-use borrow.Author.Tests.{lt-ltb, le-ltb}
+use lib.Dec.{ltb}
+use borrow.Author.Tests.{ltb-false, not-true, lt-ltb, le-ltb}
+use Rattle.lists.specs.Tests.{and-left, and-right}
 use Rattle.model.specs.declared.Refusal.{Refusal}
 use Rattle.model.specs.declared.Refusal.the-variants.{BufferTooShort}
 use Rattle.model.specs.declared.Answer.{Answer}
@@ -19,7 +22,25 @@ use Rattle.card.specs.declared.Checked.{Checked}
 use Rattle.card.specs.declared.Checked.the-variants.{Invalid}
 use Rattle.card.specs.Checking.{Ready, checkedOf}
 use Rattle.card.proofs.Groups.{refused-answer}
-use Rattle.planners.specs.PlannerRequires.{Buffers}
+use Rattle.planners.specs.PlannerRequires.{Buffers, roomFor}
+
+-- The test on the lengths of a planner's areas.
+module _ (k : Planner) (s : List ℕ) {h : Header} (r : Ready s h) (p w : ℕ) where
+  pub no-plan-room : p < h .slots → false ≡ roomFor k (instanceOf s) p w
+  unfolding roomFor
+  no-plan-room less = rw (lt-ltb p (instanceOf s .slots) (omega (arith, r .header .slots-is)))
+
+  module _ (plan-long : h .slots ≤ p) {n : ℕ} (n-is : n ≡ workBytes k (instanceOf s)) where
+    no-short : ltb p (instanceOf s .slots) ≡ false
+    no-short = le-ltb p (instanceOf s .slots) (omega (arith, r .header .slots-is))
+
+    pub no-work-room : w < n → false ≡ roomFor k (instanceOf s) p w
+    unfolding roomFor
+    no-work-room less = rw (no-short, lt-ltb w (workBytes k (instanceOf s)) (omega arith))
+
+    pub both-room : n ≤ w → true ≡ roomFor k (instanceOf s) p w
+    unfolding roomFor
+    both-room long = rw (no-short, le-ltb w (workBytes k (instanceOf s)) (omega arith))
 
 -- An answer and two buffers are those of a planner at exit.
 abbrev pub Planned : Planner → (s p w : List ℕ) → Answer → (plan work : List ℕ) → Type 0
@@ -35,25 +56,38 @@ module _ (k : Planner) (s p w : List ℕ) where
   pub plan-refused : {c : Checked} {x : Refusal} → c ≡ checkedOf s → c ≡ Invalid x → Planned k s p w (Refused x) p w
   plan-refused is e = planned-kept (planner-refused k s p w (refused-answer s is e))
 
+  -- The test on the lengths of the buffers finds one that is too short where there is one.
+  room-short : anyShort (buffersOf (planShow k s p w)) ≡ not (roomFor k (instanceOf s) (length p) (length w))
+  unfolding buffersOf anyShort roomFor
+  room-short = either (ltb (length p) (instanceOf s .slots)) (ltb (length w) (workBytes k (instanceOf s)))
+    where
+      either : (a b : Bool) → (a || (b || false)) ≡ not (not a && not b)
+      either true b = refl
+      either false true = refl
+      either false false = refl
+
   module _ {h : Header} (r : Ready s h) where
-    pub plan-short : length p < h .slots → Planned k s p w (Refused BufferTooShort) p w
-    unfolding buffersOf anyShort
-    plan-short less =
-        planned-kept
-        (planner-short k s p w (r .accepted) (rw (lt-ltb (length p) (instanceOf s .slots) (omega (arith, r .header .slots-is)))))
+    -- Where a buffer is too short, the planner is refused.
+    pub plan-short : roomFor k (instanceOf s) (length p) (length w) ≡ false → Planned k s p w (Refused BufferTooShort) p w
+    plan-short less = planned-kept (planner-short k s p w (r .accepted) (room-short ∙ ap not less))
 
-    module _ (plan-room : h .slots ≤ length p) {n : ℕ} (n-is : n ≡ workBytes k (instanceOf s)) where
-      roomy : instanceOf s .slots ≤ length p
-      roomy = omega (arith, r .header .slots-is)
+    module _ (room : roomFor k (instanceOf s) (length p) (length w) ≡ true) where
+      -- The plan buffer has a byte for each slot.
+      pub plan-room : h .slots ≤ length p
+      unfolding roomFor
+      plan-room =
+          let long : instanceOf s .slots ≤ length p = ltb-false _ _ (not-true _ (and-left _ _ room)) in
+          omega (arith, r .header .slots-is)
 
-      pub work-short : length w < n → Planned k s p w (Refused BufferTooShort) p w
-      unfolding buffersOf anyShort
-      work-short less =
-          planned-kept
-          (planner-short k s p w (r .accepted)
-          (rw (le-ltb _ _ roomy, lt-ltb (length w) (workBytes k (instanceOf s)) (omega arith))))
+      module _ {n : ℕ} (n-is : n ≡ workBytes k (instanceOf s)) where
+        -- The work buffer has the bytes asked for.
+        pub work-room : n ≤ length w
+        unfolding roomFor
+        work-room =
+            let long : workBytes k (instanceOf s) ≤ length w =
+            ltb-false _ _ (not-true _ (and-right (not (ltb (length p) (instanceOf s .slots))) _ room)) in
+            omega arith
 
-      module _ (work-room : n ≤ length w) where
         -- The parts of the buffers that are lent on.
         pub parts-lent : Buffers k s h (take (h .slots) p) (take n w)
         parts-lent =
@@ -64,10 +98,7 @@ module _ (k : Planner) (s p w : List ℕ) where
             }
 
         cost-given : answer (planShow k s p w) ≡ Cost (plannedCost k (instanceOf s))
-        unfolding buffersOf anyShort
-        cost-given =
-            planner-cost k s p w (r .accepted)
-            (rw (le-ltb _ _ roomy, le-ltb (length w) (workBytes k (instanceOf s)) (omega arith)))
+        cost-given = planner-cost k s p w (r .accepted) (room-short ∙ ap not room)
 
         -- After a success the parts have come back as the planner's plan and as zeros.
         pub plan-done :

@@ -1,9 +1,11 @@
 -- What the planners ask for.
 use Prim.Native.Nat.{ℕ, _*_, _≤_}
 use mathlib.Core.Path.{_≡_}
+use mathlib.Core.Bool.{Bool, not, _&&_}
 use mathlib.Core.List.{List}
 use lib.ListN.{length}
-use Rattle.model.specs.Instance.{instanceOf}
+use lib.Dec.{ltb}
+use Rattle.model.specs.Instance.{Instance, instanceOf}
 use Rattle.model.specs.Planners.{Planner, workBytes}
 use Rattle.card.specs.declared.Header.{Header}
 use Rattle.card.specs.Checking.{Ready}
@@ -28,3 +30,7 @@ pub record PlanOver (s : List ℕ) (h : Header) (counts plan work : List ℕ) : 
 -- Room for a number for each count of the largest rack.
 pub record NumberRoom (numbers : List ℕ) : Type 0 where
   pub room : length numbers ≡ 201
+
+-- Areas of these lengths have the bytes that a planner asks for.
+unfoldable pub roomFor : Planner → Instance → (plan work : ℕ) → Bool
+roomFor k i p w = not (ltb p (i .slots)) && not (ltb w (workBytes k i))

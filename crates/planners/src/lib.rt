@@ -12,7 +12,7 @@ ghost use Rattle.model.specs.Planners.{workBytes, plannedBy, plannedCost};
 ghost use Rattle.model.specs.Calls.{planShow, answer, planAtExit, workAtExit};
 ghost use Rattle.card.specs.Checking.{Ready};
 ghost use Rattle.counts.specs.AllowedCounts.{plannerOf};
-ghost use Rattle.planners.specs.PlannerRequires.{PlanOver, NumberRoom, Buffers};
+ghost use Rattle.planners.specs.PlannerRequires.{PlanOver, NumberRoom, Buffers, roomFor};
 
 // The least plan over a list of allowed counts and its cost, with room for a column.
 fn least_with_column(
@@ -85,6 +85,22 @@ fn work_bytes(kind: PlannerKind, card: &[u8], h: Header) -> usize
     }
 }
 
+// Whether areas of these lengths have the bytes that a planner asks for.
+pub fn room_for(kind: PlannerKind, card: &[u8], h: Header, plan: usize, work: usize) -> bool
+    requires { ⌜ Ready (now card) h ⌝ }
+    ensures { λ r. ⌜ r ≡ roomFor (plannerOf kind) (instanceOf (now (card .entry))) plan work ⌝ }
+{
+    let slots = h.slots as usize;
+    if plan < slots {
+        return false;
+    }
+    let asked = work_bytes(kind, card, h);
+    if work < asked {
+        return false;
+    }
+    true
+}
+
 // A planner on an accepted card.
 pub fn plan_show_on(
     kind: PlannerKind,
@@ -98,14 +114,11 @@ pub fn plan_show_on(
     ensures { λ r. ⌜ now (plan .exit) ≡ planAtExit (planShow (plannerOf kind) (now (card .entry)) (now (plan .entry)) (now (work .entry))) ⌝ }
     ensures { λ r. ⌜ now (work .exit) ≡ workAtExit (planShow (plannerOf kind) (now (card .entry)) (now (plan .entry)) (now (work .entry))) ⌝ }
 {
+    if !room_for(kind, card, h, plan.len(), work.len()) {
+        return Answer::Refused(Refusal::BufferTooShort);
+    }
     let slots = h.slots as usize;
     let asked = work_bytes(kind, card, h);
-    if plan.len() < slots {
-        return Answer::Refused(Refusal::BufferTooShort);
-    }
-    if work.len() < asked {
-        return Answer::Refused(Refusal::BufferTooShort);
-    }
     Answer::Cost(plan_by(kind, card, h, &mut plan[..slots], &mut work[..asked]))
 }
 

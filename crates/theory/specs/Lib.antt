@@ -30,3 +30,7 @@ pub mod Generator
 pub mod PracticeCards
 pub mod Counterexamples
 pub mod Applications
+pub mod SittingEvents
+pub mod SittingHistory
+pub mod SittingRuns
+pub mod SittingBounds

@@ -43,7 +43,7 @@ module _ (c s : List ℕ) where
   -- Marking that answers a cost is on an accepted card.
   marked-on : {n : ℕ} → answer (markSheet c s) ≡ Cost n → Accepted c
   unfolding answer requestOf refusals
-  marked-on = on-card-accepted c _ _ _ _
+  marked-on = on-card-accepted c _ _ _ _ _
 
   module _ (given : Accepted c) where
     -- On an accepted card the tests that remain are the three of `serves`.
@@ -51,7 +51,7 @@ module _ (c s : List ℕ) where
         answer (markSheet c s) ≡
         firstRefusal (applies (onCard c [] (sheet s))) (WrongLength ∷ EntryRange ∷ LoadNotServed ∷ []) (Cost (sheetCost (instanceOf c) s))
     unfolding answer requestOf refusals successCost
-    mark-tests = on-card-passed c _ _ _ _ given
+    mark-tests = on-card-passed c _ _ _ _ _ given
 
     -- A sheet that is marked with a cost serves.
     marked-serves : {n : ℕ} → answer (markSheet c s) ≡ Cost n → serves (instanceOf c) s ≡ true
@@ -88,7 +88,7 @@ module _ (c p s : List ℕ) where
   -- A sheet call that answers a cost is on an accepted card.
   made-on : {n : ℕ} → answer (makeSheet c p s) ≡ Cost n → Accepted c
   unfolding answer requestOf refusals
-  made-on = on-card-accepted c _ _ _ _
+  made-on = on-card-accepted c _ _ _ _ _
 
   module _ (given : Accepted c) where
     -- On an accepted card the refusals that the sheet call adds decide.
@@ -97,7 +97,7 @@ module _ (c p s : List ℕ) where
         firstRefusal (applies (onCard c (buffersOf (makeSheet c p s)) (plan p)))
         (BufferTooShort ∷ WrongLength ∷ EntryRange ∷ LoadNotServed ∷ []) (Cost (planCost (instanceOf c) p))
     unfolding answer requestOf refusals successCost
-    make-tests = on-card-passed c _ _ _ _ given
+    make-tests = on-card-passed c _ _ _ _ _ given
 
     -- Where the sheet call answers a cost, its buffer has at least the bytes asked for.
     pub made-room : {n : ℕ} → answer (makeSheet c p s) ≡ Cost n → sheetBytes (instanceOf c) ≤ length s
@@ -177,12 +177,12 @@ module _ (k : Planner) (c p w : List ℕ) where
   -- A planner that answers a cost is on an accepted card.
   pub planner-on : {n : ℕ} → answer (planShow k c p w) ≡ Cost n → Accepted c
   unfolding answer requestOf refusals
-  planner-on = on-card-accepted c _ _ _ _
+  planner-on = on-card-accepted c _ _ _ _ _
 
   -- On a card that is refused a planner is refused too, with the same number.
   pub planner-refused : {x : Refusal} → answer (checkCard c) ≡ Refused x → answer (planShow k c p w) ≡ Refused x
   unfolding answer requestOf refusals
-  planner-refused = on-card-refused c _ _ _ _
+  planner-refused = on-card-refused c _ _ _ _ _
 
   -- On an accepted card the one refusal that a planner adds decides.
   planner-tests :
@@ -191,7 +191,7 @@ module _ (k : Planner) (c p w : List ℕ) where
       firstRefusal (applies (onCard c (buffersOf (planShow k c p w)) nothing)) (BufferTooShort ∷ [])
       (Cost (plannedCost k (instanceOf c)))
   unfolding answer requestOf refusals successCost
-  planner-tests = on-card-passed c _ _ _ _
+  planner-tests = on-card-passed c _ _ _ _ _
 
   -- Where a planner answers a cost, its buffers have at least the bytes asked for.
   pub planner-room :

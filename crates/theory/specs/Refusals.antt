@@ -1,6 +1,6 @@
 -- The answer of every call: the first refusal of its list that applies, which is the lowest one where no paragraph of document 02 sets an
 -- order, or, where none applies, the cost.
-use Prim.Native.Nat.{ℕ, _+_, _-_, _≤_, _<_}
+use Prim.Native.Nat.{ℕ, zero, suc, _+_, _-_, _≤_, _<_}
 use mathlib.Core.Path.{_≡_, refl, sym, ap, _∙_}
 use mathlib.Core.Bool.{Bool, true, false, not, true≢false}
 use mathlib.Core.Logic.{_↔_, ⊎-elim}
@@ -8,7 +8,7 @@ use mathlib.Core.List.{List, [], _∷_, _++_, map, List·Memᴰ, List·Memᴰ·h
 use mathlib.Core.List.{List·Memᴰ·cases-cons, Memᴰ·map, Memᴰ·append-right}
 use native.Mathlib.Nat.{le-refl, le-of-lt}
 use native.Mathlib.Omega.{arith}
-use lib.ListN.{length, getD}
+use lib.ListN.{length, getD, drop}
 use lib.Dec.{ltb, eqb}
 use borrow.Author.Tests.{ltb-true, eqb-false, not-true}
 use Rattle.lists.specs.Numbers.{true-or-false}
@@ -18,7 +18,9 @@ use Rattle.model.specs.declared.Refusal.{Refusal}
 use Rattle.model.specs.declared.Answer.{Answer}
 use Rattle.model.specs.declared.Answer.the-variants.{Cost, Refused}
 use Rattle.model.specs.Answers.{refusalNumber, numberOf}
-use Rattle.model.specs.Calls.{Call, checkCard, runningCost, planShow, makeSheet, markSheet, roundCount, practiceCard, ownOrder}
+use Rattle.model.specs.Calls.{Call, checkCard, runningCost, planShow, makeSheet, markSheet, roundCount, practiceCard, actIn, ownOrder}
+use Rattle.model.specs.Calls.{actRefusals, actOwnOrder}
+use Rattle.model.specs.Acts.{Act, openSitting, seatCandidate, closeSitting, submitSheet, readLeast, readLowest, readUsed}
 use Rattle.model.specs.Calls.{requestOf, applies, refusals, firstRefusal, successCost, answer, Buffer, buffersOf, atExit, lent, buffersAtExit}
 use Rattle.laws.specs.AnswerNumber.{number-zero}
 use Rattle.laws.specs.FirstRefusal.{first-hit, first-skip, first-passed, first-through}
@@ -31,6 +33,23 @@ ascends l e = rising-in-order l (λ j h. ltb-true _ _ (every-at (length l - 1) _
 falls : {a b : ℕ} {l : List ℕ} → b ≤ a → InOrder _<_ (a ∷ b ∷ l) → ⊥
 falls h (next above order) = let less = above _ (List·Memᴰ·head refl) in absurd (omega arith)
 
+-- What follows some elements of a list in order is in order.
+beyond : (n : ℕ) (l : List ℕ) → InOrder _<_ l → InOrder _<_ (drop n l)
+beyond zero l order = order
+beyond (suc n) [] order = order
+beyond (suc n) (x ∷ l) (next above order) = beyond n l order
+
+-- The refusals of an act stand in the order of their numbers exactly if it is not a submission.
+act-refusals-ascend : (a : Act) → actOwnOrder a ≡ false ↔ InOrder _<_ (map refusalNumber (actRefusals a))
+unfolding actRefusals every actOwnOrder
+act-refusals-ascend (openSitting d a c p w) = (λ e. ascends _ refl, λ order. refl)
+act-refusals-ascend (seatCandidate d c) = (λ e. ascends _ refl, λ order. refl)
+act-refusals-ascend (closeSitting d) = (λ e. ascends _ refl, λ order. refl)
+act-refusals-ascend (submitSheet d c s) = (λ e. absurd (true≢false e), λ order. absurd (falls (omega arith) (beyond 10 _ order)))
+act-refusals-ascend (readLeast d) = (λ e. ascends _ refl, λ order. refl)
+act-refusals-ascend (readLowest d c) = (λ e. ascends _ refl, λ order. refl)
+act-refusals-ascend (readUsed d) = (λ e. ascends _ refl, λ order. refl)
+
 -- The refusals of a call stand in the order of their numbers exactly if no paragraph of document 02 sets another order for it.
 pub refusals-ascend : (c : Call) → ownOrder c ≡ false ↔ InOrder _<_ (map refusalNumber (refusals c))
 unfolding refusals every ownOrder
@@ -40,9 +59,20 @@ refusals-ascend (planShow k c p w) = (λ e. ascends _ refl, λ order. refl)
 refusals-ascend (makeSheet c p s) = (λ e. ascends _ refl, λ order. refl)
 refusals-ascend (markSheet c s) = (λ e. ascends _ refl, λ order. refl)
 refusals-ascend (roundCount n m) = (λ e. ascends _ refl, λ order. refl)
+refusals-ascend (actIn z xs a) = act-refusals-ascend a
 refusals-ascend (practiceCard s c) = (λ e. absurd (true≢false e), λ order. absurd (falls (omega arith) order))
 
--- Refusal 9 stands in no call's list.
+-- Refusal 9 stands in no act's list, and in no call's.
+nine-unlisted-act : (a : Act) → allOf (λ n. not (eqb n 9)) (map refusalNumber (actRefusals a)) ≡ true
+unfolding actRefusals allOf
+nine-unlisted-act (openSitting d a c p w) = refl
+nine-unlisted-act (seatCandidate d c) = refl
+nine-unlisted-act (closeSitting d) = refl
+nine-unlisted-act (submitSheet d c s) = refl
+nine-unlisted-act (readLeast d) = refl
+nine-unlisted-act (readLowest d c) = refl
+nine-unlisted-act (readUsed d) = refl
+
 nine-unlisted : (c : Call) → allOf (λ n. not (eqb n 9)) (map refusalNumber (refusals c)) ≡ true
 unfolding refusals allOf
 nine-unlisted (checkCard c) = refl
@@ -52,6 +82,7 @@ nine-unlisted (makeSheet c p s) = refl
 nine-unlisted (markSheet c s) = refl
 nine-unlisted (roundCount n m) = refl
 nine-unlisted (practiceCard s c) = refl
+nine-unlisted (actIn z xs a) = nine-unlisted-act a
 
 module _ (test : Refusal → Bool) where
   -- The refusal that is found applies, and stands in the list behind refusals that do not.

@@ -1,0 +1,211 @@
+-- What an act of a sitting answers and leaves (document 02, §4), and what a list of acts is told: by the state, by the records that the calls
+-- hand on, and by the history alone.
+use Prim.Native.Nat.{ℕ}
+use mathlib.Core.Path.{_≡_}
+use mathlib.Core.Bool.{Bool, true, false, cond}
+use mathlib.Core.List.{List, [], _∷_, _++_, headD, flatMap}
+use mathlib.Core.Option.{Option, none, some, Option·elim}
+use lib.ListN.{length}
+use lib.Dec.{leb, eqb}
+use Rattle.lists.specs.Lists.{keep}
+use Rattle.lists.specs.FirstPlace.{occurs, countOf}
+use Rattle.model.specs.declared.Answer.{Answer}
+use Rattle.model.specs.declared.Answer.the-variants.{Cost, Refused}
+use Rattle.model.specs.declared.Seat.{Seat}
+use Rattle.model.specs.declared.Sitting.{Sitting}
+use Rattle.model.specs.declared.Reply.{Reply}
+use Rattle.model.specs.Answers.{numberOf, costOf}
+use Rattle.model.specs.Acts.{Act, openSitting, seatCandidate, closeSitting, submitSheet, readLeast, readLowest, readUsed}
+use Rattle.model.specs.Acts.{Phase, unopened, opened, closed, Facts, eventOf}
+use Rattle.model.specs.Acts.{Event, nothingDone, openingDone, seatingDone, closingDone, submissionCounted, submissionMarked}
+use Rattle.model.specs.SittingState.{State, factsOf, after, lowerOf, phaseOf, stateOf, sittingAfter, seatsAfter}
+use Rattle.model.specs.Calls.{applies, actRequest, actRefusals, actCost, firstRefusal}
+
+-- The answer that the facts of a sitting give to an act.
+unfoldable pub answerTo : Facts → Act → Answer
+answerTo f a = firstRefusal (applies (actRequest f a)) (actRefusals a) (Cost (actCost f a))
+
+-- Whether a success tells a lowest cost: '(none is told from a cost of 0)'. It is 1 where a lowest cost is read and there is one, else 0.
+unfoldable pub markedBy : Facts → Act → ℕ
+markedBy f (openSitting d a c p w) = 0
+markedBy f (seatCandidate d c) = 0
+markedBy f (closeSitting d) = 0
+markedBy f (submitSheet d c s) = 0
+markedBy f (readLeast d) = 0
+markedBy f (readLowest d c) = Option·elim (f .lowest c) 0 (λ l. 1)
+markedBy f (readUsed d) = 0
+
+-- The same for any answer: a refusal tells none.
+unfoldable pub markedWith : Facts → Act → Answer → ℕ
+markedWith f a (Cost n) = markedBy f a
+markedWith f a (Refused x) = 0
+
+-- What the caller of an act is told: the number and the cost, and whether the cost is a lowest cost.
+pub record Told : Type 0 where
+  pub number : ℕ
+  pub cost : ℕ
+  pub marked : ℕ
+
+-- What an act is told by the facts of the sitting.
+unfoldable pub told : Facts → Act → Told
+told f a =
+    record {
+      number = numberOf (answerTo f a);
+      cost = costOf (answerTo f a);
+      marked = markedWith f a (answerTo f a);
+    }
+
+-- The transition: what an act makes of the state, and what it is told there.
+unfoldable pub next : State → Act → State
+next s a = after (eventOf a (answerTo (factsOf s) a)) s
+
+unfoldable pub toldBy : State → Act → Told
+toldBy s a = told (factsOf s) a
+
+-- What has happened by an act that is handed a sitting and a list of seats.
+abbrev pub eventIn : Sitting → List Seat → Act → Event
+eventIn z xs a = eventOf a (answerTo (factsOf (stateOf z xs)) a)
+
+-- The reply of a call: what the caller is told, and the sitting, 'a value that each act gives back'.
+unfoldable pub replyWith : Told → Sitting → Reply
+replyWith t z = record { number = t .number; cost = t .cost; marked = t .marked; sitting = z }
+
+unfoldable pub replyOf : Sitting → List Seat → Act → Reply
+replyOf z xs a = replyWith (toldBy (stateOf z xs) a) (sittingAfter (eventIn z xs a) z)
+
+-- The list of seats at exit.
+unfoldable pub seatsAtExit : Sitting → List Seat → Act → List Seat
+seatsAtExit z xs a = seatsAfter (eventIn z xs a) xs
+
+-- What a list of acts is told, each handed the sitting and the seats 'as the last one left' them.
+unfoldable pub toldInTurn : Sitting → List Seat → List Act → List Told
+toldInTurn z xs [] = []
+toldInTurn z xs (a ∷ more) =
+    toldBy (stateOf z xs) a ∷ toldInTurn (replyOf z xs a .sitting) (seatsAtExit z xs a) more
+
+-- What a list of acts leaves of a sitting and a list of seats.
+unfoldable pub leftBy : Sitting → List Seat → List Act → Sitting × List Seat
+leftBy z xs [] = (z, xs)
+leftBy z xs (a ∷ more) = leftBy (replyOf z xs a .sitting) (seatsAtExit z xs a) more
+
+-- A list of acts starts afresh: from a sitting that counts as unopened, or with an opening that is accepted.
+pub data StartsAfresh (z : Sitting) (xs : List Seat) : List Act → Type 0 where
+  from-unopened : (acts : List Act) → phaseOf (z .state) ≡ unopened → StartsAfresh z xs acts
+  from-opening :
+      (caller allowance : ℕ) (card plan work : List ℕ) (acts : List Act) (cost : ℕ) →
+      answerTo (factsOf (stateOf z xs)) (openSitting caller allowance card plan work) ≡ Cost cost →
+      StartsAfresh z xs (openSitting caller allowance card plan work ∷ acts)
+
+-- 'each is lent the same card': an act on a card is on this one.
+unfoldable pub LentCard : List ℕ → Act → Type 0
+LentCard card (openSitting d a c p w) = c ≡ card
+LentCard card (seatCandidate d c) = Unit {0}
+LentCard card (closeSitting d) = Unit {0}
+LentCard card (submitSheet d c s) = c ≡ card
+LentCard card (readLeast d) = Unit {0}
+LentCard card (readLowest d c) = Unit {0}
+LentCard card (readUsed d) = Unit {0}
+
+-- A statement about each act of a list.
+unfoldable pub EachAct : (Act → Type 0) → List Act → Type 0
+EachAct P [] = Unit {0}
+EachAct P (a ∷ more) = P a × EachAct P more
+
+-- Events by kind.
+unfoldable pub isOpening : Event → Bool
+isOpening nothingDone = false
+isOpening (openingDone a n) = true
+isOpening (seatingDone c) = false
+isOpening closingDone = false
+isOpening submissionCounted = false
+isOpening (submissionMarked c n) = false
+
+unfoldable pub isClosing : Event → Bool
+isClosing nothingDone = false
+isClosing (openingDone a n) = false
+isClosing (seatingDone c) = false
+isClosing closingDone = true
+isClosing submissionCounted = false
+isClosing (submissionMarked c n) = false
+
+unfoldable pub isSubmission : Event → Bool
+isSubmission nothingDone = false
+isSubmission (openingDone a n) = false
+isSubmission (seatingDone c) = false
+isSubmission closingDone = false
+isSubmission submissionCounted = true
+isSubmission (submissionMarked c n) = true
+
+-- The candidates that an event seats: one or none.
+unfoldable pub seatedBy : Event → List ℕ
+seatedBy nothingDone = []
+seatedBy (openingDone a n) = []
+seatedBy (seatingDone c) = c ∷ []
+seatedBy closingDone = []
+seatedBy submissionCounted = []
+seatedBy (submissionMarked d n) = []
+
+-- The costs with which an event marks a candidate's sheet: one or none.
+unfoldable pub costsOf : ℕ → Event → List ℕ
+costsOf c nothingDone = []
+costsOf c (openingDone a n) = []
+costsOf c (seatingDone d) = []
+costsOf c closingDone = []
+costsOf c submissionCounted = []
+costsOf c (submissionMarked d n) = cond (eqb d c) (n ∷ []) []
+
+-- The allowance and the least cost of an opening.
+unfoldable pub allowanceOf : Event → ℕ
+allowanceOf nothingDone = 0
+allowanceOf (openingDone a n) = a
+allowanceOf (seatingDone d) = 0
+allowanceOf closingDone = 0
+allowanceOf submissionCounted = 0
+allowanceOf (submissionMarked d n) = 0
+
+unfoldable pub leastOf : Event → ℕ
+leastOf nothingDone = 0
+leastOf (openingDone a n) = n
+leastOf (seatingDone d) = 0
+leastOf closingDone = 0
+leastOf submissionCounted = 0
+leastOf (submissionMarked d n) = 0
+
+-- A history is the list of events so far, the last one first. What has happened since the last accepted opening: the sitting 'lasts until the
+-- next accepted opening'.
+unfoldable pub sinceOpening : List Event → List Event
+sinceOpening [] = []
+sinceOpening (e ∷ h) = cond (isOpening e) [] (e ∷ sinceOpening h)
+
+-- The last accepted opening.
+abbrev pub lastOpening : List Event → Event
+lastOpening h = headD (keep isOpening h) nothingDone
+
+-- The lowest of some costs, or none where there are none.
+unfoldable pub lowestAmong : List ℕ → Option ℕ
+lowestAmong [] = none
+lowestAmong (n ∷ ns) = some (lowerOf (lowestAmong ns) n)
+
+-- Whether the sitting is unopened, open or closed.
+unfoldable pub phaseIn : List Event → Phase
+phaseIn h = cond (occurs isOpening h) (cond (occurs isClosing (sinceOpening h)) closed opened) unopened
+
+-- What the rules ask about a sitting, told from the history alone, where the list of seats has the given number of seats: who was seated, how
+-- many submissions counted, the lowest cost among a candidate's marked sheets, whether it was closed.
+abbrev pub factsIn : (seats : ℕ) → List Event → Facts
+factsIn seats h =
+    record {
+      phase = phaseIn h;
+      allowance = allowanceOf (lastOpening h);
+      used = countOf isSubmission (sinceOpening h);
+      least = leastOf (lastOpening h);
+      seated = λ c. occurs (λ d. eqb d c) (flatMap seatedBy (sinceOpening h));
+      full = leb seats (length (flatMap seatedBy (sinceOpening h)));
+      lowest = λ c. lowestAmong (flatMap (costsOf c) (sinceOpening h));
+    }
+
+-- What a list of acts is told by the rules, after a history.
+unfoldable pub toldFrom : (seats : ℕ) → List Event → List Act → List Told
+toldFrom seats h [] = []
+toldFrom seats h (a ∷ more) =
+    told (factsIn seats h) a ∷ toldFrom seats (eventOf a (answerTo (factsIn seats h) a) ∷ h) more

@@ -1,0 +1,61 @@
+-- What an opening does, decided without the list of seats, is what it does with the list.
+use Prim.Native.Nat.{ℕ}
+use mathlib.Core.Path.{_≡_, refl, sym, ap, _∙_}
+use mathlib.Core.List.{List, [], _∷_, _++_, map}
+use lib.ListN.{length, replicate}
+use Rattle.model.specs.declared.Answer.{Answer}
+use Rattle.model.specs.declared.Answer.the-variants.{Cost, Refused}
+use Rattle.model.specs.declared.Seat.{Seat}
+use Rattle.model.specs.declared.Sitting.{Sitting}
+use Rattle.model.specs.Acts.{Act, openSitting, eventOf, actDone, actRefused}
+use Rattle.model.specs.SittingState.{factsOf, stateOf, seatsOf, beyondSeats, emptySeat, seatsAfter}
+use Rattle.model.specs.Calls.{actIn, answer, requestOf, refusals, successCost, buffersOf, buffersAtExit, planAtExit, workAtExit}
+use Rattle.model.specs.Sittings.{answerTo, toldBy, replyOf, seatsAtExit}
+use Rattle.laws.specs.SittingLaws.{opening-answer, opening-told}
+use Rattle.seats.specs.Scanned.{emptied}
+use Rattle.sitting.specs.Seen.{recordsEmptied, openingOf}
+
+-- The images under a function that is x all over are x, as many times.
+map-constant : {A B : Type 0} (x : B) (xs : List A) → map (λ a. x) xs ≡ replicate (length xs) x
+map-constant x [] = refl
+map-constant x (y ∷ ys) = ap (λ (l : List _). x ∷ l) (map-constant x ys)
+
+-- An opening.
+module _ (z : Sitting) (xs : List Seat) (d al : ℕ) (c p w : List ℕ) where
+  abbrev act : Act
+  act = openSitting d al c p w
+
+  -- The call is answered as the act, whatever the list is.
+  call-answer : (ys : List Seat) → answer (actIn z ys act) ≡ answerTo (factsOf (stateOf z xs)) act
+  unfolding answer requestOf refusals successCost answerTo
+  call-answer ys = opening-answer (factsOf (stateOf z ys)) (factsOf (stateOf z xs)) d al c p w
+
+  -- The buffer for the plan at exit.
+  pub opening-plan : planAtExit (actIn z [] act) ≡ planAtExit (actIn z xs act)
+  unfolding planAtExit buffersAtExit buffersOf
+  opening-plan = rw (call-answer [], call-answer xs)
+
+  -- The buffer for the work at exit.
+  pub opening-work : workAtExit (actIn z [] act) ≡ workAtExit (actIn z xs act)
+  unfolding workAtExit buffersAtExit buffersOf
+  opening-work = rw (call-answer [], call-answer xs)
+
+  -- The reply.
+  pub opening-reply : openingOf z act .reply ≡ replyOf z xs act
+  unfolding openingOf replyOf toldBy
+  opening-reply =
+      rw (
+        opening-told (factsOf (stateOf z [])) (factsOf (stateOf z xs)) d al c p w,
+        opening-answer (factsOf (stateOf z [])) (factsOf (stateOf z xs)) d al c p w,
+      )
+
+  -- The list of seats after an answer.
+  emptied-by : (r : Answer) → emptied (recordsEmptied r) xs ≡ seatsAfter (eventOf act r) xs
+  unfolding recordsEmptied emptied seatsAfter eventOf actDone actRefused
+  emptied-by (Cost n) = ap (λ (l : List Seat). l ++ beyondSeats xs) (sym (map-constant emptySeat (seatsOf xs)))
+  emptied-by (Refused x) = refl
+
+  -- The list of seats.
+  pub opening-seats : emptied (openingOf z act .emptied) xs ≡ seatsAtExit z xs act
+  unfolding openingOf seatsAtExit
+  opening-seats = rw (call-answer []) (emptied-by _)

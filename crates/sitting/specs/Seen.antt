@@ -1,0 +1,92 @@
+-- What an act makes of a view of the list of seats.
+use Prim.Native.Nat.{ℕ}
+use mathlib.Core.Path.{_≡_}
+use mathlib.Core.Bool.{not}
+use mathlib.Core.List.{[]}
+use lib.Dec.{ltb}
+use Rattle.model.specs.declared.Refusal.{Refusal}
+use Rattle.model.specs.declared.Answer.{Answer}
+use Rattle.model.specs.declared.Answer.the-variants.{Cost, Refused}
+use Rattle.model.specs.declared.Seat.{Seat}
+use Rattle.model.specs.declared.Sitting.{Sitting}
+use Rattle.model.specs.declared.Reply.{Reply}
+use Rattle.model.specs.Answers.{refusalNumber}
+use Rattle.model.specs.Acts.{Act, Facts, eventOf}
+use Rattle.model.specs.Acts.{Event, nothingDone, openingDone, seatingDone, closingDone, submissionCounted, submissionMarked}
+use Rattle.model.specs.SittingState.{phaseOf, lowestOf, seatLimit, emptySeat, seatedRecord, markedRecord, sittingAfter}
+use Rattle.model.specs.Calls.{actIn, answer}
+use Rattle.model.specs.Sittings.{answerTo, told, replyWith, replyOf}
+use Rattle.seats.specs.declared.View.{View}
+use Rattle.sitting.specs.declared.Outcome.{Outcome}
+use Rattle.sitting.specs.declared.OpenOutcome.{OpenOutcome}
+
+-- The facts of a sitting as a view of the list shows them, which for the candidate that was looked for are those of the list.
+unfoldable pub seen : Sitting → View → Facts
+seen z v =
+    record {
+      phase = phaseOf (z .state);
+      allowance = z .allowance;
+      used = z .submissions;
+      least = z .least;
+      seated = λ c. ltb (v .at) (v .n);
+      full = not (ltb (v .free) (v .n));
+      lowest = λ c. lowestOf (v .seat);
+    }
+
+-- The place that an event changes: the first empty record, the candidate's, or none, which is said by the length of the list.
+unfoldable pub placeFor : View → Event → ℕ
+placeFor v nothingDone = v .len
+placeFor v (openingDone a n) = v .len
+placeFor v (seatingDone c) = v .free
+placeFor v closingDone = v .len
+placeFor v submissionCounted = v .len
+placeFor v (submissionMarked c n) = v .at
+
+-- What the record there becomes.
+unfoldable pub recordFor : View → Event → Seat
+recordFor v nothingDone = emptySeat
+recordFor v (openingDone a n) = emptySeat
+recordFor v (seatingDone c) = seatedRecord c emptySeat
+recordFor v closingDone = emptySeat
+recordFor v submissionCounted = emptySeat
+recordFor v (submissionMarked c n) = markedRecord n (v .seat)
+
+-- What has happened by an act that is handed a sitting and a view.
+unfoldable pub eventSeen : Sitting → View → Act → Event
+eventSeen z v a = eventOf a (answerTo (seen z v) a)
+
+-- The reply that a view gives.
+unfoldable pub replySeen : Sitting → View → Act → Reply
+replySeen z v a = replyWith (told (seen z v) a) (sittingAfter (eventSeen z v a) z)
+
+-- What an act does, by a view.
+unfoldable pub outcomeOf : Sitting → View → Act → Outcome
+outcomeOf z v a =
+    record { at = placeFor v (eventSeen z v a); seat = recordFor v (eventSeen z v a); reply = replySeen z v a }
+
+-- The reply with an answer; a refusal marks nothing.
+unfoldable pub replyGiving : Answer → (marked : ℕ) → Sitting → Reply
+replyGiving (Cost n) m z = record { number = 0; cost = n; marked = m; sitting = z }
+replyGiving (Refused x) m z = record { number = refusalNumber x; cost = 0; marked = 0; sitting = z }
+
+-- What an act does that is refused and changes no record.
+unfoldable pub unchangedOf : ℕ → Refusal → Sitting → Outcome
+unchangedOf len x z = record { at = len; seat = emptySeat; reply = replyGiving (Refused x) 0 z }
+
+-- A sitting with another number of submissions used.
+unfoldable pub withSubmissions : Sitting → ℕ → Sitting
+withSubmissions z n = record { state = z .state; allowance = z .allowance; submissions = n; least = z .least }
+
+-- An answer and a number of submissions used are those of a submission.
+pub record Answered (z : Sitting) (v : View) (a : Act) (answer : Answer) (submissions : ℕ) : Type 0 where
+  pub answer-is : answer ≡ answerTo (seen z v) a
+  pub submissions-are : submissions ≡ sittingAfter (eventSeen z v a) z .submissions
+
+-- The records that an opening with an answer empties: the seats, or none.
+unfoldable pub recordsEmptied : Answer → ℕ
+recordsEmptied (Cost n) = seatLimit
+recordsEmptied (Refused x) = 0
+
+-- What an opening does, which the list of seats does not alter.
+unfoldable pub openingOf : Sitting → Act → OpenOutcome
+openingOf z a = record { emptied = recordsEmptied (answer (actIn z [] a)); reply = replyOf z [] a }

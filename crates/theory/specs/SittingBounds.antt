@@ -1,0 +1,278 @@
+-- What a sitting never tells (document 02, §4): the least cost before closing, a lowest cost below the least, more submissions than the
+-- allowance.
+use Prim.Native.Nat.{ℕ, zero, suc, _+_, _≤_, _<_, min}
+use mathlib.Core.Path.{_≡_, refl, sym, ap, _∙_, subst}
+use mathlib.Core.Bool.{Bool, true, false, cond, not, _&&_, _||_, true≢false}
+use mathlib.Core.List.{List, [], _∷_, map}
+use mathlib.Core.Option.{Option, none, some, Option·getD, Option·elim, Option·none-ne-some, Option·some-injective}
+use mathlib.Core.Logic.{⊎-elim}
+use native.Mathlib.Omega.{arith}
+use lib.ListN.{getD}
+use lib.Dec.{leb, eqb}
+use Rattle.lists.specs.Numbers.{true-or-false}
+use Rattle.lists.specs.Tests.{or-left}
+use Rattle.lists.specs.FirstPlace.{firstPlace, changeFirst}
+use Rattle.model.specs.declared.Refusal.the-variants.{NotPermitted, SeatUnavailable, WrongLength, EntryRange, LoadNotServed}
+use Rattle.model.specs.declared.Answer.{Answer}
+use Rattle.model.specs.declared.Answer.the-variants.{Cost, Refused}
+use Rattle.model.specs.declared.Seat.{Seat}
+use Rattle.model.specs.declared.Sitting.{Sitting}
+use Rattle.model.specs.Answers.{refusalNumber, numberOf, costOf}
+use Rattle.model.specs.Instance.{instanceOf}
+use Rattle.model.specs.Sheets.{sheetCost}
+use Rattle.model.specs.Planners.{exact, plannedCost}
+use Rattle.model.specs.Acts.{Act, openSitting, seatCandidate, closeSitting, submitSheet, readLeast, readLowest, readUsed}
+use Rattle.model.specs.Acts.{Phase, unopened, opened, closed, isUnopened, isClosed, Facts, notPermitted, seatUnavailable, allowanceSpent}
+use Rattle.model.specs.Acts.{Event, openingDone, seatingDone, closingDone, submissionMarked, submissionCounted, nothingDone, submissionRefused, actDone, actRefused, eventOf}
+use Rattle.model.specs.SittingState.{Place, State, isFor, emptyPlace, seatedPlace, markedPlace, lowerOf, factsOf, after, phaseOf, stateOf}
+use Rattle.model.specs.Calls.{answer, markSheet, Accepted, applies, onAct, actRequest, actRefusals, actCost, firstRefusal}
+use Rattle.model.specs.Sittings.{answerTo, markedBy, markedWith, told, toldBy, replyWith, replyOf, seatsAtExit, eventIn, leftBy, LentCard, EachAct, StartsAfresh, from-unopened, from-opening}
+use Rattle.laws.specs.FirstRefusal.{first-hit, first-skip, first-passed}
+use Rattle.laws.specs.OnCard.{on-card-passed}
+use Rattle.laws.specs.SittingLaws.{submitted-card, own-refusals}
+use Rattle.theory.specs.Condition3.{planner-bound, accepted-plannable}
+use Rattle.theory.specs.Outcomes.{mark-tests, mark-accepts, mark-number}
+use Rattle.theory.specs.SittingEvents.{Possible, nothing-possible, opening-possible, closing-possible, counted-possible, seating-possible}
+use Rattle.theory.specs.SittingEvents.{marked-possible, acts-possible}
+use Rattle.theory.specs.SittingRuns.{left-state}
+
+-- 'reads the least cost only after closing': until then every caller but the supervisor is refused by 15.
+pub least-hidden : (f : Facts) (d : ℕ) → isClosed (f .phase) ≡ false → eqb d 0 ≡ false → answerTo f (readLeast d) ≡ Refused NotPermitted
+unfolding answerTo actRefusals actRequest applies onAct notPermitted
+least-hidden f d before candidate =
+    first-hit (applies (actRequest f (readLeast d))) (SeatUnavailable ∷ []) _ (rw (candidate, before) (either (isUnopened (f .phase))))
+  where
+    either : (b : Bool) → (b || true) ≡ true
+    either true = refl
+    either false = refl
+
+-- The refusals 11 to 13 of a submission are those of marking.
+marking-tests :
+    (f : Facts) (d : ℕ) (card s : List ℕ) → Accepted card →
+    firstRefusal (applies (actRequest f (submitSheet d card s))) (WrongLength ∷ EntryRange ∷ LoadNotServed ∷ []) (Cost (sheetCost (instanceOf card) s))
+    ≡ answer (markSheet card s)
+unfolding firstRefusal applies actRequest
+marking-tests f d card s given = sym (mark-tests card s given)
+
+-- 'each answered as marking does': a submission that 1 to 8 and 15 to 17 let pass is answered as marking answers it.
+pub submission-as-marking :
+    (f : Facts) (d : ℕ) (card s : List ℕ) → Accepted card → notPermitted f (submitSheet d card s) ≡ false →
+    seatUnavailable f (submitSheet d card s) ≡ false → allowanceSpent f (submitSheet d card s) ≡ false →
+    answerTo f (submitSheet d card s) ≡ answer (markSheet card s)
+unfolding answerTo actRefusals actRequest actCost applies onAct
+submission-as-marking f d card s given permitted seated spared =
+    let test = applies (actRequest f (submitSheet d card s)) in
+    on-card-passed card _ _ _ _ _ given ∙ first-skip test _ _ permitted ∙ first-skip test _ _ seated ∙ first-skip test _ _ spared
+    ∙ marking-tests f d card s given
+
+-- A sheet that is marked in a sitting costs at least the least cost of its card (condition 3).
+submitted-least :
+    (f : Facts) (d : ℕ) (card s : List ℕ) {n : ℕ} → answerTo f (submitSheet d card s) ≡ Cost n → plannedCost exact (instanceOf card) ≤ n
+submitted-least f d card s {n} e =
+    let given = submitted-card f d card s e in
+    let permitted = first-passed _ _ _ (own-refusals f d card s e) in
+    let seated = first-passed _ _ _ (permitted .1) in
+    let spared = first-passed _ _ _ (seated .1) in
+    let marked : answer (markSheet card s) ≡ Cost n = sym (marking-tests f d card s given) ∙ spared .1 in
+    let serving = mark-number card s .0 (ap numberOf marked) .1 in
+    let cost : sheetCost (instanceOf card) s ≡ n = ap costOf (sym (mark-accepts card s given .1 serving) ∙ marked) in
+    omega (arith, planner-bound exact (accepted-plannable card given) s serving)
+
+-- A statement about every seat of a list.
+EverySeat : (Place → Type 0) → List Place → Type 0
+EverySeat P [] = Unit {0}
+EverySeat P (p ∷ ps) = P p × EverySeat P ps
+
+module _ (P : Place → Type 0) where
+  -- What holds of every seat holds of each, and of an empty one beyond them.
+  every-seat-at : P emptyPlace → (ps : List Place) → EverySeat P ps → (k : ℕ) → P (getD ps k emptyPlace)
+  unfolding EverySeat
+  every-seat-at e [] h k = e
+  every-seat-at e (p ∷ ps) (first, rest) zero = first
+  every-seat-at e (p ∷ ps) (first, rest) (suc k) = every-seat-at e ps rest k
+
+  -- It holds of every seat after an opening, if it holds of an empty one.
+  every-seat-emptied : P emptyPlace → (ps : List Place) → EverySeat P (map (λ p. emptyPlace) ps)
+  unfolding EverySeat
+  every-seat-emptied e [] = tt
+  every-seat-emptied e (p ∷ ps) = (e, every-seat-emptied e ps)
+
+  -- It holds of every seat after a change that keeps it.
+  every-seat-changed :
+      (f : Place → Bool) (g : Place → Place) → ((p : Place) → P p → P (g p)) → (ps : List Place) → EverySeat P ps →
+      EverySeat P (changeFirst f g ps)
+  unfolding EverySeat changeFirst
+  every-seat-changed f g kept [] h = h
+  every-seat-changed f g kept (p ∷ ps) (first, rest) =
+      ⊎-elim
+      (λ (t : f p ≡ true). rw t (kept p first, rest))
+      (λ (t : f p ≡ false). rw t (first, every-seat-changed f g kept ps rest))
+      (true-or-false (f p))
+
+-- A seat's lowest cost is at least a bound, if it has one.
+abbrev NotBelow : ℕ → Place → Type 0
+NotBelow l p = (v : ℕ) → p .lowest ≡ some v → l ≤ v
+
+-- The lower of a lowest cost so far and a new cost is not below a bound that neither is below.
+lower-not-below : {l n : ℕ} → l ≤ n → (p : Place) → NotBelow l p → NotBelow l (markedPlace n p)
+unfolding lowerOf
+lower-not-below {l} {n} new p before v e = go (p .lowest) before (Option·some-injective _ _ e)
+  where
+    go : (o : Option ℕ) → ((u : ℕ) → o ≡ some u → l ≤ u) → lowerOf o n ≡ v → l ≤ v
+    go none b same = omega arith
+    go (some u) b same = let above = b u refl in omega arith
+
+-- What holds in a sitting whose sheets all cost at least a bound: no more submissions are used than the allowance, and no seat's lowest cost
+-- is below the bound.
+record Bounded (l : ℕ) (s : State) : Type 0 where
+  within : isUnopened (s .phase) ≡ false → s .used ≤ s .allowance
+  above : isUnopened (s .phase) ≡ false → EverySeat (NotBelow l) (s .places)
+
+-- What has happened marks no sheet below a bound.
+MarksAtLeast : ℕ → Event → Type 0
+MarksAtLeast l nothingDone = Unit {0}
+MarksAtLeast l (openingDone a n) = Unit {0}
+MarksAtLeast l (seatingDone c) = Unit {0}
+MarksAtLeast l closingDone = Unit {0}
+MarksAtLeast l submissionCounted = Unit {0}
+MarksAtLeast l (submissionMarked c n) = l ≤ n
+
+-- It holds after an opening, whatever was before.
+opening-bounded : (l : ℕ) (s : State) (a n : ℕ) → Bounded l (after (openingDone a n) s)
+unfolding after
+opening-bounded l s a n =
+    record {
+      within = λ o. omega arith;
+      above = λ o. every-seat-emptied (NotBelow l) (λ v e. absurd (Option·none-ne-some v e)) (s .places);
+    }
+
+-- It holds after everything that can happen, if no sheet is marked below the bound.
+event-bounded : {l : ℕ} {s : State} {e : Event} → Possible s e → MarksAtLeast l e → Bounded l s → Bounded l (after e s)
+unfolding after isUnopened MarksAtLeast
+event-bounded nothing-possible marks b = b
+event-bounded {l} {s} (opening-possible a n) marks b = opening-bounded l s a n
+event-bounded (closing-possible o) marks b = record { within = λ o′. b .within o; above = λ o′. b .above o }
+event-bounded (counted-possible o spare) marks b = record { within = λ o′. omega arith; above = λ o′. b .above o }
+event-bounded {l} {s} (seating-possible c o real absent free) marks b =
+    record {
+      within = b .within;
+      above = λ o′. every-seat-changed (NotBelow l) (isFor 0) (seatedPlace c) (λ p h v e. absurd (Option·none-ne-some v e)) (s .places) (b .above o);
+    }
+event-bounded {l} {s} (marked-possible c n o spare real found) marks b =
+    record {
+      within = λ o′. omega arith;
+      above = λ o′. every-seat-changed (NotBelow l) (isFor c) (markedPlace n) (lower-not-below marks) (s .places) (b .above o);
+    }
+
+-- A refused submission marks no sheet.
+refused-marks : (l : ℕ) (b : Bool) → MarksAtLeast l (cond b submissionCounted nothingDone)
+unfolding MarksAtLeast
+refused-marks l true = tt
+refused-marks l false = tt
+
+-- Runs of acts none of which marks a sheet below a bound.
+module _ (l : ℕ) (Fine : Act → Type 0)
+    (marks : (f : Facts) (a : Act) → Fine a → (r : Answer) → answerTo f a ≡ r → MarksAtLeast l (eventOf a r)) where
+  -- An act keeps what holds.
+  act-bounded :
+      (z : Sitting) (xs : List Seat) (a : Act) → Fine a → Bounded l (stateOf z xs) → Bounded l (stateOf (replyOf z xs a .sitting) (seatsAtExit z xs a))
+  act-bounded z xs a fine b =
+      subst (Bounded l) (sym (left-state z xs a))
+      (event-bounded (acts-possible (stateOf z xs) a _ refl) (marks (factsOf (stateOf z xs)) a fine _ refl) b)
+
+  run-bounded :
+      (acts : List Act) → EachAct Fine acts → (z : Sitting) (xs : List Seat) → Bounded l (stateOf z xs) →
+      Bounded l (stateOf (leftBy z xs acts .0) (leftBy z xs acts .1))
+  unfolding leftBy EachAct
+  run-bounded [] fine z xs b = b
+  run-bounded (a ∷ more) (fine, rest) z xs b =
+      run-bounded more rest (replyOf z xs a .sitting) (seatsAtExit z xs a) (act-bounded z xs a fine b)
+
+  -- It holds after every list of acts that starts afresh.
+  afresh-bounded :
+      {z : Sitting} {xs : List Seat} {acts : List Act} → StartsAfresh z xs acts → EachAct Fine acts →
+      Bounded l (stateOf (leftBy z xs acts .0) (leftBy z xs acts .1))
+  unfolding leftBy EachAct isUnopened eventOf actDone
+  afresh-bounded {z} {xs} (from-unopened acts e) fine =
+      let never : isUnopened (phaseOf (z .state)) ≡ false → ⊥ = λ o. true≢false (sym (ap isUnopened e) ∙ o) in
+      run-bounded acts fine z xs (record { within = λ o. absurd (never o); above = λ o. absurd (never o) })
+  afresh-bounded {z} {xs} (from-opening d a c p w acts n e) (fine, rest) =
+      let act = openSitting d a c p w in
+      let left = left-state z xs act ∙ ap (λ (r : Answer). after (eventOf act r) (stateOf z xs)) e in
+      run-bounded acts rest (replyOf z xs act .sitting) (seatsAtExit z xs act)
+      (subst (Bounded l) (sym left) (opening-bounded l (stateOf z xs) a n))
+
+-- No event marks a sheet below 0.
+none-below-zero : (e : Event) → MarksAtLeast 0 e
+unfolding MarksAtLeast
+none-below-zero nothingDone = tt
+none-below-zero (openingDone a n) = tt
+none-below-zero (seatingDone c) = tt
+none-below-zero closingDone = tt
+none-below-zero submissionCounted = tt
+none-below-zero (submissionMarked c n) = omega arith
+
+-- No act that is lent a card marks a sheet below the least cost of this card.
+none-below-least :
+    (card : List ℕ) (f : Facts) (a : Act) → LentCard card a → (r : Answer) → answerTo f a ≡ r →
+    MarksAtLeast (plannedCost exact (instanceOf card)) (eventOf a r)
+unfolding MarksAtLeast eventOf actDone actRefused submissionRefused LentCard
+none-below-least card f (openSitting d a c p w) lent (Cost n) e = tt
+none-below-least card f (seatCandidate d c) lent (Cost n) e = tt
+none-below-least card f (closeSitting d) lent (Cost n) e = tt
+none-below-least card f (submitSheet d c s) lent (Cost n) e = rw (sym lent) (submitted-least f d c s e)
+none-below-least card f (readLeast d) lent (Cost n) e = tt
+none-below-least card f (readLowest d c) lent (Cost n) e = tt
+none-below-least card f (readUsed d) lent (Cost n) e = tt
+none-below-least card f (openSitting d a c p w) lent (Refused x) e = tt
+none-below-least card f (seatCandidate d c) lent (Refused x) e = tt
+none-below-least card f (closeSitting d) lent (Refused x) e = tt
+none-below-least card f (submitSheet d c s) lent (Refused x) e = refused-marks _ (leb 11 (refusalNumber x) && leb (refusalNumber x) 13)
+none-below-least card f (readLeast d) lent (Refused x) e = tt
+none-below-least card f (readLowest d c) lent (Refused x) e = tt
+none-below-least card f (readUsed d) lent (Refused x) e = tt
+
+-- Every act is fine where nothing is asked of it.
+each-act : (acts : List Act) → EachAct (λ a. Unit {0}) acts
+unfolding EachAct
+each-act [] = tt
+each-act (a ∷ more) = (tt, each-act more)
+
+-- 'a spent allowance gets 17': whatever the acts, no more submissions are used than the allowance.
+pub submissions-within :
+    {z : Sitting} {xs : List Seat} {acts : List Act} → StartsAfresh z xs acts → isUnopened (phaseOf (leftBy z xs acts .0 .state)) ≡ false →
+    leftBy z xs acts .0 .submissions ≤ leftBy z xs acts .0 .allowance
+submissions-within {acts = acts} start o =
+    afresh-bounded 0 (λ a. Unit {0}) (λ f a fine r e. none-below-zero (eventOf a r)) start (each-act acts) .within o
+
+-- A lowest cost that is read is not below the bound.
+read-bounded :
+    {l : ℕ} {s : State} → Bounded l s → (d c : ℕ) → toldBy s (readLowest d c) .marked ≡ 1 → l ≤ toldBy s (readLowest d c) .cost
+unfolding toldBy told markedWith markedBy answerTo actRequest actRefusals applies onAct notPermitted actCost firstRefusal Option·elim
+read-bounded {l} {s} b d c e = go (answerTo (factsOf s) (readLowest d c)) refl e
+  where
+    lowest : Option ℕ
+    lowest = factsOf s .lowest c
+
+    read : (o : Option ℕ) → lowest ≡ o → isUnopened (s .phase) ≡ false → _≡_ {A = ℕ} (Option·elim o 0 (λ v. 1)) 1 → l ≤ Option·getD o 0
+    read none is o marked = absurd (omega arith)
+    read (some v) is o marked =
+        every-seat-at (NotBelow l) (λ u h. absurd (Option·none-ne-some u h)) (s .places) (b .above o) (firstPlace (isFor c) (s .places)) v is
+
+    go : (r : Answer) → answerTo (factsOf s) (readLowest d c) ≡ r → markedWith (factsOf s) (readLowest d c) r ≡ 1 → l ≤ costOf r
+    go (Refused x) is marked = absurd (omega arith)
+    go (Cost n) is marked =
+        let test = applies (actRequest (factsOf s) (readLowest d c)) in
+        let permitted = first-passed test {x = NotPermitted} (SeatUnavailable ∷ []) _ is in
+        let known = first-passed test {x = SeatUnavailable} [] _ (permitted .1) in
+        let cost : Option·getD lowest 0 ≡ n = ap costOf (known .1) in
+        omega (arith, read lowest refl (or-left _ _ (permitted .0)) marked)
+
+-- A candidate's lowest cost that is read is at least the least cost of the card that the acts are lent (by condition 3).
+pub lowest-at-least :
+    (card : List ℕ) {z : Sitting} {xs : List Seat} {acts : List Act} → StartsAfresh z xs acts → EachAct (LentCard card) acts → (d c : ℕ) →
+    let reply = replyOf (leftBy z xs acts .0) (leftBy z xs acts .1) (readLowest d c) in
+    reply .marked ≡ 1 → plannedCost exact (instanceOf card) ≤ reply .cost
+unfolding replyOf replyWith
+lowest-at-least card {z} {xs} {acts} start lent d c e =
+    read-bounded (afresh-bounded (plannedCost exact (instanceOf card)) (LentCard card) (none-below-least card) start lent) d c e

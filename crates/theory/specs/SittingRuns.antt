@@ -1,0 +1,77 @@
+-- Any sequence of acts (document 02, §4): what it is told is what the rules tell from the history alone, and what follows of it for the
+-- candidates' figures.
+use Prim.Native.Nat.{ℕ, _+_, _≤_, _<_, min}
+use mathlib.Core.Path.{_≡_, refl, sym, ap, _∙_, subst}
+use mathlib.Core.Bool.{Bool, true, false, not, _&&_, _||_, true≢false}
+use mathlib.Core.List.{List, [], _∷_, map}
+use mathlib.Core.Option.{Option, none, some, Option·none-ne-some, Option·some-injective}
+use mathlib.Core.Logic.{_⊎_, ⊎-elim}
+use native.Mathlib.Omega.{arith}
+use lib.ListN.{length, getD, length-map}
+use lib.Dec.{eqb}
+use Rattle.lists.specs.FirstPlace.{occurs, firstPlace, changeFirst}
+use Rattle.lists.specs.Numbers.{true-or-false}
+use Rattle.model.specs.declared.Answer.{Answer}
+use Rattle.model.specs.declared.Answer.the-variants.{Cost, Refused}
+use Rattle.model.specs.declared.Refusal.the-variants.{NotPermitted, SeatUnavailable, WrongLength, EntryRange, LoadNotServed}
+use Rattle.model.specs.declared.Seat.{Seat}
+use Rattle.model.specs.declared.Sitting.{Sitting}
+use Rattle.model.specs.Instance.{instanceOf}
+use Rattle.model.specs.Sheets.{serves, sheetCost}
+use Rattle.model.specs.Planners.{exact, plannedCost}
+use Rattle.model.specs.Acts.{Act, openSitting, seatCandidate, closeSitting, submitSheet, readLeast, readLowest, readUsed}
+use Rattle.model.specs.Acts.{Phase, unopened, isUnopened, isClosed, Facts, Event, eventOf, actDone, notPermitted}
+use Rattle.model.specs.SittingState.{Place, State, isFor, emptyPlace, factsOf, after, phaseOf, seatsOf, placeOf, stateOf, sittingAfter, seatsAfter}
+use Rattle.model.specs.Calls.{answer, Accepted, markSheet, applies, onAct, actRequest, actRefusals, firstRefusal}
+use Rattle.model.specs.Sittings.{answerTo, Told, told, toldBy, replyWith, replyOf, seatsAtExit, eventIn, toldInTurn, StartsAfresh, from-unopened, from-opening}
+use Rattle.model.specs.Sittings.{phaseIn, factsIn, toldFrom}
+use Rattle.laws.specs.SittingLaws.{concerned, AgreeAt, answers-agree, told-agree, opening-answer, opening-told}
+use Rattle.laws.specs.SittingRecords.{state-after}
+use Rattle.theory.specs.SittingEvents.{Possible, acts-possible}
+use Rattle.theory.specs.SittingHistory.{Joined, joined-agrees, event-joined, opening-joined}
+
+-- What an act leaves holds the state after what has happened by it.
+pub left-state : (z : Sitting) (xs : List Seat) (a : Act) →
+    stateOf (replyOf z xs a .sitting) (seatsAtExit z xs a) ≡ after (eventIn z xs a) (stateOf z xs)
+unfolding replyOf replyWith seatsAtExit
+left-state z xs a = state-after (eventIn z xs a) z xs
+
+module _ (seats : ℕ) where
+  -- A sitting and its seats that hold the state of a history are told what the history tells, act for act.
+  told-alike :
+      (acts : List Act) (z : Sitting) (xs : List Seat) (h : List Event) → Joined seats h (stateOf z xs) → toldInTurn z xs acts ≡ toldFrom seats h acts
+  unfolding toldInTurn toldFrom toldBy
+  told-alike [] z xs h j = refl
+  told-alike (a ∷ more) z xs h j =
+      let agree = joined-agrees j (concerned a) in
+      let next = event-joined j (acts-possible (stateOf z xs) a (answerTo (factsOf (stateOf z xs)) a) refl) in
+      let rest = told-alike more (replyOf z xs a .sitting) (seatsAtExit z xs a) (eventIn z xs a ∷ h) (subst (Joined seats _) (sym (left-state z xs a)) next) in
+      rw (sym (answers-agree a _ _ agree), rest, told-agree a (factsOf (stateOf z xs)) (factsIn seats h) agree)
+
+-- Any sequence of acts that starts afresh is told what the history tells: who was seated, how many submissions counted, the lowest cost among
+-- a candidate's marked sheets, whether the sitting was closed.
+pub any-sequence :
+    {z : Sitting} {xs : List Seat} {acts : List Act} → StartsAfresh z xs acts → toldInTurn z xs acts ≡ toldFrom (length (seatsOf xs)) [] acts
+unfolding phaseIn occurs isUnopened toldInTurn toldFrom toldBy eventOf actDone
+any-sequence {z} {xs} (from-unopened acts e) =
+    let never : isUnopened (phaseOf (z .state)) ≡ false → ⊥ = λ o. true≢false (sym (ap isUnopened e) ∙ o) in
+    told-alike (length (seatsOf xs)) acts z xs [] (record {
+      phase-told = e;
+      size = length-map (seatsOf xs) placeOf;
+      allowance-told = λ o. absurd (never o);
+      used-told = λ o. absurd (never o);
+      least-told = λ o. absurd (never o);
+      seats-told = λ o. absurd (never o);
+    })
+any-sequence {z} {xs} (from-opening d a c p w acts n e) =
+    let act = openSitting d a c p w in
+    let seats = length (seatsOf xs) in
+    let joined = opening-joined seats [] (stateOf z xs) a n (length-map (seatsOf xs) placeOf) in
+    let left = left-state z xs act ∙ ap (λ (r : Answer). after (eventOf act r) (stateOf z xs)) e in
+    let rest = told-alike seats acts (replyOf z xs act .sitting) (seatsAtExit z xs act) _ (subst (Joined seats _) (sym left) joined) in
+    rw (
+      opening-answer (factsIn seats []) (factsOf (stateOf z xs)) d a c p w,
+      e,
+      rest,
+      opening-told (factsOf (stateOf z xs)) (factsIn seats []) d a c p w,
+    )
