@@ -1,25 +1,36 @@
 -- What the exports promise beyond the answer of the call below them.
 use Prim.Native.Nat.{ℕ}
-use mathlib.Core.Path.{_≡_, sym, ap, _∙_}
-use mathlib.Core.Bool.{true}
+use mathlib.Core.Path.{_≡_, refl, sym, ap, _∙_}
+use mathlib.Core.Bool.{Bool, true, false, cond}
 use mathlib.Core.List.{List}
 use lib.ListN.{take}
+use lib.Dec.{eqb}
 use Rattle.model.specs.declared.Answer.{Answer}
-use Rattle.model.specs.declared.Answer.the-variants.{Cost}
+use Rattle.model.specs.declared.Answer.the-variants.{Cost, Refused}
+use Rattle.model.specs.declared.Refusal.the-variants.{NotPermitted}
+use Rattle.model.specs.declared.Seat.{Seat}
+use Rattle.model.specs.declared.Sitting.{Sitting}
+use Rattle.model.specs.declared.Reply.{Reply}
 use Rattle.model.specs.Answers.{numberOf, costOf}
 use Rattle.model.specs.Instance.{instanceOf}
 use Rattle.model.specs.Sheets.{serves, sheetCost}
 use Rattle.model.specs.Plans.{sheetOf}
-use Rattle.model.specs.Planners.{Planner, ratioOf, plannedBy, plannedCost}
+use Rattle.model.specs.Planners.{Planner, exact, ratioOf, plannedBy, plannedCost}
 use Rattle.model.specs.Calls.{NumbersOf, Gives, Accepted, planShow, makeSheet, markSheet, practiceCard, answer, successCost, planBuffer}
 use Rattle.model.specs.Calls.{planAtExit, workAtExit, sheetAtExit, cardAtExit}
-use Rattle.model.specs.Promises.{OwnSheet, AtMostTimes, MarkedAlike, AcceptsExactly, WritesAccepted, AlwaysEnough}
+use Rattle.model.specs.Calls.{actIn, requestOf, refusals, buffersAtExit, buffersOf, actBuffers}
+use Rattle.model.specs.Acts.{Act, openSitting, readLeast, opened, unopened, isClosed}
+use Rattle.model.specs.SittingState.{factsOf, stateOf, phaseOf}
+use Rattle.model.specs.Sittings.{answerTo, markedWith, told, toldBy, replyWith, replyOf}
+use Rattle.model.specs.Promises.{OwnSheet, AtMostTimes, MarkedAlike, AcceptsExactly, WritesAccepted, AlwaysEnough, HiddenTillClosed}
+use borrow.Author.Tests.{ne-eqb}
 use Rattle.laws.specs.Acceptance.{modules-range}
 use Rattle.laws.specs.AnswerNumber.{number-zero}
 use Rattle.theory.specs.CountLists.{planner-counts-ascending}
 use Rattle.theory.specs.Condition3.{accepted-plannable, least-sheet, planner-bound}
 use Rattle.theory.specs.Refusals.{succeeded}
 use Rattle.theory.specs.PracticeCards.{practice-writes, practice-enough}
+use Rattle.theory.specs.SittingBounds.{least-hidden, opened-planned}
 use Rattle.theory.specs.Outcomes.{written-taken, mark-number, made-marked, best-fits, plan-at-exit, planner-on}
 
 -- What is given of an answer is given of an equal one.
@@ -121,3 +132,61 @@ practises start c {card = card} {number = number} (is, card-is) given =
         ),
       ),
     )
+
+-- An opening that is accepted brings condition 3 with it, as the exact planner does.
+module _ (z : Sitting) (xs : List Seat) (d a : ℕ) (c p w : List ℕ) where
+  abbrev act : Act
+  act = openSitting d a c p w
+
+  -- Its answer is the exact planner's.
+  as-planner : replyOf z xs act .number ≡ 0 → answer (planShow exact c p w) ≡ answer (actIn z xs act)
+  unfolding replyOf replyWith toldBy told answer requestOf refusals successCost answerTo
+  as-planner e = opened-planned z xs d a c p w e
+
+  -- The numbers of its reply are those of its answer.
+  replied : NumbersOf (answer (actIn z xs act)) (replyOf z xs act .number) (replyOf z xs act .cost)
+  unfolding replyOf replyWith toldBy told answer requestOf refusals successCost answerTo
+  replied = record { number-is = refl; cost-is = refl }
+
+  -- The plan that it leaves is the exact planner's.
+  plan-left : replyOf z xs act .number ≡ 0 → planAtExit (actIn z xs act) ≡ planAtExit (planShow exact c p w)
+  unfolding planAtExit buffersAtExit buffersOf actBuffers
+  plan-left e = rw (as-planner e)
+
+  -- Its numbers are those of the exact planner.
+  planned : replyOf z xs act .number ≡ 0 → Gives (planShow exact c p w) (replyOf z xs act .number) (replyOf z xs act .cost)
+  planned e = gives-as (sym (as-planner e)) replied
+
+  -- The clauses of its contract that speak of condition 3.
+  module _ {r : Reply} (is : r ≡ replyOf z xs act) where
+    pub opening-own-sheet : {plan : List ℕ} → plan ≡ planAtExit (actIn z xs act) → OwnSheet c plan (r .number) (r .cost)
+    opening-own-sheet plan-is =
+        rw (is, plan-is) (record {
+          sheet-serves = λ e. own-sheet exact c p w (planned e) (plan-left e) .sheet-serves e;
+          sheet-costs = λ e. own-sheet exact c p w (planned e) (plan-left e) .sheet-costs e;
+        })
+
+    pub opening-least : AtMostTimes 1 c (r .number) (r .cost)
+    opening-least = rw is (λ e. at-most exact c p w (planned e) e)
+
+-- A sitting whose number is not 2 is not closed.
+not-closed : (n : ℕ) → (n ≡ 2 → ⊥) → isClosed (phaseOf n) ≡ false
+unfolding phaseOf isClosed
+not-closed n still = rw (ne-eqb n 2 still) (either (eqb n 1))
+  where
+    either : (b : Bool) → isClosed (cond b opened unopened) ≡ false
+    either true = refl
+    either false = refl
+
+-- Reading the least cost before closing tells a candidate nothing.
+pub hidden-till-closed :
+    (z : Sitting) (xs : List Seat) (d : ℕ) {r : Reply} → r ≡ replyOf z xs (readLeast d) → HiddenTillClosed z d r
+unfolding replyOf replyWith toldBy told markedWith
+hidden-till-closed z xs d is =
+    let refused : (z .state ≡ 2 → ⊥) → (d ≡ 0 → ⊥) → answerTo (factsOf (stateOf z xs)) (readLeast d) ≡ Refused NotPermitted =
+    λ still candidate. least-hidden (factsOf (stateOf z xs)) d (not-closed (z .state) still) (ne-eqb d 0 candidate) in
+    rw is (record {
+      refused = λ still candidate. ap numberOf (refused still candidate);
+      no-cost = λ still candidate. ap costOf (refused still candidate);
+      none-marked = λ still candidate. ap (markedWith (factsOf (stateOf z xs)) (readLeast d)) (refused still candidate);
+    })

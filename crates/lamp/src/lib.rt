@@ -1,11 +1,17 @@
 // The public calls: numbers and byte slices over the C boundary. Each answers every input, with the answer of the call below it.
 use counts::PlannerKind;
 use model::Answer;
+use model::Reply;
+use model::Seat;
+use model::Sitting;
 ghost use mathlib.Core.Path.{_≡_};
+ghost use mathlib.Core.List.{[]};
 ghost use Rattle.model.specs.Planners.{exact, coarse};
 ghost use Rattle.model.specs.Calls.{NumbersOf, Gives, checkCard, runningCost, planShow, makeSheet, markSheet, roundCount, practiceCard};
-ghost use Rattle.model.specs.Calls.{planAtExit, workAtExit, sheetAtExit, cardAtExit};
-ghost use Rattle.model.specs.Promises.{OwnSheet, AtMostTimes, MarkedAlike, AcceptsExactly, WritesAccepted, AlwaysEnough};
+ghost use Rattle.model.specs.Calls.{planAtExit, workAtExit, sheetAtExit, cardAtExit, actIn};
+ghost use Rattle.model.specs.Acts.{openSitting, seatCandidate, closeSitting, submitSheet, readLeast, readLowest, readUsed};
+ghost use Rattle.model.specs.Sittings.{replyOf, seatsAtExit};
+ghost use Rattle.model.specs.Promises.{OwnSheet, AtMostTimes, MarkedAlike, AcceptsExactly, WritesAccepted, AlwaysEnough, HiddenTillClosed};
 
 // What every call returns: a refusal's number and cost 0, or number 0 and the cost.
 #[repr(C)]
@@ -103,4 +109,107 @@ pub extern "C" fn lamp_practice_card(start: u32, card: &mut [u8]) -> LampAnswer
     ensures enough { λ r. ⌜ AlwaysEnough start (now (card .entry)) (r .number) ⌝ }
 {
     to_c(practice::practice_card(start, card))
+}
+
+// Opens a sitting (document 02, §4) on a card, in place of any other: refusals 1 to 8, 10, 15 and 17, in this order.
+#[no_mangle]
+pub extern "C" fn lamp_sitting_open(
+    sitting: Sitting,
+    caller: u16,
+    allowance: u64,
+    card: &[u8],
+    plan: &mut [u8],
+    work: &mut [u8],
+    seats: &mut [Seat],
+) -> Reply
+    ensures outcome { λ r. ⌜ r ≡ replyOf sitting (now (seats .entry)) (openSitting caller allowance (now (card .entry)) (now (plan .entry)) (now (work .entry))) ⌝ }
+    ensures seats { λ r. ⌜ now (seats .exit) ≡ seatsAtExit sitting (now (seats .entry)) (openSitting caller allowance (now (card .entry)) (now (plan .entry)) (now (work .entry))) ⌝ }
+    ensures plan_bytes { λ r. ⌜ now (plan .exit) ≡ planAtExit (actIn sitting (now (seats .entry)) (openSitting caller allowance (now (card .entry)) (now (plan .entry)) (now (work .entry)))) ⌝ }
+    ensures work_bytes { λ r. ⌜ now (work .exit) ≡ workAtExit (actIn sitting (now (seats .entry)) (openSitting caller allowance (now (card .entry)) (now (plan .entry)) (now (work .entry)))) ⌝ }
+    ensures own_sheet { λ r. ⌜ OwnSheet (now (card .entry)) (now (plan .exit)) (r .number) (r .cost) ⌝ }
+    ensures least { λ r. ⌜ AtMostTimes 1 (now (card .entry)) (r .number) (r .cost) ⌝ }
+{
+    let o = sitting::opening(sitting, caller, allowance, card, plan, work);
+    let n = o.emptied;
+    seats::empty_first(seats, n);
+    o.reply
+}
+
+// Seats a candidate in the first empty record: refusals 15 and 16.
+#[no_mangle]
+pub extern "C" fn lamp_sitting_seat(
+    sitting: Sitting,
+    caller: u16,
+    candidate: u16,
+    seats: &mut [Seat],
+) -> Reply
+    ensures outcome { λ r. ⌜ r ≡ replyOf sitting (now (seats .entry)) (seatCandidate caller candidate) ⌝ }
+    ensures seats { λ r. ⌜ now (seats .exit) ≡ seatsAtExit sitting (now (seats .entry)) (seatCandidate caller candidate) ⌝ }
+{
+    let v = seats::scan(seats, candidate);
+    let o = sitting::seating(sitting, caller, candidate, v);
+    let at = o.at;
+    let seat = o.seat;
+    seats::put(seats, at, seat);
+    o.reply
+}
+
+// Closes a sitting: refusal 15.
+#[no_mangle]
+pub extern "C" fn lamp_sitting_close(sitting: Sitting, caller: u16) -> Reply
+    ensures outcome { λ r. ⌜ r ≡ replyOf sitting [] (closeSitting caller) ⌝ }
+{
+    sitting::closing(sitting, caller)
+}
+
+// Marks a sheet that the caller submits: refusals 1 to 8, 15, 16, 17, and then 11 to 13.
+#[no_mangle]
+pub extern "C" fn lamp_sitting_submit(
+    sitting: Sitting,
+    caller: u16,
+    card: &[u8],
+    sheet: &[u8],
+    seats: &mut [Seat],
+) -> Reply
+    ensures outcome { λ r. ⌜ r ≡ replyOf sitting (now (seats .entry)) (submitSheet caller (now (card .entry)) (now (sheet .entry))) ⌝ }
+    ensures seats { λ r. ⌜ now (seats .exit) ≡ seatsAtExit sitting (now (seats .entry)) (submitSheet caller (now (card .entry)) (now (sheet .entry))) ⌝ }
+{
+    let v = seats::scan(seats, caller);
+    let o = sitting::submitting(sitting, caller, v, card, sheet);
+    let at = o.at;
+    let seat = o.seat;
+    seats::put(seats, at, seat);
+    o.reply
+}
+
+// The least cost of the sitting's card: refusals 15 and 16.
+#[no_mangle]
+pub extern "C" fn lamp_sitting_least(sitting: Sitting, caller: u16, seats: &[Seat]) -> Reply
+    ensures outcome { λ r. ⌜ r ≡ replyOf sitting (now (seats .entry)) (readLeast caller) ⌝ }
+    ensures hidden { λ r. ⌜ HiddenTillClosed sitting caller r ⌝ }
+{
+    let v = seats::scan(seats, caller);
+    sitting::reading_least(sitting, caller, v)
+}
+
+// A candidate's lowest cost so far, or none: refusals 15 and 16.
+#[no_mangle]
+pub extern "C" fn lamp_sitting_lowest(
+    sitting: Sitting,
+    caller: u16,
+    candidate: u16,
+    seats: &[Seat],
+) -> Reply
+    ensures outcome { λ r. ⌜ r ≡ replyOf sitting (now (seats .entry)) (readLowest caller candidate) ⌝ }
+{
+    let v = seats::scan(seats, candidate);
+    sitting::reading_lowest(sitting, caller, candidate, v)
+}
+
+// The submissions used: refusal 15.
+#[no_mangle]
+pub extern "C" fn lamp_sitting_used(sitting: Sitting, caller: u16) -> Reply
+    ensures outcome { λ r. ⌜ r ≡ replyOf sitting [] (readUsed caller) ⌝ }
+{
+    sitting::reading_used(sitting, caller)
 }

@@ -45,7 +45,7 @@ abbrev pub cardOf : (m q up down : ℕ) → (table loads : List ℕ) → List �
 cardOf m q up down f loads = cardBytes (showOf m q up down f loads)
 
 -- Card A, as document 01 prints it.
-abbrev cardA : List ℕ
+abbrev pub cardA : List ℕ
 cardA =
     0x44 ∷ 0x4C ∷ 0x53 ∷ 0x01 ∷ 0x00 ∷ 0x03 ∷ 0x02 ∷ 0x03 ∷ 0x00 ∷ 0x03 ∷ 0x00 ∷ 0x00 ∷ 0x00 ∷ 0x02 ∷ 0x00 ∷ 0x00 ∷ 0x00 ∷
     0x01 ∷ 0x00 ∷ 0x00 ∷ 0x00 ∷ 0x02 ∷ 0x00 ∷ 0x00 ∷ 0x00 ∷ 0x04 ∷ 0x00 ∷ 0x00 ∷ 0x00 ∷ 0x06 ∷ 0x00 ∷ 0x00 ∷ 0x00 ∷ 0x02 ∷ 0x00 ∷ []
@@ -88,7 +88,7 @@ abbrev sheetFalls : List ℕ
 sheetFalls = 0 ∷ 255 ∷ 1 ∷ 255 ∷ 2 ∷ 2 ∷ 3 ∷ 2 ∷ []
 
 -- Example D's sheet for card A.
-abbrev sheetD : List ℕ
+abbrev pub sheetD : List ℕ
 sheetD = 2 ∷ 2 ∷ 2 ∷ 255 ∷ 0 ∷ 255 ∷ 2 ∷ 255 ∷ 255 ∷ []
 
 -- The practice cards of start 1,950 (Q 3, T 0), of start 4,294,967,255 (Q 2, T 1) and of start 2,557 (Q 6, T 6), as
@@ -115,11 +115,11 @@ abbrev listingA : List ℕ
 listingA = text "cost 32\nplan 3 1 1\nslot 1: 2 2 2\nslot 2: 0 - -\nslot 3: 2 - -\n"
 
 -- A buffer of n bytes, each of them 7.
-abbrev sevens : ℕ → List ℕ
+abbrev pub sevens : ℕ → List ℕ
 sevens n = replicate n 7
 
 -- A buffer of n bytes whose first bytes are written, the others still 7.
-abbrev over : ℕ → List ℕ → List ℕ
+abbrev pub over : ℕ → List ℕ → List ℕ
 over n written = written ++ replicate (n - length written) 7
 
 pub record Example : Type 0 where
@@ -132,7 +132,7 @@ abbrev row : String → Call → ℕ → ℕ → List (List ℕ) → Example
 row n c number cost buffers = record { name = n; found = outcome c; expected = (number ∷ cost ∷ []) ∷ buffers }
 
 -- A row with one list of numbers: as it is found, and as it is expected.
-abbrev one : String → List ℕ → List ℕ → Example
+abbrev pub one : String → List ℕ → List ℕ → Example
 one n found expected = record { name = n; found = found ∷ []; expected = expected ∷ [] }
 
 starred : List Example
@@ -254,7 +254,7 @@ practiceRows =
     []
 
 -- What is found is what is expected, computed through every definition.
-agrees : Example → Bool
+unfoldable pub agrees : Example → Bool
 unfolding sameLists sameList every allOf sum tabulate rows keep littleEndian bytesOf instanceOf cardBytes cardLength convexAt convex
     neverFalls tableInRange pricesInRange loadsInRange canServe operatingCost allCounts powerOfTwo coarseCounts roundedCount stateAt
     sheetLength sheetEntries lightAt sheetLight stepCost changeCost sheetOperatingCost sheetSwitchingCost sheetCost leastOver firstOver
@@ -265,14 +265,14 @@ unfolding sameLists sameList every allOf sum tabulate rows keep littleEndian byt
 agrees e = sameLists (e .found) (e .expected)
 
 -- A type that nothing proves: where a row does not hold, the check's error shows it with the row's name.
-data Failed (name : String) : Type 0 where
+pub data Failed (name : String) : Type 0 where
 
-abbrev verdict : String → Bool → Type 0
+abbrev pub verdict : String → Bool → Type 0
 verdict n true = Unit {0}
 verdict n false = Failed n
 
 -- Every row of a table holds.
-abbrev AllHold : List Example → Type 0
+abbrev pub AllHold : List Example → Type 0
 AllHold [] = Unit {0}
 AllHold (e ∷ es) = verdict (e .name) (agrees e) × AllHold es
 
@@ -316,7 +316,7 @@ wrong =
     []
 
 -- No row of a table holds.
-abbrev NoneHold : List Example → Type 0
+abbrev pub NoneHold : List Example → Type 0
 NoneHold [] = Unit {0}
 NoneHold (e ∷ es) = verdict (e .name) (not (agrees e)) × NoneHold es
 

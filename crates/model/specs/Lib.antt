@@ -18,3 +18,4 @@ pub mod RelatedShows
 pub mod Listing
 pub mod Examples
 pub mod RelatedExamples
+pub mod SittingExamples

@@ -1,12 +1,14 @@
 -- What the contracts of the calls promise beyond their outcome, about the call's own number and cost and its own bytes at exit: of the
--- sheet call, marking and the planners conditions 2 and 3 of the tender, where the sheets are all lists that serve, and of the practice
--- call what document 02, §1, says of its cards.
+-- sheet call, marking and the planners conditions 2 and 3 of the tender, where the sheets are all lists that serve, of the practice call
+-- what document 02, §1, says of its cards, and of reading the least cost what §4 says of it.
 use Prim.Native.Nat.{ℕ, _*_, _≤_}
 use mathlib.Core.Path.{_≡_}
 use mathlib.Core.Bool.{true}
 use mathlib.Core.List.{List}
 use lib.ListN.{length, take}
 use Rattle.model.specs.declared.Answer.the-variants.{Cost}
+use Rattle.model.specs.declared.Sitting.{Sitting}
+use Rattle.model.specs.declared.Reply.{Reply}
 use Rattle.model.specs.Answers.{numberOf}
 use Rattle.model.specs.Instance.{instanceOf, cardLength}
 use Rattle.model.specs.Sheets.{serves, sheetCost}
@@ -65,3 +67,10 @@ pub record WritesAccepted (area : List ℕ) (number : ℕ) : Type 0 where
 -- An area as long as the longest practice card is enough for every start from 1 on.
 abbrev pub AlwaysEnough : (start : ℕ) → (area : List ℕ) → (number : ℕ) → Type 0
 AlwaysEnough start area number = 1 ≤ start → longestPractice ≤ length area → number ≡ 0
+
+-- 'A seated candidate .. reads the least cost only after closing' (02 §4): a caller who is not the supervisor gets 15 and no cost from a sitting
+-- that is not closed.
+pub record HiddenTillClosed (sitting : Sitting) (caller : ℕ) (reply : Reply) : Type 0 where
+  pub refused : (sitting .state ≡ 2 → ⊥) → (caller ≡ 0 → ⊥) → reply .number ≡ 15
+  pub no-cost : (sitting .state ≡ 2 → ⊥) → (caller ≡ 0 → ⊥) → reply .cost ≡ 0
+  pub none-marked : (sitting .state ≡ 2 → ⊥) → (caller ≡ 0 → ⊥) → reply .marked ≡ 0

@@ -25,13 +25,14 @@ use Rattle.model.specs.Acts.{Act, openSitting, seatCandidate, closeSitting, sub
 use Rattle.model.specs.Acts.{Phase, unopened, opened, closed, isUnopened, isClosed, Facts, notPermitted, seatUnavailable, allowanceSpent}
 use Rattle.model.specs.Acts.{Event, openingDone, seatingDone, closingDone, submissionMarked, submissionCounted, nothingDone, submissionRefused, actDone, actRefused, eventOf}
 use Rattle.model.specs.SittingState.{Place, State, isFor, emptyPlace, seatedPlace, markedPlace, lowerOf, factsOf, after, phaseOf, stateOf}
-use Rattle.model.specs.Calls.{answer, markSheet, Accepted, applies, onAct, actRequest, actRefusals, actCost, firstRefusal}
+use Rattle.model.specs.Calls.{answer, planShow, markSheet, actIn, requestOf, refusals, successCost, actBuffers, buffersOf, Accepted, applies, onAct, actRequest, actRefusals, actCost, firstRefusal}
 use Rattle.model.specs.Sittings.{answerTo, markedBy, markedWith, told, toldBy, replyWith, replyOf, seatsAtExit, eventIn, leftBy, LentCard, EachAct, StartsAfresh, from-unopened, from-opening}
 use Rattle.laws.specs.FirstRefusal.{first-hit, first-skip, first-passed}
-use Rattle.laws.specs.OnCard.{on-card-passed}
+use Rattle.laws.specs.OnCard.{on-card-passed, on-card-accepted}
 use Rattle.laws.specs.SittingLaws.{submitted-card, own-refusals}
 use Rattle.theory.specs.Condition3.{planner-bound, accepted-plannable}
-use Rattle.theory.specs.Outcomes.{mark-tests, mark-accepts, mark-number}
+use Rattle.theory.specs.Outcomes.{mark-tests, mark-accepts, mark-number, planner-cost}
+use Rattle.theory.specs.Refusals.{succeeded}
 use Rattle.theory.specs.SittingEvents.{Possible, nothing-possible, opening-possible, closing-possible, counted-possible, seating-possible}
 use Rattle.theory.specs.SittingEvents.{marked-possible, acts-possible}
 use Rattle.theory.specs.SittingRuns.{left-state}
@@ -53,6 +54,17 @@ marking-tests :
     ≡ answer (markSheet card s)
 unfolding firstRefusal applies actRequest
 marking-tests f d card s given = sym (mark-tests card s given)
+
+-- An opening that is accepted is answered as the exact planner.
+pub opened-planned :
+    (z : Sitting) (xs : List Seat) (d a : ℕ) (c p w : List ℕ) → numberOf (answer (actIn z xs (openSitting d a c p w))) ≡ 0 →
+    answer (planShow exact c p w) ≡ answer (actIn z xs (openSitting d a c p w))
+unfolding answer requestOf refusals successCost actRefusals actRequest actBuffers actCost applies buffersOf
+opened-planned z xs d a c p w e =
+    let opened = succeeded (actIn z xs (openSitting d a c p w)) e in
+    let given : Accepted c = on-card-accepted c _ _ _ _ _ opened in
+    let room = first-passed _ _ _ (sym (on-card-passed c _ _ _ _ _ given) ∙ opened) .0 in
+    planner-cost exact c p w given room ∙ sym opened
 
 -- 'each answered as marking does': a submission that 1 to 8 and 15 to 17 let pass is answered as marking answers it.
 pub submission-as-marking :

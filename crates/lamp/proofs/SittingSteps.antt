@@ -1,0 +1,62 @@
+-- What the walks of the acts of a sitting share: the calls on the list of seats, and the ends of their contracts.
+use Rattle.seats.proofs.Kit.{_≡_, refl, List, [], _∷_, ℕ, URA, w16, w64, vint, vunit, SProp, ent, sep, id⊢, via, Lft, Share, ftrue, flft, Memory, Routine, Heap, Atoms, Fun, fact, Given, Item, ‵, _⊛_, prop, Step, step, set, RefT, slice-vals, nothing-tells}
+use base.Logic.{emp, snd∗, fst∗, emp∗, comm∗, mono∗, monoL}
+use contract.Monad.{factI, fact-use}
+use denote.Struct.Laws as LL
+use Rattle.model.specs.declared.Seat.{Seat}
+use Rattle.model.specs.declared.Sitting.{Sitting}
+use Rattle.model.specs.Acts.{Act}
+use Rattle.model.specs.Sittings.{replyOf}
+use Rattle.laws.specs.SittingLaws.{concerned}
+use Rattle.seats.specs.Scanned.{scanned, emptied}
+use Rattle.seats.proofs.View as N
+use Rattle.seats.proofs.View.Laws as N′
+use Rattle.seats.proofs.Walk.{at-seat, Call, call-of}
+use Rattle.seats.proofs.scan as scan
+use Rattle.seats.proofs.put as put
+use Rattle.seats.proofs.empty_first as empty-first
+use Rattle.sitting.specs.Seen.{outcomeOf}
+use Rattle.sitting.specs.Acted.{reply-seen}
+
+module _ {M : Type 1} (𝓤 : URA M) (H : Heap 𝓤) (A : Atoms 𝓤) (mem : Memory → SProp 𝓤) (run : Routine → Fun 𝓤) (κ : Lft) (q : Share) (x : RefT (List Seat)) where
+  -- The call of `scan` on a shared list.
+  abbrev pub to-scan : ℕ → Call 𝓤 H A
+  to-scan c =
+      call-of scan.ended (scan.clauses 𝓤 H A mem run) (((κ, tt), (q, tt), tt, (x, (c, tt)), (slice-vals x, (vint w16 c ∷ [], tt))), tt)
+      (‵ (flft κ q) ⊛ ‵ ftrue) (id⊢ 𝓤 _) (id⊢ 𝓤 _) (id⊢ 𝓤 _) (scanned c (x .now)) (λ r ws. r ≡ scanned c (x .now)) (λ r ws. id⊢ 𝓤 _) (λ r ws e. e) N′.lowered (LL.tells N.the-type N′.the-laws)
+
+  -- The call of `put` on a list.
+  abbrev pub to-put : ℕ → Seat → Call 𝓤 H A
+  to-put i s =
+      call-of put.ended (put.clauses 𝓤 H A mem run) (((κ, tt), (q, tt), tt, (x, (i, (s, tt))), (slice-vals x, (vint w64 i ∷ [], (at-seat s ∷ [], tt)))), tt)
+      (‵ (flft κ q) ⊛ ‵ ftrue) (id⊢ 𝓤 _) (id⊢ 𝓤 _) (id⊢ 𝓤 _) tt (λ r ws. ws .0 ≡ set (x .now) i s) (λ r ws. id⊢ 𝓤 _) (λ r ws e. refl) (λ _. vunit) nothing-tells
+
+  -- The call of `empty_first` on a list.
+  abbrev pub to-empty : ℕ → Call 𝓤 H A
+  to-empty n =
+      call-of empty-first.ended (empty-first.clauses 𝓤 H A mem run) (((κ, tt), (q, tt), tt, (x, (n, tt)), (slice-vals x, (vint w64 n ∷ [], tt))), tt)
+      (‵ (flft κ q) ⊛ ‵ ftrue) (id⊢ 𝓤 _) (id⊢ 𝓤 _) (id⊢ 𝓤 _) tt (λ r ws. ws .0 ≡ emptied n (x .now)) (λ r ws. id⊢ 𝓤 _) (λ r ws e. refl) (λ _. vunit) nothing-tells
+
+-- The last clause of a contract, or the only one, from its proof.
+pub shown : {M : Type 1} (𝓤 : URA M) {φ : Type 0} → φ → ent 𝓤 (emp 𝓤) (fact 𝓤 φ)
+shown 𝓤 p = factI 𝓤 _ (emp 𝓤) p
+
+-- A clause before others.
+pub also : {M : Type 1} (𝓤 : URA M) {φ : Type 0} {Q : SProp 𝓤} → φ → ent 𝓤 (emp 𝓤) Q → ent 𝓤 (emp 𝓤) (sep 𝓤 (fact 𝓤 φ) Q)
+also 𝓤 p h = via 𝓤 (sep 𝓤 (emp 𝓤) (emp 𝓤)) (emp∗ 𝓤 (emp 𝓤)) (mono∗ 𝓤 (factI 𝓤 _ (emp 𝓤) p) h)
+
+-- All clauses of a contract are said at its end.
+pub says-all : {M : Type 1} {𝓤 : URA M} {H : Heap 𝓤} {A : Atoms 𝓤} {K : Type 0} {W : Given 𝓤 H A} {Γ : List (Item 𝓤)} → K → {P Q : SProp 𝓤} → ent 𝓤 (emp 𝓤) Q →
+    Step K W Γ (prop P) Γ (prop (sep 𝓤 P Q))
+says-all {𝓤 = 𝓤} t {P} {Q} h =
+    step (λ s. record { prf = via 𝓤 P (s .prf) (via 𝓤 (sep 𝓤 (emp 𝓤) P) (emp∗ 𝓤 P) (via 𝓤 (sep 𝓤 Q P) (monoL 𝓤 P h) (comm∗ 𝓤 Q P))) })
+
+-- Two clauses of a callee's contract are one fact.
+pub both : {M : Type 1} (𝓤 : URA M) (φ ψ : Type 0) {X : SProp 𝓤} → ent 𝓤 X (fact 𝓤 ψ) → ent 𝓤 (sep 𝓤 (fact 𝓤 φ) X) (fact 𝓤 (φ × ψ))
+both 𝓤 φ ψ {X} h =
+    fact-use 𝓤 φ (fst∗ 𝓤 (fact 𝓤 φ) X) (λ p. fact-use 𝓤 ψ (via 𝓤 X (snd∗ 𝓤 (fact 𝓤 φ) X) h) (λ q. factI 𝓤 (φ × ψ) (sep 𝓤 (fact 𝓤 φ) X) (p, q)))
+
+-- The reply of an outcome, decided by the view for the candidate that an act is about, is the act's.
+pub outcome-reply : (z : Sitting) (xs : List Seat) (a : Act) → outcomeOf z (scanned (concerned a) xs) a .reply ≡ replyOf z xs a
+unfolding outcomeOf
+outcome-reply z xs a = reply-seen z xs a
