@@ -10,10 +10,17 @@
 #include "lamp.h"
 #include "plain.h"
 
-enum { ROUNDS = 60, STARTS = 10000, PRACTICE = 4, LOWEST = 80 };
+enum { ROUNDS = 60, STARTS = 10000, LOWEST = 80, TIMES = 10000, LAST = LAMP_MAX_SEATS };
+
+/* What is measured. The acts after SUBMIT are so short that a round makes each of them TIMES times. */
+enum { EXACT, COARSE, SHEET, MARKING, PRACTICE, OPEN, SUBMIT, SEAT, CLOSE, LEAST, LOWEST_COST, USED, ALL };
+static const char *names[ALL] = {"exact", "coarse", "sheet", "marking", "practice", "open",
+                                 "submit", "seat", "close", "least", "lowest", "used"};
 
 static uint8_t card[LAMP_MAX_CARD], plan[LAMP_MAX_PLAN], work[LAMP_MAX_EXACT_WORK], sheet[LAMP_MAX_SHEET];
 static uint8_t practice[LAMP_MAX_PRACTICE], practice_of_c[LAMP_MAX_PRACTICE];
+static struct lamp_seat seats[LAMP_MAX_SEATS];
+static struct lamp_reply reply;
 static size_t card_len;
 
 static void put(size_t at, uint64_t value, size_t bytes)
@@ -80,46 +87,138 @@ static void compare_practice(void)
     }
 }
 
+/* The candidates 1 to LAST are seated. The acts are those of the last one, so that every seat is looked at. */
+static void seat_all(void)
+{
+    for (uint16_t k = 0; k < LAST; k++)
+        seats[k] = (struct lamp_seat){0, (uint16_t)(k + 1), 0, 0};
+}
+
+/* An act on a card. Each round is handed the same sitting, so that the allowance is never used up. */
+static struct lamp_answer run_on_card(int which, int plain)
+{
+    struct lamp_sitting s = {1, LAMP_MAX_ALLOWANCE, 0, 1};
+    if (which == OPEN)
+        reply = (plain ? plain_open : lamp_sitting_open)(s, 0, LAMP_MAX_ALLOWANCE, card, card_len, plan, slots, work,
+                                                         (modules + 1) * slots, seats, LAMP_MAX_SEATS);
+    else
+        reply = (plain ? plain_submit : lamp_sitting_submit)(s, LAST, card, card_len, sheet, modules * slots, seats, LAMP_MAX_SEATS);
+    return (struct lamp_answer){reply.number, reply.cost};
+}
+
+/* An act without a card. The last record is emptied before each seating. */
+static void run_once(int which, int plain)
+{
+    struct lamp_sitting open = {1, LAMP_MAX_ALLOWANCE, 7, 1}, closed = {2, LAMP_MAX_ALLOWANCE, 7, 1};
+    switch (which) {
+    case SEAT:
+        seats[LAST - 1].candidate = 0;
+        reply = (plain ? plain_seat : lamp_sitting_seat)(open, 0, LAST, seats, LAMP_MAX_SEATS);
+        break;
+    case CLOSE:
+        reply = (plain ? plain_close : lamp_sitting_close)(open, 0);
+        break;
+    case LEAST:
+        reply = (plain ? plain_least : lamp_sitting_least)(closed, LAST, seats, LAMP_MAX_SEATS);
+        break;
+    case LOWEST_COST:
+        reply = (plain ? plain_lowest : lamp_sitting_lowest)(open, LAST, LAST, seats, LAMP_MAX_SEATS);
+        break;
+    default:
+        reply = (plain ? plain_used : lamp_sitting_used)(open, 0);
+    }
+}
+
+static struct lamp_answer run_acts(int which, int plain)
+{
+    struct lamp_answer all = {0, 0};
+    for (int k = 0; k < TIMES; k++) {
+        run_once(which, plain);
+        all.number |= reply.number;
+        all.cost += reply.cost;
+    }
+    return all;
+}
+
 static struct lamp_answer run(int which, int plain)
 {
     planner planners[2][2] = {{lamp_plan_exact, plain_exact}, {lamp_plan_coarse, plain_coarse}};
     switch (which) {
-    case 0:
-    case 1:
+    case EXACT:
+    case COARSE:
         return planners[which][plain](card, card_len, plan, slots, work, which ? 10 * slots : (modules + 1) * slots);
-    case 2:
+    case SHEET:
         return (plain ? plain_sheet : lamp_sheet)(card, card_len, plan, slots, sheet, modules * slots);
-    case 3:
+    case MARKING:
         return (plain ? plain_mark : lamp_mark)(card, card_len, sheet, modules * slots);
-    default:
+    case PRACTICE:
         return make_practice(plain ? plain_practice : lamp_practice_card);
+    case OPEN:
+    case SUBMIT:
+        return run_on_card(which, plain);
+    default:
+        return run_acts(which, plain);
     }
 }
 
-/* The fastest round of the library and of C, in microseconds. They give the same answer, plan and sheet. */
-static void measure(int which, double best[2])
+/* The library and C give the same answer, plan and sheet, and of an act the same reply and records. */
+static struct lamp_answer compare(int which)
 {
     static uint8_t first_plan[sizeof plan], first_sheet[sizeof sheet];
-    best[0] = best[1] = 1e18;
+    static struct lamp_seat first_seats[LAMP_MAX_SEATS];
+    seat_all();
     struct lamp_answer first = run(which, 0);
+    struct lamp_reply first_reply = reply;
     memcpy(first_plan, plan, sizeof plan);
     memcpy(first_sheet, sheet, sizeof sheet);
+    memcpy(first_seats, seats, sizeof seats);
+    seat_all();
     struct lamp_answer second = run(which, 1);
-    if (first.number != second.number || first.cost != second.cost || memcmp(first_plan, plan, sizeof plan) ||
-        memcmp(first_sheet, sheet, sizeof sheet)) {
-        printf("the two disagree: %" PRIu64 " %" PRIu64 "\n", first.cost, second.cost);
+    if (first.number != 0 || second.number != 0 || first.cost != second.cost || memcmp(first_plan, plan, sizeof plan) ||
+        memcmp(first_sheet, sheet, sizeof sheet) || memcmp(first_seats, seats, sizeof seats) || memcmp(&first_reply, &reply, sizeof reply)) {
+        printf("the two disagree: %s, %" PRIu64 " %" PRIu64 "\n", names[which], first.cost, second.cost);
         exit(1);
     }
+    return first;
+}
+
+/* The microseconds of a round, which gives that cost. */
+static double timed(int which, int plain, uint64_t cost)
+{
+    double began = now();
+    struct lamp_answer answer = run(which, plain);
+    double took = now() - began;
+    if (answer.cost != cost)
+        exit(1);
+    return took;
+}
+
+/* The fastest round of the library and of C, in microseconds. */
+static void measure(int which, double best[2])
+{
+    uint64_t cost = compare(which).cost;
+    best[0] = best[1] = 1e18;
     for (int round = 0; round < ROUNDS; round++)
         for (int plain = 0; plain < 2; plain++) {
-            double began = now();
-            struct lamp_answer answer = run(which, plain);
-            double took = now() - began;
-            if (answer.cost != first.cost)
-                exit(1);
+            double took = timed(which, plain, cost);
             if (took < best[plain])
                 best[plain] = took;
         }
+}
+
+/* How many times as long as another call of the library one takes, each in its fastest round; the two take turns. */
+static double beside(int which, int other)
+{
+    uint64_t costs[2] = {compare(which).cost, compare(other).cost};
+    double best[2] = {1e18, 1e18};
+    seat_all();
+    for (int round = 0; round < ROUNDS; round++)
+        for (int second = 0; second < 2; second++) {
+            double took = timed(second ? other : which, 0, costs[second]);
+            if (took < best[second])
+                best[second] = took;
+        }
+    return best[0] / best[1];
 }
 
 static void print_line(const char *name, const double best[2])
@@ -130,18 +229,30 @@ static void print_line(const char *name, const double best[2])
 /* Measures the planners, the sheet and marking on the card, and gives the exact planner's time. */
 static double measure_card(void)
 {
-    static const char *names[] = {"exact", "coarse", "sheet", "marking"};
     double best[2], exact = 0;
-    for (int which = 0; which < 4; which++) {
+    for (int which = EXACT; which <= MARKING; which++) {
         /* sheet and marking take the plan and the sheet of the exact plan */
-        if (which == 2)
-            run(0, 0);
+        if (which == SHEET)
+            run(EXACT, 0);
         measure(which, best);
-        if (which == 0)
+        if (which == EXACT)
             exact = best[0];
         print_line(names[which], best);
     }
     return exact;
+}
+
+/* Measures the acts of a sitting on the card, whose sheet is there. */
+static void measure_sitting(void)
+{
+    double best[2];
+    printf("a sitting on this card with 32 seats, the last five acts 10,000 times each\n");
+    for (int which = OPEN; which <= USED; which++) {
+        measure(which, best);
+        print_line(names[which], best);
+    }
+    printf("submit beside marking: %.2f times the time\n", beside(SUBMIT, MARKING));
+    printf("open beside exact: %.2f times the time\n", beside(OPEN, EXACT));
 }
 
 int main(void)
@@ -152,18 +263,19 @@ int main(void)
     printf("m 200, Q 200, T 1,024 (microseconds, fastest of %d)\n", ROUNDS);
     printf("%-8s %10s %10s %8s\n", "call", "library", "C -O3", "ratio");
     double whole = measure_card();
+    measure_sitting();
     put_falling_table();
-    printf("the same with a table that falls up to step %d\n", LOWEST);
+    printf("the same card with a table that falls up to step %d\n", LOWEST);
     measure_card();
     compare_practice();
     measure(PRACTICE, best);
     printf("the cards of starts 1 to 10,000\n");
-    print_line("practice", best);
+    print_line(names[PRACTICE], best);
     make_card(modules, 200, slots = 512);
-    measure(0, best);
+    measure(EXACT, best);
     printf("exact, T 512 to 1,024: %.2f times the time\n", whole / best[0]);
     make_card(modules = 100, 200, slots = 1024);
-    measure(0, best);
+    measure(EXACT, best);
     printf("exact, m 100 to 200: %.2f times the time\n", whole / best[0]);
     return 0;
 }

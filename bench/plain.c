@@ -271,3 +271,108 @@ struct lamp_answer plain_practice(uint32_t start, uint8_t *card, size_t card_len
         at = put_two(at, (uint16_t)(draw(&s) % (m * q + 1)));
     return (struct lamp_answer){0, 0};
 }
+
+enum { OPEN = 1, CLOSED = 2, SEATS = 32, ALLOWANCE = 1000 };
+
+/* The acts of a sitting. Two of them read the card, and then plan or mark it as above, which reads it once more; that takes
+ * well under a hundredth of their time. */
+static struct lamp_reply not_done(uint64_t number, struct lamp_sitting s) { return (struct lamp_reply){number, 0, 0, s}; }
+static struct lamp_reply done(uint64_t cost, struct lamp_sitting s) { return (struct lamp_reply){0, cost, 0, s}; }
+static size_t seats_of(size_t records) { return records < SEATS ? records : SEATS; }
+
+/* The first seat of a candidate, or of nobody for 0. Where there is none, it is the number of seats. */
+static size_t place_of(const struct lamp_seat *seats, size_t n, uint16_t candidate)
+{
+    size_t k = 0;
+    while (k < n && seats[k].candidate != candidate)
+        k++;
+    return k;
+}
+
+struct lamp_reply plain_open(struct lamp_sitting s, uint16_t caller, uint64_t allowance, const uint8_t *card, size_t card_len, uint8_t *plan,
+                             size_t plan_len, uint8_t *work, size_t work_len, struct lamp_seat *seats, size_t seats_len)
+{
+    struct show i;
+    uint64_t number = read_card(card, card_len, &i);
+    if (number)
+        return not_done(number, s);
+    if (plan_len < i.slots || work_len < (i.modules + 1) * i.slots)
+        return not_done(10, s);
+    if (caller != 0)
+        return not_done(15, s);
+    if (allowance < 1 || allowance > ALLOWANCE)
+        return not_done(17, s);
+    uint64_t least = plain_exact(card, card_len, plan, plan_len, work, work_len).cost;
+    memset(seats, 0, seats_of(seats_len) * sizeof *seats);
+    return done(least, (struct lamp_sitting){OPEN, allowance, 0, least});
+}
+
+struct lamp_reply plain_seat(struct lamp_sitting s, uint16_t caller, uint16_t candidate, struct lamp_seat *seats, size_t seats_len)
+{
+    size_t n = seats_of(seats_len), empty;
+    if (caller != 0 || s.state != OPEN)
+        return not_done(15, s);
+    if (candidate == 0 || place_of(seats, n, candidate) < n || (empty = place_of(seats, n, 0)) == n)
+        return not_done(16, s);
+    seats[empty] = (struct lamp_seat){0, candidate, 0, 0};
+    return done(0, s);
+}
+
+struct lamp_reply plain_close(struct lamp_sitting s, uint16_t caller)
+{
+    if (caller != 0 || s.state != OPEN)
+        return not_done(15, s);
+    s.state = CLOSED;
+    return done(0, s);
+}
+
+struct lamp_reply plain_submit(struct lamp_sitting s, uint16_t caller, const uint8_t *card, size_t card_len, const uint8_t *sheet,
+                               size_t sheet_len, struct lamp_seat *seats, size_t seats_len)
+{
+    struct show i;
+    uint64_t number = read_card(card, card_len, &i);
+    if (number)
+        return not_done(number, s);
+    if (caller == 0 || s.state != OPEN)
+        return not_done(15, s);
+    size_t n = seats_of(seats_len), at = place_of(seats, n, caller);
+    if (at == n)
+        return not_done(16, s);
+    if (s.submissions >= s.allowance)
+        return not_done(17, s);
+    s.submissions++;
+    struct lamp_answer marked = plain_mark(card, card_len, sheet, sheet_len);
+    if (marked.number)
+        return not_done(marked.number, s);
+    if (!seats[at].marked || marked.cost < seats[at].lowest)
+        seats[at].lowest = marked.cost;
+    seats[at].marked = 1;
+    return done(marked.cost, s);
+}
+
+static int is_unopened(const struct lamp_sitting *s) { return s->state != OPEN && s->state != CLOSED; }
+
+struct lamp_reply plain_least(struct lamp_sitting s, uint16_t caller, const struct lamp_seat *seats, size_t seats_len)
+{
+    size_t n = seats_of(seats_len);
+    if (is_unopened(&s) || (caller != 0 && s.state != CLOSED))
+        return not_done(15, s);
+    if (caller != 0 && place_of(seats, n, caller) == n)
+        return not_done(16, s);
+    return done(s.least, s);
+}
+
+struct lamp_reply plain_lowest(struct lamp_sitting s, uint16_t caller, uint16_t candidate, const struct lamp_seat *seats, size_t seats_len)
+{
+    size_t n = seats_of(seats_len), at;
+    if (is_unopened(&s) || (caller != 0 && caller != candidate))
+        return not_done(15, s);
+    if (candidate == 0 || (at = place_of(seats, n, candidate)) == n)
+        return not_done(16, s);
+    return seats[at].marked ? (struct lamp_reply){0, seats[at].lowest, 1, s} : done(0, s);
+}
+
+struct lamp_reply plain_used(struct lamp_sitting s, uint16_t caller)
+{
+    return caller != 0 || is_unopened(&s) ? not_done(15, s) : done(s.submissions, s);
+}

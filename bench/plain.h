@@ -9,4 +9,13 @@ struct lamp_answer plain_sheet(const uint8_t *, size_t, const uint8_t *, size_t,
 struct lamp_answer plain_mark(const uint8_t *, size_t, const uint8_t *, size_t);
 struct lamp_answer plain_practice(uint32_t, uint8_t *, size_t);
 
+struct lamp_reply plain_open(struct lamp_sitting, uint16_t, uint64_t, const uint8_t *, size_t, uint8_t *, size_t, uint8_t *, size_t,
+                             struct lamp_seat *, size_t);
+struct lamp_reply plain_seat(struct lamp_sitting, uint16_t, uint16_t, struct lamp_seat *, size_t);
+struct lamp_reply plain_close(struct lamp_sitting, uint16_t);
+struct lamp_reply plain_submit(struct lamp_sitting, uint16_t, const uint8_t *, size_t, const uint8_t *, size_t, struct lamp_seat *, size_t);
+struct lamp_reply plain_least(struct lamp_sitting, uint16_t, const struct lamp_seat *, size_t);
+struct lamp_reply plain_lowest(struct lamp_sitting, uint16_t, uint16_t, const struct lamp_seat *, size_t);
+struct lamp_reply plain_used(struct lamp_sitting, uint16_t);
+
 #endif

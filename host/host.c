@@ -59,6 +59,12 @@ static const char *words(enum lamp_refusal refusal)
         return "a slot has too little light, or a count cannot serve its load";
     case LAMP_ZERO_START:
         return "start 0 of a practice card";
+    case LAMP_NOT_PERMITTED:
+        return "an act that the caller has no right to, at all or as the sitting stands";
+    case LAMP_SEAT_UNAVAILABLE:
+        return "candidate 0, not seated, seated already, or no empty record in the first 32";
+    case LAMP_ALLOWANCE_SPENT:
+        return "the allowance is used up, or outside 1 to 1,000 at an opening";
     }
     return "a refusal that this host does not know";
 }

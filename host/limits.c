@@ -13,13 +13,15 @@
 
 /* The names of lamp.h can be used by the preprocessor. */
 #if LAMP_CARD_VERSION < 1 || LAMP_MAX_CARD < 1 || LAMP_MAX_PLAN < 1 || LAMP_MAX_EXACT_WORK < 1 || \
-    LAMP_MAX_COARSE_WORK < 1 || LAMP_MAX_SHEET < 1 || LAMP_MAX_PRACTICE < 1 || LAMP_MAX_STACK < 1 || LAMP_OFF < 1
+    LAMP_MAX_COARSE_WORK < 1 || LAMP_MAX_SHEET < 1 || LAMP_MAX_PRACTICE < 1 || LAMP_MAX_SEATS < 1 || \
+    LAMP_MAX_ALLOWANCE < 1 || LAMP_MAX_STACK < 1 || LAMP_OFF < 1
 #error "a limit of lamp.h is not a positive number"
 #endif
 
-/* The bounds of document 01, and the most slots of a practice card (02, section 1). They stand here and nowhere else in
- * this file. */
+/* The bounds of document 01, the most slots of a practice card (02, section 1), and the most seats and submissions of a
+ * sitting (02, section 4). They stand here and nowhere else in this file. */
 enum { MODULES = 200, TOP_STEP = 200, SLOTS = 1024, PRICE = 500000000, ENTRY = 1000000, PRACTICE_SLOTS = 64 };
+enum { SEATS = 32, ALLOWANCE = 1000 };
 
 /* The sizes that the documents' rules give for these bounds, and the places of a card's fields. */
 enum {
@@ -40,6 +42,7 @@ enum { STACK_BYTES = 1 << 20, KNOWN_BYTES = 4096, KNOWN_FRAME = 64 };
 enum { LONGEST_START = 6548, STARTS = 100000 };
 
 static uint8_t card[CARD_BYTES], plan[PLAN_BYTES], work[EXACT_BYTES], sheet[SHEET_BYTES], practice[PRACTICE_BYTES];
+static struct lamp_seat seats[SEATS + 1];
 static unsigned compared, faults;
 
 /* Counts a comparison, and a fault if it does not hold. */
@@ -101,6 +104,8 @@ static void compare_sizes(void)
     compare("LAMP_MAX_COARSE_WORK", "bytes", LAMP_MAX_COARSE_WORK, COARSE_BYTES);
     compare("LAMP_MAX_SHEET", "bytes", LAMP_MAX_SHEET, SHEET_BYTES);
     compare("LAMP_MAX_PRACTICE", "bytes", LAMP_MAX_PRACTICE, PRACTICE_BYTES);
+    compare("LAMP_MAX_SEATS", "records", LAMP_MAX_SEATS, SEATS);
+    compare("LAMP_MAX_ALLOWANCE", "submissions", LAMP_MAX_ALLOWANCE, ALLOWANCE);
 }
 
 /* Writes one field of the largest card, and puts back what was there once the card has been checked. */
@@ -131,9 +136,10 @@ static void compare_bounds(void)
 
 /* What the measured calls are given, and what they answer. */
 static struct {
-    uint64_t card_len, plan_len, work_len, sheet_len, practice_len, count, load, modules;
+    uint64_t card_len, plan_len, work_len, sheet_len, practice_len, count, load, modules, state, seats_len;
 } given;
 static struct lamp_answer answer;
+static struct lamp_reply reply;
 
 static void check_card(void)
 {
@@ -173,6 +179,65 @@ static void rounded_count(void)
 static void practice_card(void)
 {
     answer = lamp_practice_card(LONGEST_START, practice, given.practice_len);
+}
+
+/* The sitting that an act is handed. */
+static struct lamp_sitting handed(void)
+{
+    return (struct lamp_sitting){given.state, LAMP_MAX_ALLOWANCE, 0, 1};
+}
+
+/* The number and the cost that the caller of an act is told. */
+static void tell(void)
+{
+    answer = (struct lamp_answer){reply.number, reply.cost};
+}
+
+static void open_sitting(void)
+{
+    reply = lamp_sitting_open(handed(), 0, LAMP_MAX_ALLOWANCE, card, given.card_len, plan, given.plan_len, work,
+                              given.work_len, seats, given.seats_len);
+    tell();
+}
+
+/* In a full list the last seat is that of candidate LAMP_MAX_SEATS. Its record is emptied before the candidate is
+ * seated there. */
+static void seat(void)
+{
+    seats[LAMP_MAX_SEATS - 1].candidate = 0;
+    reply = lamp_sitting_seat(handed(), 0, LAMP_MAX_SEATS, seats, given.seats_len);
+    tell();
+}
+
+static void close_sitting(void)
+{
+    reply = lamp_sitting_close(handed(), 0);
+    tell();
+}
+
+static void submit(void)
+{
+    reply = lamp_sitting_submit(handed(), LAMP_MAX_SEATS, card, given.card_len, sheet, given.sheet_len, seats,
+                                given.seats_len);
+    tell();
+}
+
+static void least(void)
+{
+    reply = lamp_sitting_least(handed(), LAMP_MAX_SEATS, seats, given.seats_len);
+    tell();
+}
+
+static void lowest(void)
+{
+    reply = lamp_sitting_lowest(handed(), LAMP_MAX_SEATS, LAMP_MAX_SEATS, seats, given.seats_len);
+    tell();
+}
+
+static void used(void)
+{
+    reply = lamp_sitting_used(handed(), 0);
+    tell();
 }
 
 static void nothing(void)
@@ -225,30 +290,47 @@ static size_t stack_of(void (*function)(void))
     return first > second ? first : second;
 }
 
-/* Each call, the work bytes that it is given, and which of the given numbers makes it refuse when it is one less. The
- * order matters: the sheet is made from the exact plan, and then it is marked. The two calls that read no card come
- * last. */
+/* Each call, the work bytes and the state of the sitting that it is given, and which of the given numbers makes it
+ * refuse when it is one less. The order matters: the sheet is made from the exact plan, and then it is marked. The
+ * calls that read no card come last. */
 static const struct call {
     const char *name;
     void (*make)(void);
     size_t work_len;
-    uint64_t *lessened;
+    uint64_t state, *lessened;
     enum lamp_refusal refusal;
 } calls[] = {
-    {"lamp_check_card", check_card, 0, &given.card_len, LAMP_CARD_LENGTH},
-    {"lamp_running_cost", running_cost, 0, &given.count, LAMP_LOAD_NOT_SERVED},
-    {"lamp_plan_coarse", plan_coarse, LAMP_MAX_COARSE_WORK, &given.work_len, LAMP_BUFFER_TOO_SHORT},
-    {"lamp_plan_exact", plan_exact, LAMP_MAX_EXACT_WORK, &given.work_len, LAMP_BUFFER_TOO_SHORT},
-    {"lamp_sheet", make_sheet, 0, &given.sheet_len, LAMP_BUFFER_TOO_SHORT},
-    {"lamp_mark", mark, 0, &given.sheet_len, LAMP_WRONG_LENGTH},
-    {"lamp_rounded_count", rounded_count, 0, &given.modules, LAMP_ENTRY_RANGE},
-    {"lamp_practice_card", practice_card, 0, &given.practice_len, LAMP_BUFFER_TOO_SHORT},
+    {"lamp_check_card", check_card, 0, 0, &given.card_len, LAMP_CARD_LENGTH},
+    {"lamp_running_cost", running_cost, 0, 0, &given.count, LAMP_LOAD_NOT_SERVED},
+    {"lamp_plan_coarse", plan_coarse, LAMP_MAX_COARSE_WORK, 0, &given.work_len, LAMP_BUFFER_TOO_SHORT},
+    {"lamp_plan_exact", plan_exact, LAMP_MAX_EXACT_WORK, 0, &given.work_len, LAMP_BUFFER_TOO_SHORT},
+    {"lamp_sheet", make_sheet, 0, 0, &given.sheet_len, LAMP_BUFFER_TOO_SHORT},
+    {"lamp_mark", mark, 0, 0, &given.sheet_len, LAMP_WRONG_LENGTH},
+    {"lamp_sitting_open", open_sitting, LAMP_MAX_EXACT_WORK, 0, &given.work_len, LAMP_BUFFER_TOO_SHORT},
+    {"lamp_sitting_submit", submit, 0, 1, &given.sheet_len, LAMP_WRONG_LENGTH},
+    {"lamp_rounded_count", rounded_count, 0, 0, &given.modules, LAMP_ENTRY_RANGE},
+    {"lamp_practice_card", practice_card, 0, 0, &given.practice_len, LAMP_BUFFER_TOO_SHORT},
+    {"lamp_sitting_seat", seat, 0, 1, &given.seats_len, LAMP_SEAT_UNAVAILABLE},
+    {"lamp_sitting_close", close_sitting, 0, 1, &given.state, LAMP_NOT_PERMITTED},
+    {"lamp_sitting_least", least, 0, 2, &given.state, LAMP_NOT_PERMITTED},
+    {"lamp_sitting_lowest", lowest, 0, 1, &given.seats_len, LAMP_SEAT_UNAVAILABLE},
+    {"lamp_sitting_used", used, 0, 1, &given.state, LAMP_NOT_PERMITTED},
 };
-enum { CALLS = sizeof calls / sizeof calls[0], CALLS_ON_A_CARD = CALLS - 2 };
+enum { CALLS = sizeof calls / sizeof calls[0], CALLS_ON_A_CARD = CALLS - 7 };
+
+/* A list of LAMP_MAX_SEATS seats that are all taken, by the candidates from 1 on, and one record more. */
+static void fill_seats(void)
+{
+    for (uint16_t k = 0; k <= LAMP_MAX_SEATS; k++)
+        seats[k] = (struct lamp_seat){0, (uint16_t)(k + 1), 0, 0};
+}
 
 /* Gives the calls the largest show, with buffers of just the header's sizes. */
-static void give_largest(size_t work_len)
+static void give_largest(size_t work_len, uint64_t state)
 {
+    given.state = state;
+    given.seats_len = LAMP_MAX_SEATS;
+    fill_seats();
     given.card_len = LAMP_MAX_CARD;
     given.plan_len = LAMP_MAX_PLAN;
     given.work_len = work_len;
@@ -275,7 +357,7 @@ static void measure(const struct call *call, const char *show)
 {
     size_t accepted, refused;
 
-    give_largest(call->work_len);
+    give_largest(call->work_len, call->state);
     accepted = stack_of(call->make);
     compare(call->name, "number", answer.number, 0);
     if (call->work_len != 0)
@@ -293,7 +375,7 @@ static void measure(const struct call *call, const char *show)
 /* A plan buffer of one byte less is refused too. */
 static void compare_plan_length(void)
 {
-    give_largest(LAMP_MAX_COARSE_WORK);
+    give_largest(LAMP_MAX_COARSE_WORK, 0);
     given.plan_len = LAMP_MAX_PLAN - 1;
     plan_coarse();
     compare("lamp_plan_coarse", "number for a short plan", answer.number, LAMP_BUFFER_TOO_SHORT);
@@ -302,7 +384,28 @@ static void compare_plan_length(void)
     compare("lamp_plan_exact", "number for a short plan", answer.number, LAMP_BUFFER_TOO_SHORT);
 }
 
-/* Buffers of length 0 may be NULL: no card at all, a show without slots, and no room for a practice card. */
+/* The library's seats and allowance are those of this file: the largest allowance is accepted and one more is not, an
+ * opening empties just the seats of a list, and just as many candidates are seated. */
+static void compare_sitting(void)
+{
+    size_t emptied = 0, seated = 0;
+
+    fill_seats();
+    reply = lamp_sitting_open(handed(), 0, ALLOWANCE + 1, card, sizeof card, plan, sizeof plan, work, sizeof work,
+                              seats, SEATS + 1);
+    compare("an allowance of 1,001", "number", reply.number, LAMP_ALLOWANCE_SPENT);
+    reply = lamp_sitting_open(handed(), 0, ALLOWANCE, card, sizeof card, plan, sizeof plan, work, sizeof work, seats,
+                              SEATS + 1);
+    compare("an allowance of 1,000", "number", reply.number, 0);
+    for (size_t k = 0; k <= SEATS; k++)
+        emptied += seats[k].candidate == 0;
+    compare("an opening with 33 records", "empty records", emptied, SEATS);
+    for (uint16_t k = 0; k <= SEATS + 1; k++)
+        seated += lamp_sitting_seat(reply.sitting, 0, (uint16_t)(100 + k), seats, SEATS + 1).number == 0;
+    compare("a list of 33 records", "seated candidates", seated, SEATS);
+}
+
+/* Buffers of length 0 may be NULL: no card at all, a show without slots, no room for a practice card, no seat. */
 static void compare_empty(void)
 {
     put(7, 0, 2);
@@ -311,7 +414,15 @@ static void compare_empty(void)
     compare("empty coarse plan", "number", lamp_plan_coarse(card, LOADS_AT, NULL, 0, NULL, 0).number, 0);
     compare("sheet of an empty plan", "number", lamp_sheet(card, LOADS_AT, NULL, 0, NULL, 0).number, 0);
     compare("empty sheet", "number", lamp_mark(card, LOADS_AT, NULL, 0).number, 0);
+    given.state = 1;
+    compare("a sitting of an empty plan", "number",
+            lamp_sitting_open(handed(), 0, 1, card, LOADS_AT, NULL, 0, NULL, 0, NULL, 0).number, 0);
+    compare("an empty sheet and no seat", "number",
+            lamp_sitting_submit(handed(), 1, card, LOADS_AT, NULL, 0, NULL, 0).number, LAMP_SEAT_UNAVAILABLE);
     put(7, SLOTS, 2);
+    compare("no seat to take", "number", lamp_sitting_seat(handed(), 0, 1, NULL, 0).number, LAMP_SEAT_UNAVAILABLE);
+    compare("no seat to read", "number", lamp_sitting_lowest(handed(), 1, 1, NULL, 0).number, LAMP_SEAT_UNAVAILABLE);
+    compare("no seat, the supervisor", "number", lamp_sitting_least(handed(), 0, NULL, 0).number, 0);
     compare("no room for a card", "number", lamp_practice_card(1, NULL, 0).number, LAMP_BUFFER_TOO_SHORT);
     compare("no room and start 0", "number", lamp_practice_card(0, NULL, 0).number, LAMP_ZERO_START);
 }
@@ -375,6 +486,7 @@ static void compare_with_library(void)
     for (size_t k = 0; k < CALLS_ON_A_CARD; k++)
         measure(&calls[k], "the largest show with a falling table");
     compare_plan_length();
+    compare_sitting();
     compare_empty();
     compare("the longest start", "bytes of the practice card", practice_length(LONGEST_START), LAMP_MAX_PRACTICE);
     compare_practice("starts 1 to 100,000", 1);

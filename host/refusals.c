@@ -1,6 +1,7 @@
 /* Provokes each refusal through the public calls and compares its number with the name that lamp.h gives it. Only 9 is
  * never given: a table that falls, for which it once stood, is planned. Makes practice cards too, and compares every
- * byte of their buffers. Prints each fault and how many answers and buffers were compared; fails if there is a fault.
+ * byte of their buffers; of the acts of a sitting it compares the sitting that they give back and every record. Prints
+ * each fault and how many answers and buffers were compared; fails if there is a fault.
  *
  *   gcc -std=c11 -Wall -Wextra -Werror -Iinclude host/refusals.c target/staticlib/liblamp.a -o target/host/refusals
  */
@@ -101,9 +102,40 @@ static void expect_bytes(const char *call, const uint8_t *found, const uint8_t *
     printf("%s: the bytes are not those that lamp.h says\n", call);
 }
 
+/* The sittings that the acts are handed, and the list that they are lent. One submission of two is used. */
+static const struct lamp_sitting unopened, opened = {1, 2, 1, 32}, closed = {2, 2, 1, 32}, spent = {1, 2, 2, 32};
+static const struct lamp_seat lent[] = {{37, 7, 1, 0}, {0, 0, 0, 0}};
+enum { SEATS = sizeof lent / sizeof lent[0] };
+static struct lamp_seat seats[SEATS] = {{37, 7, 1, 0}, {0, 0, 0, 0}};
+
+/* An act that refuses alters no record, and gives back a sitting. Its cost and its marked are 0. */
+static void refuse(const char *act, struct lamp_reply found, enum lamp_refusal wanted, struct lamp_sitting sitting)
+{
+    expect(act, (struct lamp_answer){found.number, found.cost}, wanted);
+    looked += 2;
+    if (found.marked == 0 && memcmp(&found.sitting, &sitting, sizeof sitting) == 0 &&
+        memcmp(seats, lent, sizeof seats) == 0)
+        return;
+    faults++;
+    printf("%s: marked, the sitting or the records are not those that lamp.h says\n", act);
+}
+
+/* The two acts on a card, with all that they are lent. */
+static struct lamp_reply open_with(struct lamp_sitting sitting, uint16_t caller, uint64_t allowance, size_t length)
+{
+    return lamp_sitting_open(sitting, caller, allowance, card, length, area, 3, work, 12, seats, SEATS);
+}
+
+static struct lamp_reply submit_with(struct lamp_sitting sitting, uint16_t caller, size_t length, size_t sheet_len)
+{
+    return lamp_sitting_submit(sitting, caller, card, length, sheet, sheet_len, seats, SEATS);
+}
+
 /* Refusals 1 to 8, by every call that reads a card. */
 static void refuse_card(size_t length, enum lamp_refusal wanted)
 {
+    refuse("lamp_sitting_open", open_with(opened, 7, 0, length), wanted, opened);
+    refuse("lamp_sitting_submit", submit_with(spent, 0, length, 8), wanted, spent);
     expect("lamp_check_card", lamp_check_card(card, length), wanted);
     expect("lamp_running_cost", lamp_running_cost(card, length, 3, 4), wanted);
     expect("lamp_plan_exact", lamp_plan_exact(card, length, area, 3, work, 12), wanted);
@@ -119,6 +151,10 @@ static void refuse_planning(void)
     expect("lamp_plan_exact", lamp_plan_exact(card, LENGTH_A, area, 3, work, 11), LAMP_BUFFER_TOO_SHORT);
     expect("lamp_plan_coarse", lamp_plan_coarse(card, LENGTH_A, area, 3, work, 29), LAMP_BUFFER_TOO_SHORT);
     expect("lamp_sheet", lamp_sheet(card, LENGTH_A, plan, 3, area, 8), LAMP_BUFFER_TOO_SHORT);
+    refuse("lamp_sitting_open", lamp_sitting_open(opened, 7, 0, card, LENGTH_A, area, 2, work, 12, seats, SEATS),
+           LAMP_BUFFER_TOO_SHORT, opened);
+    refuse("lamp_sitting_open", lamp_sitting_open(opened, 0, 1, card, LENGTH_A, area, 3, work, 11, seats, SEATS),
+           LAMP_BUFFER_TOO_SHORT, opened);
 }
 
 /* Where 9 was once given, for a table that falls, no call refuses. Both planners find a plan that lets module 1 burn on
@@ -167,6 +203,77 @@ static void refuse_handed_in(void)
     expect_cost("lamp_mark", lamp_mark(card, LENGTH_A, sheet, 9), 37);
     sheet[6] = 0; /* light 1 */
     expect("lamp_mark", lamp_mark(card, LENGTH_A, sheet, 9), LAMP_LOAD_NOT_SERVED);
+}
+
+/* Refusal 15: acts that the caller has no right to, by role or as the sitting stands. They come before 16 and 17. */
+static void refuse_callers(void)
+{
+    refuse("lamp_sitting_open", open_with(opened, 7, 0, LENGTH_A), LAMP_NOT_PERMITTED, opened);
+    refuse("lamp_sitting_seat", lamp_sitting_seat(opened, 7, 7, seats, SEATS), LAMP_NOT_PERMITTED, opened);
+    refuse("lamp_sitting_seat", lamp_sitting_seat(unopened, 0, 0, seats, SEATS), LAMP_NOT_PERMITTED, unopened);
+    refuse("lamp_sitting_seat", lamp_sitting_seat(closed, 0, 8, seats, SEATS), LAMP_NOT_PERMITTED, closed);
+    refuse("lamp_sitting_close", lamp_sitting_close(opened, 7), LAMP_NOT_PERMITTED, opened);
+    refuse("lamp_sitting_close", lamp_sitting_close(unopened, 0), LAMP_NOT_PERMITTED, unopened);
+    refuse("lamp_sitting_close", lamp_sitting_close(closed, 0), LAMP_NOT_PERMITTED, closed);
+    refuse("lamp_sitting_submit", submit_with(spent, 0, LENGTH_A, 8), LAMP_NOT_PERMITTED, spent);
+    refuse("lamp_sitting_submit", submit_with(unopened, 7, LENGTH_A, 9), LAMP_NOT_PERMITTED, unopened);
+    refuse("lamp_sitting_submit", submit_with(closed, 8, LENGTH_A, 9), LAMP_NOT_PERMITTED, closed);
+    refuse("lamp_sitting_least", lamp_sitting_least(unopened, 0, seats, SEATS), LAMP_NOT_PERMITTED, unopened);
+    refuse("lamp_sitting_least", lamp_sitting_least(opened, 7, seats, SEATS), LAMP_NOT_PERMITTED, opened);
+    refuse("lamp_sitting_least", lamp_sitting_least(opened, 8, seats, SEATS), LAMP_NOT_PERMITTED, opened);
+    refuse("lamp_sitting_lowest", lamp_sitting_lowest(unopened, 0, 7, seats, SEATS), LAMP_NOT_PERMITTED, unopened);
+    refuse("lamp_sitting_lowest", lamp_sitting_lowest(opened, 8, 7, seats, SEATS), LAMP_NOT_PERMITTED, opened);
+    refuse("lamp_sitting_lowest", lamp_sitting_lowest(opened, 7, 0, seats, SEATS), LAMP_NOT_PERMITTED, opened);
+    refuse("lamp_sitting_used", lamp_sitting_used(opened, 7), LAMP_NOT_PERMITTED, opened);
+    refuse("lamp_sitting_used", lamp_sitting_used(unopened, 0), LAMP_NOT_PERMITTED, unopened);
+}
+
+/* Refusals 16 and 17, which come before those of a sheet, and these, which use a submission. */
+static void refuse_seats(void)
+{
+    struct lamp_sitting used = opened;
+
+    refuse("lamp_sitting_seat", lamp_sitting_seat(opened, 0, 0, seats, SEATS), LAMP_SEAT_UNAVAILABLE, opened);
+    refuse("lamp_sitting_seat", lamp_sitting_seat(opened, 0, 7, seats, SEATS), LAMP_SEAT_UNAVAILABLE, opened);
+    refuse("lamp_sitting_seat", lamp_sitting_seat(opened, 0, 8, seats, 1), LAMP_SEAT_UNAVAILABLE, opened);
+    refuse("lamp_sitting_seat", lamp_sitting_seat(opened, 0, 8, NULL, 0), LAMP_SEAT_UNAVAILABLE, opened);
+    refuse("lamp_sitting_submit", submit_with(spent, 8, LENGTH_A, 8), LAMP_SEAT_UNAVAILABLE, spent);
+    refuse("lamp_sitting_least", lamp_sitting_least(closed, 8, seats, SEATS), LAMP_SEAT_UNAVAILABLE, closed);
+    refuse("lamp_sitting_lowest", lamp_sitting_lowest(opened, 0, 8, seats, SEATS), LAMP_SEAT_UNAVAILABLE, opened);
+    refuse("lamp_sitting_lowest", lamp_sitting_lowest(closed, 0, 0, seats, SEATS), LAMP_SEAT_UNAVAILABLE, closed);
+
+    refuse("lamp_sitting_open", open_with(closed, 0, 0, LENGTH_A), LAMP_ALLOWANCE_SPENT, closed);
+    refuse("lamp_sitting_open", open_with(opened, 0, LAMP_MAX_ALLOWANCE + 1, LENGTH_A), LAMP_ALLOWANCE_SPENT, opened);
+    refuse("lamp_sitting_open", open_with(unopened, 0, UINT64_MAX, LENGTH_A), LAMP_ALLOWANCE_SPENT, unopened);
+    refuse("lamp_sitting_submit", submit_with(spent, 7, LENGTH_A, 8), LAMP_ALLOWANCE_SPENT, spent);
+
+    used.submissions++;
+    refuse("lamp_sitting_submit", submit_with(opened, 7, LENGTH_A, 8), LAMP_WRONG_LENGTH, used);
+    sheet[8] = 3;
+    refuse("lamp_sitting_submit", submit_with(opened, 7, LENGTH_A, 9), LAMP_ENTRY_RANGE, used);
+    sheet[8] = LAMP_OFF;
+    sheet[0] = 1;
+    refuse("lamp_sitting_submit", submit_with(opened, 7, LENGTH_A, 9), LAMP_LOAD_NOT_SERVED, used);
+    sheet[0] = 2;
+}
+
+static struct lamp_reply low_part(uint64_t caller, uint64_t candidate)
+{
+    return lamp_sitting_lowest(opened, (uint16_t)caller, (uint16_t)candidate, seats, SEATS);
+}
+
+/* The compiler cannot tell which function this is, as with any_half below. */
+static struct lamp_reply (*volatile any_part)(uint64_t, uint64_t) = low_part;
+
+/* C gives an act the low 16 bits of a caller and a candidate; the others must not count. */
+static void read_by_low_bits(void)
+{
+    struct lamp_reply found = any_part(UINT64_C(0xFFFFFFFFFFFF0000) + 7, UINT64_C(0x10000) + 7);
+
+    expect_cost("lamp_sitting_lowest", (struct lamp_answer){found.number, found.cost}, 37);
+    found = any_part(UINT64_C(0x10000), UINT64_C(0x8000000000000000) + 7);
+    expect_cost("lamp_sitting_lowest", (struct lamp_answer){found.number, found.cost}, 37);
+    refuse("lamp_sitting_lowest", any_part(8, UINT64_C(0x10000) + 7), LAMP_NOT_PERMITTED, opened);
 }
 
 static struct lamp_answer low_half(uint64_t start, uint8_t *bytes, size_t length)
@@ -227,6 +334,9 @@ int main(void)
         card[damages[k].at] = before;
     }
     refuse_planning();
+    refuse_callers();
+    refuse_seats();
+    read_by_low_bits();
     plan_falling();
     refuse_handed_in();
     make_practice();

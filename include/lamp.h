@@ -12,7 +12,8 @@
  * load. More light is allowed, because the projectors have a shutter. An active module costs points in
  * each slot, and switching a module on or off costs points too. The library finds how many modules should
  * be active in each slot, and at which steps, so that the whole show costs the least. It also gives the
- * cost of any other choice, and it makes practice cards, each from a number.
+ * cost of any other choice, it makes practice cards, each from a number, and it keeps the rules of a
+ * sitting, in which candidates submit sheets.
  *
  *
  * HOW TO LINK IT
@@ -221,14 +222,88 @@
  * it is at least 0 and at most UINT32_MAX.
  *
  *
+ * A SITTING
+ *
+ * A sitting is an examination on one card. The supervisor opens it, seats candidates and closes it, and
+ * seated candidates submit sheets, which are marked. The seven calls lamp_sitting_.. are its acts. Each
+ * act names its caller: 0 is the supervisor, and a candidate has a number from 1 to 65,535. The library
+ * decides what a caller may do. That a caller is the one whose number is given, the host has to know.
+ *
+ *   act      who may do it, and when                          the cost that it gives
+ *   open     the supervisor, at any time                      the least cost of the card
+ *   seat     the supervisor, while the sitting is open        0
+ *   close    the supervisor, while the sitting is open        0
+ *   submit   a seated candidate, while the sitting is open    the cost of the sheet, as lamp_mark gives it
+ *   least    the supervisor, while it is open or closed;      the least cost of the card
+ *            a seated candidate, while it is closed
+ *   lowest   the supervisor for any seat, and a seated        the lowest cost of the candidate's sheets
+ *            candidate for the own, while it is open or       that were marked in this sitting
+ *            closed
+ *   used     the supervisor, while it is open or closed       how many submissions were used
+ *
+ * The sitting has an allowance of 1 to LAMP_MAX_ALLOWANCE submissions, one count for all candidates
+ * together. A sheet that is marked uses one submission, and so does a sheet that is refused by 11, 12 or
+ * 13. A submission that is refused by another number uses none. Closing ends seating and submitting. A
+ * sitting lasts until the next opening that is accepted, which may come while it is open or closed and
+ * empties all seats. An opening that is refused leaves the old sitting as it was.
+ *
+ * What the host keeps. The library keeps nothing between two acts. The host keeps the sitting, a struct
+ * lamp_sitting, and the list of seats, an array of struct lamp_seat with one record for each seat. It
+ * hands the sitting to every act by value, and every act gives it back in its reply, refused or not: the
+ * host hands the next act what the last one gave back. It lends the list to the acts that ask for it, as
+ * the last one left it, and it lends the card of the opening to every submission. It alters none of the
+ * three. Then every sequence of acts is answered by the rules of this section, and that is proved. Two
+ * acts of one sitting must not run at the same time: the second is handed what the first gives back.
+ *
+ * A host begins with a sitting that is all zero, which is unopened. The list may hold anything before the
+ * first opening, which empties it. The first LAMP_MAX_SEATS records of the list are its seats. A shorter
+ * list has as many seats as it has records. A list may be longer, and no act reads or writes a record
+ * after the first LAMP_MAX_SEATS. seats_len counts records, and not bytes.
+ *
+ * What a caller is told is number, cost and marked. The sitting holds the least cost and is the host's to
+ * keep: do not show it to a candidate. The list holds the lowest cost of every seat and is the host's to
+ * keep too. It is proved that no candidate is told the least cost by lamp_sitting_least before the
+ * sitting is closed, that no lowest cost that is marked is below the least cost, and that no more
+ * submissions are used than the allowance.
+ *
+ * This opens a sitting with 30 submissions, seats candidate 4,021, and marks the candidate's sheet. The
+ * buffers are those of A SHORT HOST above.
+ *
+ *     static struct lamp_seat seats[LAMP_MAX_SEATS];
+ *     struct lamp_sitting sitting = {0, 0, 0, 0};
+ *     struct lamp_reply reply;
+ *
+ *     reply = lamp_sitting_open(sitting, 0, 30, card, card_len, plan, sizeof plan, work, sizeof work,
+ *                               seats, LAMP_MAX_SEATS);
+ *     sitting = reply.sitting;
+ *     reply = lamp_sitting_seat(sitting, 0, 4021, seats, LAMP_MAX_SEATS);
+ *     sitting = reply.sitting;
+ *     reply = lamp_sitting_submit(sitting, 4021, card, card_len, sheet, sheet_len, seats, LAMP_MAX_SEATS);
+ *     sitting = reply.sitting;
+ *
+ * The acts also answer a sitting and a list that no act has left. A state other than 1 and 2 counts as
+ * unopened. A record is empty exactly if its candidate is 0, whatever else it holds. If two records have
+ * the same candidate, the first is the candidate's seat. A record has a lowest cost if its marked is not 0.
+ * The allowance is used up if submissions is not below it. Nothing is touched but what is lent.
+ *
+ * If a host gives a number of more than 16 bits as the caller or the candidate, C takes its low 16 bits:
+ * 65,536 becomes 0, and 0 as the caller is the supervisor. So a host that reads a candidate's number from
+ * its user first looks whether it is at least 1 and at most UINT16_MAX.
+ *
+ *
  * ANSWERS AND REFUSALS
  *
  * Every call answers every input. A success gives number 0 and a cost. A refusal gives its number and
  * cost 0. If several refusals apply, the call gives the lowest number, wherever in the input each of them
  * lies. For example, a count above m in the last slot (12) is given before a count in slot 1 that cannot
- * serve (13). Only lamp_practice_card has an order of its own: it tests 14 before 10, so start 0 gives 14
- * with every buffer, also with one of length 0. The comment at each call below has its refusals in the
- * order in which they are tested. No call sets errno.
+ * serve (13). Two calls have an order of their own. lamp_practice_card tests 14 before 10, so start 0
+ * gives 14 with every buffer, also with one of length 0. lamp_sitting_submit tests 15, 16 and 17 before
+ * 11, 12 and 13, so a caller that may not submit is told nothing of the sheet. The comment at each call
+ * below has its refusals in the order in which they are tested. No call sets errno.
+ *
+ * The acts of a sitting give a third number, marked, and the sitting. marked is 1 only where
+ * lamp_sitting_lowest gives a lowest cost, so that no cost at all is told from a cost of 0. In every other
+ * reply it is 0. The sitting is given back as it was handed in, where nothing else is said at the act.
  *
  * Number 9 is never given, by any call, which is proved. Before release 2.0.0 a slot had to get its load
  * exactly, and lamp_plan_coarse gave refusal 9 for a table that falls. Now it reads G in the place of F,
@@ -238,26 +313,29 @@
  *
  * BUFFERS
  *
- * A buffer is a pointer and a length in bytes. All buffers belong to the caller, and a call uses them
- * until it returns and no longer. A buffer must be as long as its length says, and no two buffers of a
- * call may overlap: these two rules the library cannot check. A buffer of length 0 may come with any
- * pointer, also NULL.
+ * A buffer is a pointer and a length in bytes; only the list of seats has its length in records. All
+ * buffers belong to the host, and a call uses them until it returns and no longer. A buffer must be as
+ * long as its length says, and no two buffers of a call may overlap: these two rules the library cannot
+ * check. A buffer of length 0 may come with any pointer, also NULL.
  *
  * Buffers that are read (card of every call but lamp_practice_card, a plan given to lamp_sheet, a sheet
- * given to lamp_mark) have exactly the length of what they hold. So a plan is given to lamp_sheet with
- * length T, even if it lies in a longer array. A host that reads a card from a file needs
- * LAMP_MAX_CARD + 1 bytes for it and may leave the rest of the file unread: a card of that length is
- * refused like any longer one.
+ * given to lamp_mark or lamp_sitting_submit) have exactly the length of what they hold. So a plan is given
+ * to lamp_sheet with length T, even if it lies in a longer array. A host that reads a card from a file
+ * needs LAMP_MAX_CARD + 1 bytes for it and may leave the rest of the file unread: a card of that length
+ * is refused like any longer one.
  *
- * Buffers that are written (plan and work of a planner, sheet of lamp_sheet, card of lamp_practice_card)
- * have at least the length that the call asks for. They may be longer, and may hold anything at entry:
- * they need no clearing, and nothing in them changes the answer. After a success the bytes asked for hold
- * the answer, in a work buffer zeros, and all further bytes are as they were. After a refusal all bytes
- * are as they were.
+ * Buffers that are written (plan and work of a planner or of lamp_sitting_open, sheet of lamp_sheet, card
+ * of lamp_practice_card) have at least the length that the call asks for. They may be longer, and may hold
+ * anything at entry: they need no clearing, and nothing in them changes the answer. After a success the
+ * bytes asked for hold the answer, in a work buffer zeros, and all further bytes are as they were. After a
+ * refusal all bytes are as they were.
+ *
+ * The list of seats is an array of struct lamp_seat of any length, aligned as C does it. The comment at
+ * each act says which records it changes. After a refusal all records are as they were.
  *
  *   buffer                       bytes asked for
  *   plan                         T
- *   work of lamp_plan_exact      (m + 1) * T
+ *   work of lamp_plan_exact      (m + 1) * T, also of lamp_sitting_open
  *   work of lamp_plan_coarse     10 * T, for every m
  *   sheet                        m * T
  *   card of lamp_practice_card   17 + 4(Q + 1) + 2T of the practice card, at most LAMP_MAX_PRACTICE
@@ -274,7 +352,7 @@
  *
  * The library has no static data, and no call keeps anything after it returns. So all calls are
  * reentrant. Calls that run at the same time may share the buffers that are only read. A buffer that is
- * written belongs to one call at a time.
+ * written belongs to one call at a time, and so does a list of seats.
  *
  * No call allocates memory, does input or output, or computes with floating-point numbers. (The compiled
  * code does use the SSE2 registers of x86-64, for whole numbers.) LAMP_MAX_STACK below says how much
@@ -285,8 +363,9 @@
  *
  * Each call has a contract, in crates/lamp/src/lib.rt of the repository, and this file says in plain
  * words what the contracts say. A contract gives the number, the cost and every byte of every written
- * buffer, for every input that keeps the two rules on buffers. The contracts are proved. docs/TRUST.md
- * says what the proofs rest on. The use of stack is measured and not proved.
+ * buffer, for every input that keeps the two rules on buffers; that of an act also gives marked, the
+ * sitting and every record. The contracts are proved. docs/TRUST.md says what the proofs rest on. The use
+ * of stack is measured and not proved.
  */
 #ifndef LAMP_H
 #define LAMP_H
@@ -299,7 +378,7 @@ extern "C" {
 #endif
 
 /* The release of this library. */
-#define LAMP_RELEASE "2.1.0"
+#define LAMP_RELEASE "2.2.0"
 
 /* The version of the cards that this library accepts, and of those that it makes. */
 #define LAMP_CARD_VERSION 1
@@ -316,21 +395,66 @@ extern "C" {
 #define LAMP_MAX_SHEET 204800      /* a sheet of m 200 and T 1,024: 200 * 1,024 */
 #define LAMP_MAX_PRACTICE 949      /* a practice card of Q 200 and T 64 (start 6,548): 17 + 4 * (200 + 1) + 2 * 64 */
 
-/* The stack that a call uses, in bytes: the largest figure that the test host/limits.c measures, rounded up to a
- * multiple of 256. It counts the call's return address and the memset of the GNU C library. A dynamically
- * linked host that binds symbols at their first use needs more in the first call that uses memset,
- * because the dynamic linker then runs on the same stack: 6,648 bytes were measured on one machine. Such
- * a host may use memset once before, or be linked with -Wl,-z,now. */
-#define LAMP_MAX_STACK 3584
+/* The most seats of a sitting, and its largest allowance. A list of seats may have more records: those after the 32nd
+ * are not used. */
+#define LAMP_MAX_SEATS 32
+#define LAMP_MAX_ALLOWANCE 1000
 
-/* What every call returns. */
+/* The stack that a call uses, in bytes: the largest figure that the test host/limits.c measures, rounded up to a
+ * multiple of 256. It counts the call's return address, those arguments and the reply that lie on the
+ * stack, and the memset of the GNU C library. A dynamically linked host that binds symbols at their first
+ * use needs more in the first call that uses memset, because the dynamic linker then runs on the same
+ * stack: 6,648 bytes were measured on one machine. Such a host may use memset once before, or be linked
+ * with -Wl,-z,now. */
+#define LAMP_MAX_STACK 4096
+
+/* What every call but the acts of a sitting returns. */
 struct lamp_answer {
     uint64_t number; /* 0 for a success, else the refusal */
     uint64_t cost;   /* in points; 0 with a refusal */
 };
 
-/* The refusals. The word before the colon is that of the papers which define the planner. They have no word for 14, and
- * `start` is taken from what they say of it. */
+/* A seat: 16 bytes. A record that is all zero is an empty seat. */
+struct lamp_seat {
+    uint64_t lowest;    /* the lowest cost of the candidate's marked sheets, in points; 0 if there is none */
+    uint16_t candidate; /* the candidate's number; 0 in an empty record */
+    uint16_t marked;    /* 1 if a sheet was marked, else 0 */
+    uint32_t reserved;  /* 0 in every record that a sitting uses; the host leaves it as it is */
+};
+
+/* A sitting: 32 bytes. One that is all zero is unopened. It holds the least cost: do not show it to a candidate. */
+struct lamp_sitting {
+    uint64_t state;       /* 0 unopened, 1 open, 2 closed */
+    uint64_t allowance;   /* how many submissions all candidates have together: 1 to 1,000 */
+    uint64_t submissions; /* how many of them were used */
+    uint64_t least;       /* the least cost of the card, in points */
+};
+
+/* What every act of a sitting returns: 56 bytes. The caller is told the first three numbers. The sitting is for the
+ * host, which hands it to the next act. */
+struct lamp_reply {
+    uint64_t number; /* 0 for a success, else the refusal */
+    uint64_t cost;   /* in points, or how many submissions were used; 0 with a refusal */
+    uint64_t marked; /* 1 if the cost is a lowest cost of lamp_sitting_lowest, else 0; 0 with a refusal */
+    struct lamp_sitting sitting;
+};
+
+/* The three records have no padding. A compiler that gives one of them another size than the library has stops here.
+ * C before C11 and C++ before C++11 have no way to ask. */
+#if defined(__cplusplus) && __cplusplus >= 201103L
+#define LAMP_ASSERT_SIZE(record, bytes) static_assert(sizeof(record) == (bytes), "a record of lamp.h is padded");
+#elif !defined(__cplusplus) && defined(__STDC_VERSION__) && __STDC_VERSION__ >= 201112L
+#define LAMP_ASSERT_SIZE(record, bytes) _Static_assert(sizeof(record) == (bytes), "a record of lamp.h is padded");
+#else
+#define LAMP_ASSERT_SIZE(record, bytes)
+#endif
+LAMP_ASSERT_SIZE(struct lamp_seat, 16)
+LAMP_ASSERT_SIZE(struct lamp_sitting, 32)
+LAMP_ASSERT_SIZE(struct lamp_reply, 56)
+#undef LAMP_ASSERT_SIZE
+
+/* The refusals. The word before the colon is that of the papers which define the planner. They have no words for 14 to
+ * 17, and `start`, `right`, `seat` and `allowance` are taken from what they say of them. */
 enum lamp_refusal {
     LAMP_NOT_A_CARD = 1,        /* not a card: under 17 bytes, or wrong mark */
     LAMP_WRONG_VERSION = 2,     /* version: the card's version is not 1 */
@@ -345,7 +469,10 @@ enum lamp_refusal {
     LAMP_WRONG_LENGTH = 11,     /* roll: a handed-in plan is not T bytes, or a sheet not m * T */
     LAMP_ENTRY_RANGE = 12,      /* entry: a count above m, or a sheet byte from Q + 1 to 254 */
     LAMP_LOAD_NOT_SERVED = 13,  /* light: a slot has too little light, or a count cannot serve its load */
-    LAMP_ZERO_START = 14        /* start: start 0 of a practice card */
+    LAMP_ZERO_START = 14,       /* start: start 0 of a practice card */
+    LAMP_NOT_PERMITTED = 15,    /* right: an act that the caller has no right to, at all or as the sitting stands */
+    LAMP_SEAT_UNAVAILABLE = 16, /* seat: candidate 0, not seated, seated already, or no empty record in the first 32 */
+    LAMP_ALLOWANCE_SPENT = 17   /* allowance: the allowance is used up, or outside 1 to 1,000 at an opening */
 };
 
 /* Checks a card.
@@ -439,6 +566,88 @@ struct lamp_answer lamp_rounded_count(uint64_t count, uint64_t modules);
  * Refusals:  14 if start is 0; then 10 if card_len is less than asked for. All bytes of card are as they
  *            were. */
 struct lamp_answer lamp_practice_card(uint32_t start, uint8_t *card, size_t card_len);
+
+/* Opens a sitting: plans the card exactly, empties the seats and sets the allowance. The sitting handed in may be
+ * unopened, open or closed; after a success it is replaced.
+ *
+ * Reads:     card.
+ * Writes:    plan, work, seats.
+ * Asks for:  T bytes of plan, (m + 1) * T bytes of work.
+ * Success:   the least cost. plan and work are as lamp_plan_exact leaves them. The first LAMP_MAX_SEATS
+ *            records of seats, or all if there are fewer, are all zero, whatever they held, and all
+ *            further records are as they were. The sitting is open, with this allowance, 0 submissions
+ *            used, and the least cost.
+ * Refusals:  1 to 8; 10 if plan_len or work_len is less than asked for; 15 if caller is not 0; 17 if
+ *            allowance is outside 1 to LAMP_MAX_ALLOWANCE. All bytes of plan and work and all records are
+ *            as they were, and the sitting is given back as it was handed in. */
+struct lamp_reply lamp_sitting_open(struct lamp_sitting sitting, uint16_t caller, uint64_t allowance,
+                                    const uint8_t *card, size_t card_len, uint8_t *plan, size_t plan_len, uint8_t *work,
+                                    size_t work_len, struct lamp_seat *seats, size_t seats_len);
+
+/* Seats a candidate in the first empty record.
+ *
+ * Reads:     seats, the first LAMP_MAX_SEATS records.
+ * Writes:    seats, one record.
+ * Success:   cost 0. The first empty record holds the candidate's number, and its other fields are 0. All
+ *            other records are as they were, and so is the sitting.
+ * Refusals:  15 if caller is not 0 or the sitting is not open; 16 if candidate is 0, if the candidate is
+ *            seated already, or if none of the first LAMP_MAX_SEATS records is empty. All records and the
+ *            sitting are as they were. */
+struct lamp_reply lamp_sitting_seat(struct lamp_sitting sitting, uint16_t caller, uint16_t candidate,
+                                    struct lamp_seat *seats, size_t seats_len);
+
+/* Closes a sitting, which ends seating and submitting.
+ *
+ * Reads:     nothing.
+ * Writes:    nothing.
+ * Success:   cost 0. The sitting is closed and otherwise as it was handed in.
+ * Refusals:  15 if caller is not 0 or the sitting is not open, as when it is closed already. The sitting
+ *            is as it was. */
+struct lamp_reply lamp_sitting_close(struct lamp_sitting sitting, uint16_t caller);
+
+/* Submits a candidate's sheet, which is marked as lamp_mark does. The candidate is the caller.
+ *
+ * Reads:     card, sheet, seats, the first LAMP_MAX_SEATS records. sheet_len must be m * T.
+ * Writes:    seats, the candidate's record.
+ * Success:   the sheet's cost. One submission more is used in the sitting. In the candidate's record
+ *            lowest is this cost, or the lower one that was marked before, and marked is 1; candidate and
+ *            reserved are as they were. All other records are as they were.
+ * Refusals:  1 to 8; 15 if caller is 0 or the sitting is not open; 16 if the caller is not seated; 17 if
+ *            the allowance is used up; then 11, 12 and 13 as lamp_mark. All records are as they were.
+ *            After 11, 12 and 13 one submission more is used in the sitting. After every other refusal
+ *            the sitting is as it was. */
+struct lamp_reply lamp_sitting_submit(struct lamp_sitting sitting, uint16_t caller, const uint8_t *card,
+                                      size_t card_len, const uint8_t *sheet, size_t sheet_len, struct lamp_seat *seats,
+                                      size_t seats_len);
+
+/* Reads the least cost of the card. A candidate reads it only after closing.
+ *
+ * Reads:     seats, the first LAMP_MAX_SEATS records, if caller is not 0.
+ * Writes:    nothing.
+ * Success:   the least cost. The sitting is as it was.
+ * Refusals:  15 if the sitting is unopened, or if caller is not 0 and it is not closed; 16 if caller is
+ *            not 0 and not seated. The sitting is as it was. */
+struct lamp_reply lamp_sitting_least(struct lamp_sitting sitting, uint16_t caller, const struct lamp_seat *seats,
+                                     size_t seats_len);
+
+/* Reads the lowest cost of a candidate's marked sheets, for the supervisor or for the candidate, also after closing.
+ *
+ * Reads:     seats, the first LAMP_MAX_SEATS records.
+ * Writes:    nothing.
+ * Success:   the lowest cost and marked 1, or cost 0 and marked 0 if no sheet of the candidate was marked.
+ *            The sitting is as it was.
+ * Refusals:  15 if the sitting is unopened, or if caller is neither 0 nor the candidate; 16 if candidate
+ *            is 0 or not seated. The sitting is as it was. */
+struct lamp_reply lamp_sitting_lowest(struct lamp_sitting sitting, uint16_t caller, uint16_t candidate,
+                                      const struct lamp_seat *seats, size_t seats_len);
+
+/* Reads how many submissions were used, also after closing.
+ *
+ * Reads:     nothing.
+ * Writes:    nothing.
+ * Success:   the submissions used, in the place of the cost. The sitting is as it was.
+ * Refusals:  15 if caller is not 0 or the sitting is unopened. The sitting is as it was. */
+struct lamp_reply lamp_sitting_used(struct lamp_sitting sitting, uint16_t caller);
 
 #ifdef __cplusplus
 }

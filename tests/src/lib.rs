@@ -1,10 +1,14 @@
 //! Tests of the lamp library through its C boundary. Nothing here shares text with the Rattle sources: `plain` is written from
-//! document 01 and from section 2 of document 02, and `practice` from section 1 of document 02.
+//! document 01 and from section 2 of document 02, `practice` from section 1 of document 02, and `history` and `values` from its section 4.
+pub mod acts;
 pub mod boundary;
 pub mod cards;
 pub mod classes;
+pub mod history;
 pub mod plain;
 pub mod practice;
 pub mod random;
 pub mod searches;
+pub mod sequences;
 pub mod shows;
+pub mod values;

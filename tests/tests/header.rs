@@ -38,22 +38,35 @@ fn refusals_have_the_headers_names_and_numbers() {
     assert_eq!(found, bound);
 }
 
+/// Where no field of a card is named, the tool has the header's words.
+#[test]
+fn words_without_fields_are_the_headers() {
+    let header = read("include/lamp.h");
+    for refusal in Refusal::ALL.iter().filter(|refusal| (13..).contains(&refusal.number())) {
+        let line = header.lines().find(|line| line.contains(&format!(" = {}", refusal.number())) && line.starts_with("    LAMP_")).unwrap();
+        let words = line.split_once(": ").unwrap().1.trim_end_matches(" */");
+        assert_eq!(words, refusal.words());
+    }
+}
+
 /// 9 keeps its name and its number, and no call has it among its refusals.
 #[test]
 fn no_call_names_nine() {
     let header = read("include/lamp.h");
     let calls: Vec<&str> = header.split(" * Refusals: ").skip(1).map(|rest| rest.split("*/").next().unwrap()).collect();
-    assert_eq!(calls.len(), 8);
+    assert_eq!(calls.len(), 15);
     for refusals in calls {
         assert!(refusals.split(|c: char| !c.is_ascii_digit()).all(|number| number != "9"), "{refusals}");
     }
 }
 
-/// A parameter of C as Rust writes it.
+/// A parameter or a field of C as Rust writes it.
 fn parameter(text: &str) -> String {
     let pointers = [("const uint8_t *", "*const u8"), ("uint8_t *", "*mut u8")];
-    let numbers = [("size_t ", "usize"), ("uint32_t ", "u32"), ("uint64_t ", "u64")];
-    let found = pointers.iter().chain(&numbers).find_map(|(c, rust)| text.strip_prefix(c).map(|name| format!("{name}: {rust}")));
+    let numbers = [("size_t ", "usize"), ("uint16_t ", "u16"), ("uint32_t ", "u32"), ("uint64_t ", "u64")];
+    let records = [("struct lamp_sitting ", "Sitting"), ("const struct lamp_seat *", "*const Seat"), ("struct lamp_seat *", "*mut Seat")];
+    let types = pointers.iter().chain(&numbers).chain(&records);
+    let found = types.into_iter().find_map(|(c, rust)| text.strip_prefix(c).map(|name| format!("{name}: {rust}")));
     found.unwrap_or_else(|| panic!("no type for {text}"))
 }
 
@@ -67,14 +80,30 @@ fn on_a_line(text: &str) -> String {
 fn every_call_is_bound() {
     let (header, binding) = (read("include/lamp.h"), read("tool/src/calls.rs"));
     let declared = on_a_line(&binding).replace("( ", "(").replace(", )", ")");
-    let calls: Vec<&str> = header.split("\nstruct lamp_answer lamp_").skip(1).collect();
-    assert_eq!(calls.len(), 8);
-    for call in calls {
-        let (name, rest) = call.split_once('(').unwrap();
-        let parameters: Vec<String> = on_a_line(rest.split(')').next().unwrap()).split(", ").map(parameter).collect();
-        let line = format!("fn lamp_{name}({}) -> LampAnswer;", parameters.join(", "));
-        assert!(declared.contains(&line), "the binding has no {line}");
-        assert!(binding.contains(&format!("\npub fn {name}(")), "{name} has no safe function");
+    for (c, rust, count) in [("lamp_answer", "LampAnswer", 8), ("lamp_reply", "Reply", 7)] {
+        let start = format!("\nstruct {c} lamp_");
+        let calls: Vec<&str> = header.split(start.as_str()).skip(1).collect();
+        assert_eq!(calls.len(), count);
+        for call in calls {
+            let (name, rest) = call.split_once('(').unwrap();
+            let parameters: Vec<String> = on_a_line(rest.split(')').next().unwrap()).split(", ").map(parameter).collect();
+            let line = format!("fn lamp_{name}({}) -> {rust};", parameters.join(", "));
+            assert!(declared.contains(&line), "the binding has no {line}");
+            assert!(binding.contains(&format!("\npub fn {name}(")), "{name} has no safe function");
+        }
+    }
+}
+
+/// The records of the header have the same fields in the binding, in the same order.
+#[test]
+fn every_record_is_bound() {
+    let (header, binding) = (read("include/lamp.h"), on_a_line(&read("tool/src/calls.rs")));
+    for (c, rust) in [("lamp_seat", "Seat"), ("lamp_sitting", "Sitting"), ("lamp_reply", "Reply")] {
+        let body = header.split(&format!("\nstruct {c} {{\n")).nth(1).unwrap().split("\n};").next().unwrap();
+        let fields = body.lines().map(|line| parameter(line.split(';').next().unwrap().trim()));
+        let fields: Vec<String> = fields.map(|field| format!("pub {field},")).collect();
+        let record = format!("#[repr(C)] #[derive(Clone, Copy, Debug, Default, PartialEq, Eq)] pub struct {rust} {{ {} }}", fields.join(" "));
+        assert!(binding.contains(&record), "the binding has no {record}");
     }
 }
 
@@ -90,4 +119,5 @@ fn release_and_limits() {
     assert_eq!(defined(&header, "LAMP_MAX_PRACTICE"), practice::LONGEST.to_string());
     assert_eq!(defined(&header, "LAMP_CARD_VERSION"), lamp::show::VERSION.to_string());
     assert_eq!(defined(&header, "LAMP_OFF"), lamp::show::OFF.to_string());
+    assert_eq!((defined(&header, "LAMP_MAX_SEATS").as_str(), defined(&header, "LAMP_MAX_ALLOWANCE").as_str()), ("32", "1000"));
 }

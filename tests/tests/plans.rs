@@ -1,5 +1,6 @@
 //! `lamp_plan_exact` and `lamp_plan_coarse` against searches through all sheets with enough light and through all plans, and against a
 //! plain dynamic program; and that no call gives 9.
+use lamp_tests::acts::{self, Act, Seat, Sitting};
 use lamp_tests::boundary::{self, difference, mark, Answer, Outcome, Planner, BOTH};
 use lamp_tests::cards::{card_a, largest, lowest_at, small, Card};
 use lamp_tests::classes::Classes;
@@ -287,12 +288,25 @@ fn other_answers(random: &mut Random, card: &Card, bytes: &[u8]) -> [Answer; 5] 
     ]
 }
 
-/// Every call on cards of which most have a table that falls. Nothing is compared with the plain rules: the numbers are counted, and 9
-/// is not among them. Either planner plans just the accepted cards with areas long enough.
+/// The acts of a sitting that are lent a card, with a sitting that is open or not and a list of one seat, and their numbers.
+fn act_numbers(random: &mut Random, card: &Card, bytes: &[u8]) -> [u64; 2] {
+    let (modules, top, slots) = (u64::from(card.modules), u64::from(card.top), card.loads.len() as u64);
+    let (plan, work) = (vec![7; length(random, slots)], vec![7; length(random, (modules + 1) * slots)]);
+    let sheet = list(random, modules * slots, top);
+    let open = Act::Open { allowance: random.pick(&[0, 5]), card: bytes.to_vec(), plan, work };
+    let submit = Act::Submit { card: bytes.to_vec(), sheet };
+    let sitting = Sitting { state: random.below(3), allowance: 2, submissions: random.below(3), least: 0 };
+    let seats = [Seat { candidate: 1, ..Seat::default() }];
+    let mut number = |act: &Act| acts::act(sitting, random.below(3) as u16, act, &seats).reply.number;
+    [number(&open), number(&submit)]
+}
+
+/// Every call on cards of which most have a table that falls; the acts of a sitting that are lent no card are left out. Nothing is compared
+/// with the plain rules: the numbers are counted, and 9 is not among them. Either planner plans just the accepted cards with areas long enough.
 #[test]
 fn no_call_gives_nine() {
     const PLANNED: [&str; 2] = ["exact plans a falling table", "coarse plans a falling table"];
-    let mut classes = Classes::new("the numbers of all calls (seed 82)", &PLANNED).with_numbers((0..=8).chain(10..=14));
+    let mut classes = Classes::new("the numbers of all calls (seed 82)", &PLANNED).with_numbers((0..=8).chain(10..=17));
     let mut random = Random::new(82);
     for _ in 0..40_000 {
         let (modules, top, slots) = (1 + random.below(9), 1 + random.below(5), random.below(5));
@@ -308,6 +322,7 @@ fn no_call_gives_nine() {
             }
         }
         other_answers(&mut random, &card, &bytes).iter().for_each(|answer| classes.see_number(answer.number));
+        act_numbers(&mut random, &card, &bytes).into_iter().for_each(|number| classes.see_number(number));
     }
     classes.require_all();
 }

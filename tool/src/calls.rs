@@ -1,5 +1,6 @@
 //! The safe binding: every call of include/lamp.h over slices. A call answers its cost or its refusal; after a refusal every lent
-//! byte is as it was. Slices of Rust that are written never overlap another slice, which is all that a call asks of its host.
+//! byte is as it was. An act of a sitting answers its reply as C has it, with the sitting that the next act is handed. Slices of Rust that
+//! are written never overlap another slice, which is all that a call asks of its host.
 use crate::refusal::Refusal;
 
 /// A cost in points, or the refusal. The rounded count gives its count in the cost's place.
@@ -11,6 +12,39 @@ struct LampAnswer {
     number: u64,
     cost: u64,
 }
+
+/// A seat of a sitting. An empty one is all zero.
+#[repr(C)]
+#[derive(Clone, Copy, Debug, Default, PartialEq, Eq)]
+pub struct Seat {
+    pub lowest: u64,
+    pub candidate: u16,
+    pub marked: u16,
+    pub reserved: u32,
+}
+
+/// A sitting, which its host keeps and shows to no candidate. An unopened one is all zero; its state is 1 while it is open and 2 once it is
+/// closed.
+#[repr(C)]
+#[derive(Clone, Copy, Debug, Default, PartialEq, Eq)]
+pub struct Sitting {
+    pub state: u64,
+    pub allowance: u64,
+    pub submissions: u64,
+    pub least: u64,
+}
+
+/// The reply of an act: number, cost and marked are for its caller, the sitting is for the host.
+#[repr(C)]
+#[derive(Clone, Copy, Debug, Default, PartialEq, Eq)]
+pub struct Reply {
+    pub number: u64,
+    pub cost: u64,
+    pub marked: u64,
+    pub sitting: Sitting,
+}
+
+const _: () = assert!(size_of::<Seat>() == 16 && size_of::<Sitting>() == 32 && size_of::<Reply>() == 56);
 
 extern "C" {
     fn lamp_check_card(card: *const u8, card_len: usize) -> LampAnswer;
@@ -42,6 +76,34 @@ extern "C" {
     fn lamp_mark(card: *const u8, card_len: usize, sheet: *const u8, sheet_len: usize) -> LampAnswer;
     fn lamp_rounded_count(count: u64, modules: u64) -> LampAnswer;
     fn lamp_practice_card(start: u32, card: *mut u8, card_len: usize) -> LampAnswer;
+    fn lamp_sitting_open(
+        sitting: Sitting,
+        caller: u16,
+        allowance: u64,
+        card: *const u8,
+        card_len: usize,
+        plan: *mut u8,
+        plan_len: usize,
+        work: *mut u8,
+        work_len: usize,
+        seats: *mut Seat,
+        seats_len: usize,
+    ) -> Reply;
+    fn lamp_sitting_seat(sitting: Sitting, caller: u16, candidate: u16, seats: *mut Seat, seats_len: usize) -> Reply;
+    fn lamp_sitting_close(sitting: Sitting, caller: u16) -> Reply;
+    fn lamp_sitting_submit(
+        sitting: Sitting,
+        caller: u16,
+        card: *const u8,
+        card_len: usize,
+        sheet: *const u8,
+        sheet_len: usize,
+        seats: *mut Seat,
+        seats_len: usize,
+    ) -> Reply;
+    fn lamp_sitting_least(sitting: Sitting, caller: u16, seats: *const Seat, seats_len: usize) -> Reply;
+    fn lamp_sitting_lowest(sitting: Sitting, caller: u16, candidate: u16, seats: *const Seat, seats_len: usize) -> Reply;
+    fn lamp_sitting_used(sitting: Sitting, caller: u16) -> Reply;
 }
 
 /// The library's contract says that a number is 0 or one of the refusals, and that a refusal has cost 0.
@@ -91,4 +153,63 @@ pub fn rounded_count(count: u64, modules: u64) -> Answer {
 /// The practice card of a start at the front of `card`, at cost 0. Start 0 is refused by 14, and then a short area by 10.
 pub fn practice_card(start: u32, card: &mut [u8]) -> Answer {
     answer(unsafe { lamp_practice_card(start, card.as_mut_ptr(), card.len()) })
+}
+
+/// Opens a sitting with an allowance of 1 to 1,000 submissions, at the least cost; `plan` and `work` are those of `plan_exact`. The first 32
+/// records of `seats` become empty.
+pub fn sitting_open(
+    sitting: Sitting,
+    caller: u16,
+    allowance: u64,
+    card: &[u8],
+    plan: &mut [u8],
+    work: &mut [u8],
+    seats: &mut [Seat],
+) -> Reply {
+    unsafe {
+        lamp_sitting_open(
+            sitting,
+            caller,
+            allowance,
+            card.as_ptr(),
+            card.len(),
+            plan.as_mut_ptr(),
+            plan.len(),
+            work.as_mut_ptr(),
+            work.len(),
+            seats.as_mut_ptr(),
+            seats.len(),
+        )
+    }
+}
+
+/// Seats a candidate in the first empty record.
+pub fn sitting_seat(sitting: Sitting, caller: u16, candidate: u16, seats: &mut [Seat]) -> Reply {
+    unsafe { lamp_sitting_seat(sitting, caller, candidate, seats.as_mut_ptr(), seats.len()) }
+}
+
+/// Ends seating and submitting.
+pub fn sitting_close(sitting: Sitting, caller: u16) -> Reply {
+    unsafe { lamp_sitting_close(sitting, caller) }
+}
+
+/// Marks the sheet of a seated candidate, the caller. A sheet that is refused by 11 to 13 uses a submission too.
+pub fn sitting_submit(sitting: Sitting, caller: u16, card: &[u8], sheet: &[u8], seats: &mut [Seat]) -> Reply {
+    let (sheet_at, seats_at) = (sheet.as_ptr(), seats.as_mut_ptr());
+    unsafe { lamp_sitting_submit(sitting, caller, card.as_ptr(), card.len(), sheet_at, sheet.len(), seats_at, seats.len()) }
+}
+
+/// The least cost, for the supervisor, or for a seated candidate after closing.
+pub fn sitting_least(sitting: Sitting, caller: u16, seats: &[Seat]) -> Reply {
+    unsafe { lamp_sitting_least(sitting, caller, seats.as_ptr(), seats.len()) }
+}
+
+/// The lowest cost of a candidate's marked sheets, for the supervisor or the candidate; without one, `marked` is 0.
+pub fn sitting_lowest(sitting: Sitting, caller: u16, candidate: u16, seats: &[Seat]) -> Reply {
+    unsafe { lamp_sitting_lowest(sitting, caller, candidate, seats.as_ptr(), seats.len()) }
+}
+
+/// How many submissions were used, in the cost's place, for the supervisor.
+pub fn sitting_used(sitting: Sitting, caller: u16) -> Reply {
+    unsafe { lamp_sitting_used(sitting, caller) }
 }

@@ -18,13 +18,16 @@ pub enum Refusal {
     EntryRange = 12,
     LoadNotServed = 13,
     ZeroStart = 14,
+    NotPermitted = 15,
+    SeatUnavailable = 16,
+    AllowanceSpent = 17,
 }
 
 use Refusal::*;
 
 impl Refusal {
     /// All refusals, in the order of their numbers.
-    pub const ALL: [Refusal; 14] = [
+    pub const ALL: [Refusal; 17] = [
         NotACard,
         WrongVersion,
         RackSize,
@@ -39,6 +42,9 @@ impl Refusal {
         EntryRange,
         LoadNotServed,
         ZeroStart,
+        NotPermitted,
+        SeatUnavailable,
+        AllowanceSpent,
     ];
 
     pub fn number(self) -> u64 {
@@ -66,6 +72,9 @@ impl Refusal {
             EntryRange => "a count above the modules, or a step above the top step",
             LoadNotServed => "a slot has too little light, or a count cannot serve its load",
             ZeroStart => "start 0 of a practice card",
+            NotPermitted => "an act that the caller has no right to, at all or as the sitting stands",
+            SeatUnavailable => "candidate 0, not seated, seated already, or no empty record in the first 32",
+            AllowanceSpent => "the allowance is used up, or outside 1 to 1,000 at an opening",
         }
     }
 }
