@@ -1,2 +1,2 @@
 mod Planned
-mod Planning
+pub mod Planning

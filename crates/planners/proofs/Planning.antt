@@ -57,7 +57,7 @@ module _ (k : Planner) (s p w : List ℕ) where
   plan-refused is e = planned-kept (planner-refused k s p w (refused-answer s is e))
 
   -- The test on the lengths of the buffers finds one that is too short where there is one.
-  room-short : anyShort (buffersOf (planShow k s p w)) ≡ not (roomFor k (instanceOf s) (length p) (length w))
+  pub room-short : anyShort (buffersOf (planShow k s p w)) ≡ not (roomFor k (instanceOf s) (length p) (length w))
   unfolding buffersOf anyShort roomFor
   room-short = either (ltb (length p) (instanceOf s .slots)) (ltb (length w) (workBytes k (instanceOf s)))
     where

@@ -1,0 +1,6 @@
+mod Phases
+mod Rules
+mod Replies
+mod Lowest
+mod Submissions
+mod Openings

@@ -1,5 +1,6 @@
 // The rules of a sitting (document 02, §4), decided on plain numbers: what each act answers, which record of the list of seats it changes
-// and how, and the sitting that it gives back. The list itself is lent to the crates around this one.
+// and how, and the sitting that it gives back. The list itself is lent to the crates around this one. In a sitting's field `state`, 1
+// stands for open and 2 for closed.
 use card::Checked;
 use card::Header;
 use counts::PlannerKind;
@@ -13,7 +14,7 @@ ghost use mathlib.Core.Path.{_≡_};
 ghost use mathlib.Core.List.{[]};
 ghost use Rattle.model.specs.Acts.{openSitting, seatCandidate, closeSitting, submitSheet, readLeast, readLowest, readUsed};
 ghost use mathlib.Core.Bool.{not};
-ghost use Rattle.model.specs.Acts.{isOpened, isClosed, isUnopened, allowanceInRange, notPermitted};
+ghost use Rattle.model.specs.Acts.{isUnopened, allowanceInRange, notPermitted};
 ghost use Rattle.model.specs.SittingState.{phaseOf, markedRecord, factsOf, stateOf};
 ghost use Rattle.model.specs.Calls.{actIn, answer, planAtExit, workAtExit};
 ghost use Rattle.model.specs.Sittings.{answerTo, replyOf};
@@ -60,20 +61,6 @@ fn reply_giving(answer: Answer, marked: u64, sitting: Sitting) -> Reply
     }
 }
 
-// Whether a sitting is open.
-fn is_open(sitting: Sitting) -> bool
-    ensures { λ r. ⌜ r ≡ isOpened (phaseOf (sitting .state)) ⌝ }
-{
-    sitting.state == 1
-}
-
-// Whether a sitting is closed.
-fn is_closed(sitting: Sitting) -> bool
-    ensures { λ r. ⌜ r ≡ isClosed (phaseOf (sitting .state)) ⌝ }
-{
-    sitting.state == 2
-}
-
 // Whether a sitting counts as unopened.
 fn is_unopened(sitting: Sitting) -> bool
     ensures { λ r. ⌜ r ≡ isUnopened (phaseOf (sitting .state)) ⌝ }
@@ -101,7 +88,7 @@ fn answer_seating(sitting: Sitting, caller: u16, candidate: u16, v: View) -> Ans
     if caller != 0 {
         return Answer::Refused(Refusal::NotPermitted);
     }
-    if !is_open(sitting) {
+    if sitting.state != 1 {
         return Answer::Refused(Refusal::NotPermitted);
     }
     if candidate == 0 {
@@ -174,7 +161,7 @@ fn answer_on(
             submissions,
         };
     }
-    if !is_open(sitting) {
+    if sitting.state != 1 {
         let answer = Answer::Refused(Refusal::NotPermitted);
         return Submission {
             answer,
@@ -196,9 +183,10 @@ fn answer_on(
         };
     }
     let answer = calls::mark_sheet_on(card, h, sheet);
+    let counted = submissions + 1;
     Submission {
         answer,
-        submissions: submissions + 1,
+        submissions: counted,
     }
 }
 
@@ -278,7 +266,7 @@ fn answer_least(sitting: Sitting, caller: u16, v: View) -> Answer
     if caller == 0 {
         return Answer::Cost(sitting.least);
     }
-    if !is_closed(sitting) {
+    if sitting.state != 2 {
         return Answer::Refused(Refusal::NotPermitted);
     }
     if v.n <= v.at {
@@ -334,7 +322,7 @@ fn answer_closing(sitting: Sitting, caller: u16) -> Answer
     if caller != 0 {
         return Answer::Refused(Refusal::NotPermitted);
     }
-    if !is_open(sitting) {
+    if sitting.state != 1 {
         return Answer::Refused(Refusal::NotPermitted);
     }
     Answer::Cost(0)

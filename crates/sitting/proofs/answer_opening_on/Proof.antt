@@ -1,58 +1,37 @@
+use Rattle.lists.specs.Tests.{test-failed, test-passed}
+use Rattle.sitting.proofs.Openings.{opening-short, opening-barred, opening-spent, opening-planned}
 use borrow.Author.Needs.{needs}
 use Rattle.sitting.proofs.answer_opening_on.Statement.{statement}
 use Rattle.sitting.proofs.answer_opening_on.Tie as tie
-use Rattle.sitting.proofs.answer_opening_on.Reads as reads
-use Rattle.sitting.proofs.answer_opening_on.Lts as lts
-use Rattle.planners.proofs.plan_show_on.Reads as plan-show-on-reads
-use Rattle.planners.proofs.room_for.Reads as room-for-reads
-use Rattle.sitting.proofs.allowance_in_range.Reads as allowance-in-range-reads
 
--- src/lib.rt:396:9
-room-for-requires : tie.Need-room-for-requires
-room-for-requires c κs = search needs
-
--- src/lib.rt:397:9
 returns : tie.Need-returns
-returns c = ?
+returns c =
+    let start = c .before .before .before .before .before in
+    opening-short _ _ _ _ _ _ (start .pre .accepted) (test-failed (c .before .room-for .ensures) (c .if1 .taken))
 
--- src/lib.rt:400:9
 returns-2 : tie.Need-returns-2
-returns-2 c = ?
+returns-2 c =
+    let tested = c .before in
+    let start = tested .before .before .before .before .before in
+    opening-barred _ _ _ _ _ _ (start .pre .accepted) (test-passed (tested .before .room-for .ensures) (tested .if1 .left)) (c .if2 .taken)
 
--- src/lib.rt:402:9
-allowance-in-range-requires : tie.Need-allowance-in-range-requires
-allowance-in-range-requires c κs = search needs
-
--- src/lib.rt:403:9
 returns-3 : tie.Need-returns-3
-returns-3 c = ?
+returns-3 c =
+    let tested = c .before .before .before in
+    let start = tested .before .before .before .before .before in
+    opening-spent _ _ _ _ _ _ (start .pre .accepted) (test-passed (tested .before .room-for .ensures) (tested .if1 .left))
+    (c .before .before .if2 .left) (test-failed (c .before .allowance-in-range .ensures) (c .if3 .taken))
 
--- src/lib.rt:405:5
-plan-show-on-requires : tie.Need-plan-show-on-requires
-plan-show-on-requires c κs = search needs
-
--- src/lib.rt:382:1
-same-length : tie.Need-same-length
-same-length c = search needs
-
--- src/lib.rt:382:1
-same-length-2 : tie.Need-same-length-2
-same-length-2 c = search needs
-
--- src/lib.rt:382:1
 returns-4 : tie.Need-returns-4
-returns-4 c = ?
+returns-4 c =
+    let ranged = c .before .before .before .before .before .before .before in
+    let tested = ranged .before .before .before in
+    let start = tested .before .before .before .before .before in
+    opening-planned _ _ _ _ _ _ (start .pre .accepted) (test-passed (tested .before .room-for .ensures) (tested .if1 .left))
+    (ranged .before .before .if2 .left) (test-passed (ranged .before .allowance-in-range .ensures) (ranged .if3 .left))
+    (c .before .before .before .before .plan-show-on .ensures)
 
 pub answer-opening-on-spec : {M : Type 1} → statement M
 answer-opening-on-spec =
-    tie.close
-    (tie.spec
-    room-for-requires
-    returns
-    returns-2
-    allowance-in-range-requires
-    returns-3
-    plan-show-on-requires
-    same-length
-    same-length-2
-    returns-4)
+    tie.close (tie.spec (λ c κs. search needs) returns returns-2 (λ c κs. search needs) returns-3 (λ c κs. search needs) (λ c. search needs)
+    (λ c. search needs) returns-4)

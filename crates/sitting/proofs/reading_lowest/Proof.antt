@@ -1,67 +1,37 @@
+use Rattle.lists.specs.Tests.{test-failed, test-passed}
+use borrow.Author.Tests.{eq-eqb, ne-eqb, lt-ltb, le-ltb}
+use Rattle.sitting.proofs.Rules.{lowest-tests}
+use Rattle.sitting.proofs.Lowest.{lowest-refused, lowest-none, lowest-some}
 use borrow.Author.Needs.{needs}
 use Rattle.sitting.proofs.reading_lowest.Statement.{statement}
 use Rattle.sitting.proofs.reading_lowest.Tie as tie
-use Rattle.sitting.proofs.reading_lowest.Reads as reads
-use Rattle.sitting.proofs.reading_lowest.Lts as lts
-use Rattle.sitting.proofs.may_read_lowest.Reads as may-read-lowest-reads
-use Rattle.sitting.proofs.reply_giving.Reads as reply-giving-reads
 
--- src/lib.rt:314:9
-may-read-lowest-requires : tie.Need-may-read-lowest-requires
-may-read-lowest-requires c κs = search needs
-
--- src/lib.rt:315:9
-reply-giving-requires : tie.Need-reply-giving-requires
-reply-giving-requires c κs = search needs
-
--- src/lib.rt:315:9
 returns : tie.Need-returns
-returns c = ?
+returns c =
+    let asked = c .before in
+    search (lowest-refused, lowest-tests, test-failed (asked .before .may-read-lowest .ensures) (asked .if1 .taken))
 
--- src/lib.rt:318:9
-reply-giving-requires-2 : tie.Need-reply-giving-requires-2
-reply-giving-requires-2 c κs = search needs
-
--- src/lib.rt:318:9
 returns-2 : tie.Need-returns-2
-returns-2 c = ?
+returns-2 c =
+    let asked = c .before .before in
+    search (lowest-refused, lowest-tests, eq-eqb, test-passed (asked .before .may-read-lowest .ensures) (asked .if1 .left))
 
--- src/lib.rt:321:9
-reply-giving-requires-3 : tie.Need-reply-giving-requires-3
-reply-giving-requires-3 c κs = search needs
-
--- src/lib.rt:321:9
 returns-3 : tie.Need-returns-3
-returns-3 c = ?
+returns-3 c =
+    let asked = c .before .before .before .before in
+    search (lowest-refused, lowest-tests, ne-eqb, le-ltb, test-passed (asked .before .may-read-lowest .ensures) (asked .if1 .left))
 
--- src/lib.rt:325:9
-reply-giving-requires-4 : tie.Need-reply-giving-requires-4
-reply-giving-requires-4 c κs = search needs
-
--- src/lib.rt:325:9
 returns-4 : tie.Need-returns-4
-returns-4 c = ?
+returns-4 c =
+    let asked = c .before .before .before .before .before .before .before in
+    search (lowest-none, lowest-tests, ne-eqb, lt-ltb, test-passed (asked .before .may-read-lowest .ensures) (asked .if1 .left))
 
--- src/lib.rt:327:5
-reply-giving-requires-5 : tie.Need-reply-giving-requires-5
-reply-giving-requires-5 c κs = search needs
-
--- src/lib.rt:311:1
 returns-5 : tie.Need-returns-5
-returns-5 c = ?
+returns-5 c =
+    let asked = c .before .before .before .before .before .before .before in
+    search (lowest-some, lowest-tests, ne-eqb, lt-ltb, test-passed (asked .before .may-read-lowest .ensures) (asked .if1 .left))
 
 pub reading-lowest-spec : {M : Type 1} → statement M
 reading-lowest-spec =
-    tie.close
-    (tie.spec
-    may-read-lowest-requires
-    reply-giving-requires
-    returns
-    reply-giving-requires-2
-    returns-2
-    reply-giving-requires-3
-    returns-3
-    reply-giving-requires-4
-    returns-4
-    reply-giving-requires-5
-    returns-5)
+    tie.close (tie.spec (λ c κs. search needs) (λ c κs. search needs) returns (λ c κs. search needs) returns-2 (λ c κs. search needs)
+    returns-3 (λ c κs. search needs) returns-4 (λ c κs. search needs) returns-5)
