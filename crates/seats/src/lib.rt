@@ -72,18 +72,29 @@ fn next_place(first: usize, k: usize, candidate: u16, wanted: u16) -> usize
     k + 1
 }
 
-// The candidate's record once seat k is seen.
+// The candidate's record once seat k is seen. It is chosen field by field, which the compiler keeps in registers.
 fn next_seat(v: View, s: Seat) -> Seat
     ensures { λ r. ⌜ r ≡ nextSeat v s ⌝ }
 {
     let seat = v.seat;
-    if v.at != v.k {
-        return seat;
+    let mut lowest = seat.lowest;
+    let mut candidate = seat.candidate;
+    let mut marked = seat.marked;
+    let mut reserved = seat.reserved;
+    if v.at == v.k {
+        if s.candidate == v.wanted {
+            lowest = s.lowest;
+            candidate = s.candidate;
+            marked = s.marked;
+            reserved = s.reserved;
+        }
     }
-    if s.candidate == v.wanted {
-        return s;
+    Seat {
+        lowest,
+        candidate,
+        marked,
+        reserved,
     }
-    seat
 }
 
 // The view once one more seat is seen.
