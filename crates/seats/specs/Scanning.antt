@@ -1,18 +1,18 @@
 -- One step of a scan and one of emptying, with the laws that take the loops from their start to their end.
 use Prim.Native.Nat.{ℕ, zero, suc, _+_, _<_, min}
-use mathlib.Core.Path.{_≡_, refl, ap}
+use mathlib.Core.Path.{_≡_, refl, sym, ap, _∙_}
 use mathlib.Core.Logic.{⊎-elim}
-use mathlib.Core.Bool.{Bool, true, false, cond}
+use mathlib.Core.Bool.{Bool, true, false, cond, _||_, true≢false}
 use mathlib.Core.List.{List, [], _∷_, _++_}
-use lib.Dec.{eqb, ltb, eqb·zero-suc, eqb·suc-suc}
-use lib.ListN.{length, getD, take, set, replicate, length-take, length-replicate}
-use lib.Seq.{take-suc, length-take-le, length-front}
+use lib.Dec.{eqb, ltb}
+use lib.ListN.{length, getD, take, set, replicate, length-take, length-replicate, List·getD-append, List·getD-eq-default}
+use lib.Seq.{take-suc, length-take-le, length-front, getD-append-seam}
 use native.Mathlib.Nat.{zero-min, min-zero, suc-min-suc, min-le-left, min-le-right, le-refl, not-suc-le-zero, le-of-suc-le-suc}
 use native.Mathlib.Numerals.{add-one}
 use native.Mathlib.Omega.{arith}
-use borrow.Author.Tests.{lt-ltb, le-ltb}
+use borrow.Author.Tests.{lt-ltb, le-ltb, eq-eqb, ne-eqb}
 use Rattle.lists.specs.Numbers.{true-or-false}
-use Rattle.lists.specs.FirstPlace.{firstPlace}
+use Rattle.lists.specs.FirstPlace.{occurs, firstPlace, place-inside, place-beyond}
 use Rattle.model.specs.declared.Seat.{Seat}
 use Rattle.model.specs.SittingState.{seatLimit, seatsOf, isOf, emptySeat}
 use Rattle.seats.specs.declared.View.{View}
@@ -20,15 +20,16 @@ use Rattle.seats.specs.Scanned.{scanned, emptied}
 
 -- The view before the first seat is seen.
 abbrev pub startOf : (c len : ℕ) → View
-startOf c len = record { wanted = c; k = 0; n = min seatLimit len; len = len; at = 0; free = 0; seat = emptySeat }
+startOf c len =
+    record { wanted = c; k = 0; n = min seatLimit len; len = len; at = min seatLimit len; free = min seatLimit len; seat = emptySeat }
 
--- The first place of candidate c once seat k, of the candidate given, is seen, from the first place before, k where there was none.
-abbrev pub nextPlace : (first k candidate c : ℕ) → ℕ
-nextPlace first k candidate c = cond (eqb first k) (cond (eqb candidate c) k (k + 1)) first
+-- The first place of candidate c once seat k, of the candidate given, is seen, from the one before, which is n where none was found.
+abbrev pub nextPlace : (first n k candidate c : ℕ) → ℕ
+nextPlace first n k candidate c = cond (eqb candidate c) (cond (eqb first n) k first) first
 
 -- The record of the candidate wanted once seat s is seen.
 abbrev pub nextSeat : View → Seat → Seat
-nextSeat v s = cond (eqb (v .at) (v .k)) (cond (eqb (s .candidate) (v .wanted)) s (v .seat)) (v .seat)
+nextSeat v s = cond (eqb (s .candidate) (v .wanted)) (cond (eqb (v .at) (v .n)) s (v .seat)) (v .seat)
 
 -- The view once one more seat is seen.
 abbrev pub lookOf : View → Seat → View
@@ -38,10 +39,14 @@ lookOf v s =
       k = v .k + 1;
       n = v .n;
       len = v .len;
-      at = nextPlace (v .at) (v .k) (s .candidate) (v .wanted);
-      free = nextPlace (v .free) (v .k) (s .candidate) 0;
+      at = nextPlace (v .at) (v .n) (v .k) (s .candidate) (v .wanted);
+      free = nextPlace (v .free) (v .n) (v .k) (s .candidate) 0;
       seat = nextSeat v s;
     }
+
+-- The first place in a list at which a test holds, or n where there is none.
+unfoldable pub foundIn : (Seat → Bool) → List Seat → ℕ → ℕ
+foundIn f ys n = cond (occurs f ys) (firstPlace f ys) n
 
 -- The view once j seats are seen.
 unfoldable pub viewAt : ℕ → List Seat → ℕ → View
@@ -51,42 +56,90 @@ viewAt c xs j =
       k = j;
       n = length (seatsOf xs);
       len = length xs;
-      at = firstPlace (isOf c) (take j xs);
-      free = firstPlace (isOf 0) (take j xs);
+      at = foundIn (isOf c) (take j xs) (length (seatsOf xs));
+      free = foundIn (isOf 0) (take j xs) (length (seatsOf xs));
       seat = getD (take j xs) (firstPlace (isOf c) (take j xs)) emptySeat;
     }
 
--- The first place in a list with one element more.
-first-snoc : (f : Seat → Bool) (ys : List Seat) (x : Seat) →
-    firstPlace f (ys ++ (x ∷ [])) ≡ cond (eqb (firstPlace f ys) (length ys)) (cond (f x) (length ys) (suc (length ys))) (firstPlace f ys)
-unfolding firstPlace
-first-snoc f [] x = refl
-first-snoc f (y ∷ ys) x =
-    ⊎-elim
-    (λ (e : f y ≡ true). simp (e, eqb·zero-suc (length ys)))
-    (λ (e : f y ≡ false). simp (e, eqb·suc-suc (firstPlace f ys) (length ys), first-snoc f ys x) (later (eqb (firstPlace f ys) (length ys)) (f x) (length ys) (firstPlace f ys)))
-    (true-or-false (f y))
-  where
-    later : (a b : Bool) (n p : ℕ) → suc (cond a (cond b n (suc n)) p) ≡ cond a (cond b (suc n) (suc (suc n))) (suc p)
-    later true true n p = refl
-    later true false n p = refl
-    later false b n p = refl
+-- A choice between two that are the same.
+same-either : {A : Type 0} {a : A} (b : Bool) → a ≡ cond b a a
+same-either true = refl
+same-either false = refl
 
--- The record at the first place in a list with one element more.
-seat-snoc : (f : Seat → Bool) (ys : List Seat) (x d : Seat) →
-    getD (ys ++ (x ∷ [])) (firstPlace f (ys ++ (x ∷ []))) d
-    ≡ cond (eqb (firstPlace f ys) (length ys)) (cond (f x) x (getD ys (firstPlace f ys) d)) (getD ys (firstPlace f ys) d)
-unfolding firstPlace
-seat-snoc f [] x d = ⊎-elim (λ (e : f x ≡ true). simp e) (λ (e : f x ≡ false). simp e) (true-or-false (f x))
-seat-snoc f (y ∷ ys) x d =
-    ⊎-elim
-    (λ (e : f y ≡ true). simp (e, eqb·zero-suc (length ys)))
-    (λ (e : f y ≡ false). simp (e, eqb·suc-suc (firstPlace f ys) (length ys), seat-snoc f ys x d))
-    (true-or-false (f y))
+-- One element more in a list: whether the test holds somewhere, the first place, and the record there.
+module _ (f : Seat → Bool) (x : Seat) where
+  occurs-snoc : (ys : List Seat) → occurs f (ys ++ (x ∷ [])) ≡ (occurs f ys || f x)
+  unfolding occurs
+  occurs-snoc [] = or-false (f x)
+    where
+      or-false : (b : Bool) → (b || false) ≡ b
+      or-false true = refl
+      or-false false = refl
+  occurs-snoc (y ∷ ys) =
+      ⊎-elim
+      (λ (e : f y ≡ true). simp e)
+      (λ (e : f y ≡ false). simp e (occurs-snoc ys))
+      (true-or-false (f y))
+
+  place-snoc : (ys : List Seat) → occurs f ys ≡ true → firstPlace f (ys ++ (x ∷ [])) ≡ firstPlace f ys
+  unfolding occurs firstPlace
+  place-snoc [] e = absurd (true≢false (sym e))
+  place-snoc (y ∷ ys) e =
+      ⊎-elim
+      (λ (t : f y ≡ true). rw t)
+      (λ (t : f y ≡ false). rw t (ap suc (place-snoc ys (rw t at e))))
+      (true-or-false (f y))
+
+  place-last : (ys : List Seat) → occurs f ys ≡ false → f x ≡ true → firstPlace f (ys ++ (x ∷ [])) ≡ length ys
+  unfolding occurs firstPlace
+  place-last [] e h = rw h
+  place-last (y ∷ ys) e h =
+      ⊎-elim
+      (λ (t : f y ≡ true). absurd (true≢false (rw t at e)))
+      (λ (t : f y ≡ false). rw t (ap suc (place-last ys (rw t at e) h)))
+      (true-or-false (f y))
+
+  -- The place that is found, where the list is shorter than n.
+  found-snoc :
+      (ys : List Seat) (n : ℕ) → length ys < n →
+      foundIn f (ys ++ (x ∷ [])) n ≡ cond (f x) (cond (eqb (foundIn f ys n) n) (length ys) (foundIn f ys n)) (foundIn f ys n)
+  unfolding foundIn
+  found-snoc ys n short =
+      ⊎-elim
+      (λ (e : occurs f ys ≡ true).
+      let early : firstPlace f ys < length ys = place-inside f ys e in
+      rw (occurs-snoc ys, e, place-snoc ys e, ne-eqb (firstPlace f ys) n (λ same. absurd (omega arith))) (same-either (f x)))
+      (λ (e : occurs f ys ≡ false).
+      ⊎-elim
+      (λ (h : f x ≡ true). rw (occurs-snoc ys, e, h, eq-eqb n n refl) (place-last ys e h))
+      (λ (h : f x ≡ false). rw (occurs-snoc ys, e, h))
+      (true-or-false (f x)))
+      (true-or-false (occurs f ys))
+
+  -- The record at the first place.
+  seat-snoc :
+      (d : Seat) (ys : List Seat) (n : ℕ) → length ys < n →
+      getD (ys ++ (x ∷ [])) (firstPlace f (ys ++ (x ∷ []))) d
+      ≡ cond (f x) (cond (eqb (foundIn f ys n) n) x (getD ys (firstPlace f ys) d)) (getD ys (firstPlace f ys) d)
+  unfolding foundIn
+  seat-snoc d ys n short =
+      ⊎-elim
+      (λ (e : occurs f ys ≡ true).
+      let early : firstPlace f ys < length ys = place-inside f ys e in
+      rw (e, place-snoc ys e, ne-eqb (firstPlace f ys) n (λ same. absurd (omega arith)), List·getD-append ys (x ∷ []) d (firstPlace f ys) early) (same-either (f x)))
+      (λ (e : occurs f ys ≡ false).
+      ⊎-elim
+      (λ (h : f x ≡ true). rw (e, h, eq-eqb n n refl, place-last ys e h) (getD-append-seam ys x [] d))
+      (λ (h : f x ≡ false).
+      let none : occurs f (ys ++ (x ∷ [])) ≡ false = rw (occurs-snoc ys, e, h) in
+      rw (h, place-beyond f (ys ++ (x ∷ [])) none, place-beyond f ys e)
+      (List·getD-eq-default (ys ++ (x ∷ [])) d (le-refl _) ∙ sym (List·getD-eq-default ys d (le-refl _))))
+      (true-or-false (f x)))
+      (true-or-false (occurs f ys))
 
 -- The view before the first seat.
 pub view-start : (c : ℕ) (xs : List Seat) → startOf c (length xs) ≡ viewAt c xs 0
-unfolding viewAt firstPlace
+unfolding viewAt foundIn occurs firstPlace
 view-start c xs = rw (length-take seatLimit xs)
 
 -- The view after one seat more.
@@ -99,9 +152,11 @@ view-next c xs j h =
     let cut : take (suc j) xs ≡ ys ++ (s ∷ []) = take-suc xs j emptySeat inside in
     let size : length ys ≡ j = length-take-le j xs (omega arith) in
     let one : j + 1 ≡ suc j = add-one j in
-    let at-is : firstPlace (isOf c) (ys ++ (s ∷ [])) ≡ nextPlace (firstPlace (isOf c) ys) j (s .candidate) c = rw (first-snoc (isOf c) ys s, size, one) in
-    let free-is : firstPlace (isOf 0) (ys ++ (s ∷ [])) ≡ nextPlace (firstPlace (isOf 0) ys) j (s .candidate) 0 = rw (first-snoc (isOf 0) ys s, size, one) in
-    let seat-is : getD (ys ++ (s ∷ [])) (firstPlace (isOf c) (ys ++ (s ∷ []))) emptySeat ≡ nextSeat (viewAt c xs j) s = rw (seat-snoc (isOf c) ys s emptySeat, size) in
+    let seats : ℕ = length (seatsOf xs) in
+    let short : length ys < seats = omega arith in
+    let at-is : foundIn (isOf c) (ys ++ (s ∷ [])) seats ≡ nextPlace (foundIn (isOf c) ys seats) seats j (s .candidate) c = rw (found-snoc (isOf c) s ys seats short, size) in
+    let free-is : foundIn (isOf 0) (ys ++ (s ∷ [])) seats ≡ nextPlace (foundIn (isOf 0) ys seats) seats j (s .candidate) 0 = rw (found-snoc (isOf 0) s ys seats short, size) in
+    let seat-is : getD (ys ++ (s ∷ [])) (firstPlace (isOf c) (ys ++ (s ∷ []))) emptySeat ≡ nextSeat (viewAt c xs j) s = seat-snoc (isOf c) s emptySeat ys seats short in
     cc
 
 -- The first records taken again by their number.
@@ -110,10 +165,19 @@ same-front zero xs = refl
 same-front (suc n) [] = refl
 same-front (suc n) (x ∷ xs) = ap (λ (ys : List Seat). x ∷ ys) (same-front n xs)
 
+-- In the whole list what is found is the first place.
+found-all : (f : Seat → Bool) (ys : List Seat) → foundIn f ys (length ys) ≡ firstPlace f ys
+unfolding foundIn
+found-all f ys =
+    ⊎-elim
+    (λ (e : occurs f ys ≡ true). rw e)
+    (λ (e : occurs f ys ≡ false). rw e (sym (place-beyond f ys e)))
+    (true-or-false (occurs f ys))
+
 -- The view after the last seat.
 pub view-end : (c : ℕ) (xs : List Seat) → viewAt c xs (length (seatsOf xs)) ≡ scanned c xs
 unfolding viewAt scanned
-view-end c xs = rw (same-front seatLimit xs)
+view-end c xs = rw (same-front seatLimit xs, found-all (isOf c) (seatsOf xs), found-all (isOf 0) (seatsOf xs))
 
 -- At every seat the view's place is one of the list, and one of the 32.
 pub turn-in : (c : ℕ) (xs : List Seat) (j : ℕ) → j < length (seatsOf xs) → (viewAt c xs j .k < length xs) × (viewAt c xs j .k < 32)

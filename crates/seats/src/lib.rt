@@ -52,24 +52,23 @@ fn start(wanted: u16, len: usize) -> View
         k: 0,
         n,
         len,
-        at: 0,
-        free: 0,
+        at: n,
+        free: n,
         seat,
     }
 }
 
-// The first place once seat k is seen, from the one before: k itself where none was found.
-fn next_place(first: usize, k: usize, candidate: u16, wanted: u16) -> usize
-    requires { ⌜ k < 32 ⌝ }
-    ensures { λ r. ⌜ r ≡ nextPlace first k candidate wanted ⌝ }
+// The first place of the candidate wanted once seat k is seen, from the one before, which is n where none was found.
+fn next_place(first: usize, n: usize, k: usize, candidate: u16, wanted: u16) -> usize
+    ensures { λ r. ⌜ r ≡ nextPlace first n k candidate wanted ⌝ }
 {
-    if first != k {
+    if candidate != wanted {
         return first;
     }
-    if candidate == wanted {
-        return k;
+    if first != n {
+        return first;
     }
-    k + 1
+    k
 }
 
 // The candidate's record once seat k is seen. It is chosen field by field, which the compiler keeps in registers.
@@ -81,8 +80,8 @@ fn next_seat(v: View, s: Seat) -> Seat
     let mut candidate = seat.candidate;
     let mut marked = seat.marked;
     let mut reserved = seat.reserved;
-    if v.at == v.k {
-        if s.candidate == v.wanted {
+    if s.candidate == v.wanted {
+        if v.at == v.n {
             lowest = s.lowest;
             candidate = s.candidate;
             marked = s.marked;
@@ -102,8 +101,8 @@ fn look(v: View, s: Seat) -> View
     requires { ⌜ v .k < 32 ⌝ }
     ensures { λ r. ⌜ r ≡ lookOf v s ⌝ }
 {
-    let at = next_place(v.at, v.k, s.candidate, v.wanted);
-    let free = next_place(v.free, v.k, s.candidate, 0);
+    let at = next_place(v.at, v.n, v.k, s.candidate, v.wanted);
+    let free = next_place(v.free, v.n, v.k, s.candidate, 0);
     let seat = next_seat(v, s);
     View {
         wanted: v.wanted,

@@ -3,10 +3,10 @@ use Rattle.seats.proofs.next_seat.Statement.{statement}
 use Rattle.seats.proofs.next_seat.Tie as tie
 
 returns : tie.Need-returns
-returns c = simp (eq-eqb _ _ (c .before .before .before .if1 .taken), eq-eqb _ _ (c .if2 .taken))
+returns c = simp (eq-eqb _ _ (c .before .before .if1 .taken), eq-eqb _ _ (c .if2 .taken))
 
 returns-2 : tie.Need-returns-2
-returns-2 c = simp (eq-eqb _ _ (c .before .before .before .if1 .taken), ne-eqb _ _ (c .if2 .left))
+returns-2 c = simp (eq-eqb _ _ (c .before .before .if1 .taken), ne-eqb _ _ (c .if2 .left))
 
 returns-3 : tie.Need-returns-3
 returns-3 c = simp (ne-eqb _ _ (c .if1 .left))
