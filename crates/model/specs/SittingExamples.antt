@@ -85,8 +85,10 @@ supervisorRows =
     refused "open with allowance 1,001" openNow room (opens 0 1001) 17 ∷
     refused "open: 15 before 17" openNow room (opens 5 0) 15 ∷
     refused "open: 10 before 15" openNow room (openSitting 5 0 cardA (sevens 2) (sevens 14)) 10 ∷
+    refused "open with a short work area" openNow room (openSitting 0 3 cardA (sevens 5) (sevens 11)) 10 ∷
     refused "open: 2 before 10" openNow room (openSitting 5 0 (set cardA 3 2) [] []) 2 ∷
     act "seat in the first empty record" openNow (seatOf 5 40 1 9 ∷ odd ∷ free ∷ []) (seatCandidate 0 8) 0 0 0 openNow (seatOf 5 40 1 9 ∷ seatOf 8 0 0 0 ∷ free ∷ []) ∷
+    act "seat, and leave what is beyond the seats" openNow (replicate 32 free ++ (odd ∷ odd ∷ [])) (seatCandidate 0 8) 0 0 0 openNow ((seatOf 8 0 0 0 ∷ replicate 31 free) ++ (odd ∷ odd ∷ [])) ∷
     refused "seat by a candidate" openNow room (seatCandidate 5 8) 15 ∷
     refused "seat: 15 before 16" closedNow room (seatCandidate 0 5) 15 ∷
     refused "seat before opening" (sittingOf 3 3 1 32) room (seatCandidate 0 8) 15 ∷
@@ -96,30 +98,53 @@ supervisorRows =
     refused "seat beyond the 32nd" openNow (replicate 32 (seatOf 5 0 0 0) ++ (free ∷ [])) (seatCandidate 0 8) 16 ∷
     act "close" openNow room (closeSitting 0) 0 0 0 closedNow room ∷
     refused "close twice" closedNow room (closeSitting 0) 15 ∷
+    refused "close before opening" (sittingOf 0 3 1 32) room (closeSitting 0) 15 ∷
     refused "close by a candidate" openNow room (closeSitting 5) 15 ∷
     []
 
--- Submissions and what is read.
-candidateRows : List Example
-candidateRows =
+-- Submissions: what is marked, what counts, and the order of the refusals.
+submissionRows : List Example
+submissionRows =
     act "a first sheet" openNow room (submitSheet 6 cardA sheetD) 0 37 0 (sittingOf 1 3 2 32) (seatOf 5 40 1 9 ∷ seatOf 6 37 1 0 ∷ free ∷ []) ∷
     act "a lower sheet" openNow room (submitSheet 5 cardA sheetD) 0 37 0 (sittingOf 1 3 2 32) (seatOf 5 37 1 9 ∷ seatOf 6 0 0 0 ∷ free ∷ []) ∷
     act "a higher sheet" openNow room (submitSheet 5 cardA (set sheetD 8 0)) 0 43 0 (sittingOf 1 3 2 32) room ∷
     act "a mark other than 1 is a mark" openNow (seatOf 5 36 2 9 ∷ []) (submitSheet 5 cardA sheetD) 0 37 0 (sittingOf 1 3 2 32) (seatOf 5 36 1 9 ∷ []) ∷
     act "refused by 13, and counted" openNow room (submitSheet 5 cardA (replicate 9 255)) 13 0 0 (sittingOf 1 3 2 32) room ∷
+    act "refused by 12, and counted" openNow room (submitSheet 5 cardA (set sheetD 0 3)) 12 0 0 (sittingOf 1 3 2 32) room ∷
     act "refused by 11, and counted" openNow room (submitSheet 5 cardA []) 11 0 0 (sittingOf 1 3 2 32) room ∷
     refused "refused by 5, not counted" openNow room (submitSheet 5 (cardA ++ (7 ∷ [])) sheetD) 5 ∷
+    refused "refused by 1, not counted" openNow room (submitSheet 5 (7 ∷ cardA) sheetD) 1 ∷
+    refused "refused by 8, not counted" openNow room (submitSheet 5 (set cardA 29 7) sheetD) 8 ∷
+    act "the first of two records, and none beyond the seats" openNow (seatOf 5 40 1 9 ∷ seatOf 5 40 1 9 ∷ (replicate 30 free ++ (seatOf 5 40 1 9 ∷ []))) (submitSheet 5 cardA sheetD) 0 37 0
+    (sittingOf 1 3 2 32) (seatOf 5 37 1 9 ∷ seatOf 5 40 1 9 ∷ (replicate 30 free ++ (seatOf 5 40 1 9 ∷ []))) ∷
+    refused "a seat beyond the 32nd is none" openNow (replicate 32 free ++ (seatOf 5 40 1 9 ∷ [])) (submitSheet 5 cardA sheetD) 16 ∷
+    refused "2 before 15" closedNow room (submitSheet 0 (set cardA 3 2) sheetD) 2 ∷
+    refused "a sheet before opening" (sittingOf 0 3 1 32) room (submitSheet 5 cardA sheetD) 15 ∷
+    refused "15 before 16 and 17" (sittingOf 2 3 3 32) room (submitSheet 7 cardA []) 15 ∷
     refused "a sheet of the supervisor" openNow room (submitSheet 0 cardA sheetD) 15 ∷
     refused "a sheet after closing" closedNow room (submitSheet 5 cardA sheetD) 15 ∷
     refused "a sheet without a seat" openNow room (submitSheet 7 cardA sheetD) 16 ∷
     refused "the allowance is spent: 17 before 11" (sittingOf 1 3 3 32) room (submitSheet 5 cardA []) 17 ∷
     refused "16 before 17" (sittingOf 1 3 3 32) room (submitSheet 7 cardA []) 16 ∷
+    []
+
+-- What is read.
+readingRows : List Example
+readingRows =
     act "the supervisor reads the least" openNow room (readLeast 0) 0 32 0 openNow room ∷
+    act "the supervisor reads the least after closing" closedNow room (readLeast 0) 0 32 0 closedNow room ∷
+    refused "least: 15 before 16" openNow room (readLeast 7) 15 ∷
+    refused "a state of 3 is not closed" (sittingOf 3 3 1 32) room (readLeast 5) 15 ∷
     refused "a candidate reads the least before closing" openNow room (readLeast 5) 15 ∷
     act "a candidate reads the least after closing" closedNow room (readLeast 5) 0 32 0 closedNow room ∷
     refused "no seat, no least" closedNow room (readLeast 7) 16 ∷
     refused "no least before opening" (sittingOf 0 3 1 32) room (readLeast 0) 15 ∷
     act "the own lowest" openNow room (readLowest 5 5) 0 40 1 openNow room ∷
+    act "the own lowest after closing" closedNow room (readLowest 5 5) 0 40 1 closedNow room ∷
+    act "a lowest is the first record's" openNow (seatOf 5 40 1 9 ∷ seatOf 5 35 1 9 ∷ []) (readLowest 0 5) 0 40 1 openNow (seatOf 5 40 1 9 ∷ seatOf 5 35 1 9 ∷ []) ∷
+    refused "no lowest before opening" (sittingOf 0 3 1 32) room (readLowest 0 5) 15 ∷
+    refused "lowest: 15 before 16" openNow room (readLowest 5 7) 15 ∷
+    refused "the own lowest without a seat" openNow room (readLowest 7 7) 16 ∷
     act "none yet" closedNow room (readLowest 0 6) 0 0 0 closedNow room ∷
     act "a lowest of 0 is told from none" openNow (seatOf 5 0 1 0 ∷ []) (readLowest 5 5) 0 0 1 openNow (seatOf 5 0 1 0 ∷ []) ∷
     refused "another's lowest" openNow room (readLowest 5 6) 15 ∷
@@ -127,6 +152,7 @@ candidateRows =
     refused "the lowest of 0" openNow room (readLowest 0 0) 16 ∷
     act "submissions used" closedNow room (readUsed 0) 0 1 0 closedNow room ∷
     refused "submissions used, by a candidate" openNow room (readUsed 5) 15 ∷
+    refused "submissions used at a state of 3" (sittingOf 3 3 1 32) room (readUsed 0) 15 ∷
     refused "submissions used before opening" (sittingOf 0 3 1 32) room (readUsed 0) 15 ∷
     []
 
@@ -154,13 +180,13 @@ historyShown seats acts = map toldNumbers (toldFrom seats [] acts)
 -- A sitting with an allowance of three on a list of two seats.
 abbrev wholeSitting : List Act
 wholeSitting =
-    seatCandidate 0 5 ∷ opens 0 3 ∷ seatCandidate 0 5 ∷ seatCandidate 0 5 ∷ seatCandidate 0 6 ∷ seatCandidate 0 7 ∷
+    seatCandidate 0 5 ∷ opens 0 3 ∷ seatCandidate 0 0 ∷ seatCandidate 0 5 ∷ seatCandidate 0 5 ∷ seatCandidate 0 6 ∷ seatCandidate 0 7 ∷
     readLowest 5 5 ∷ submitSheet 5 cardA (set sheetD 8 0) ∷ submitSheet 5 cardA sheetD ∷ readLowest 0 5 ∷ readLowest 6 6 ∷ readLeast 5 ∷
     submitSheet 6 cardA [] ∷ submitSheet 6 cardA sheetD ∷ readUsed 0 ∷ closeSitting 0 ∷ readLeast 6 ∷ closeSitting 0 ∷ opens 0 1 ∷ readLowest 0 5 ∷ []
 
 abbrev wholeTold : List (List ℕ)
 wholeTold =
-    (15 ∷ 0 ∷ 0 ∷ []) ∷ (0 ∷ 32 ∷ 0 ∷ []) ∷ (0 ∷ 0 ∷ 0 ∷ []) ∷ (16 ∷ 0 ∷ 0 ∷ []) ∷ (0 ∷ 0 ∷ 0 ∷ []) ∷ (16 ∷ 0 ∷ 0 ∷ []) ∷
+    (15 ∷ 0 ∷ 0 ∷ []) ∷ (0 ∷ 32 ∷ 0 ∷ []) ∷ (16 ∷ 0 ∷ 0 ∷ []) ∷ (0 ∷ 0 ∷ 0 ∷ []) ∷ (16 ∷ 0 ∷ 0 ∷ []) ∷ (0 ∷ 0 ∷ 0 ∷ []) ∷ (16 ∷ 0 ∷ 0 ∷ []) ∷
     (0 ∷ 0 ∷ 0 ∷ []) ∷ (0 ∷ 43 ∷ 0 ∷ []) ∷ (0 ∷ 37 ∷ 0 ∷ []) ∷ (0 ∷ 37 ∷ 1 ∷ []) ∷ (0 ∷ 0 ∷ 0 ∷ []) ∷ (15 ∷ 0 ∷ 0 ∷ []) ∷
     (11 ∷ 0 ∷ 0 ∷ []) ∷ (17 ∷ 0 ∷ 0 ∷ []) ∷ (0 ∷ 3 ∷ 0 ∷ []) ∷ (0 ∷ 0 ∷ 0 ∷ []) ∷ (0 ∷ 32 ∷ 0 ∷ []) ∷ (15 ∷ 0 ∷ 0 ∷ []) ∷ (0 ∷ 32 ∷ 0 ∷ []) ∷
     (16 ∷ 0 ∷ 0 ∷ []) ∷ []
@@ -180,9 +206,13 @@ supervisor-rows-hold : AllHold supervisorRows
 unfolding supervisorRows agrees actShown
 supervisor-rows-hold = omega arith
 
-candidate-rows-hold : AllHold candidateRows
-unfolding candidateRows agrees actShown
-candidate-rows-hold = omega arith
+submission-rows-hold : AllHold submissionRows
+unfolding submissionRows agrees actShown
+submission-rows-hold = omega arith
+
+reading-rows-hold : AllHold readingRows
+unfolding readingRows agrees actShown
+reading-rows-hold = omega arith
 
 sitting-wrong-differ : NoneHold sittingWrong
 unfolding sittingWrong agrees actShown

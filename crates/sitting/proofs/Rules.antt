@@ -14,7 +14,7 @@ use Rattle.model.specs.SittingState.{phaseOf, lowestOf, factsOf, stateOf}
 use Rattle.model.specs.Calls.{applies, onAct, actRequest, actRefusals, actCost, firstRefusal}
 use Rattle.model.specs.Sittings.{answerTo}
 use Rattle.seats.specs.declared.View.{View}
-use Rattle.sitting.specs.Seen.{seen}
+use Rattle.sitting.specs.Seen.{seen, unseated}
 use Rattle.sitting.proofs.Phases.{open-phase, closed-phase}
 
 module _ (z : Sitting) where
@@ -65,9 +65,9 @@ module _ (z : Sitting) where
         (d c : ℕ) →
         answerTo (seen z v) (readLowest d c) ≡
         cond (not (notPermitted (factsOf (stateOf z [])) (readLowest d c)))
-        (cond (eqb c 0 || not (ltb (v .at) (v .n))) (Refused SeatUnavailable) (Cost (Option·getD (lowestOf (v .seat)) 0)))
+        (cond (unseated v c) (Refused SeatUnavailable) (Cost (Option·getD (lowestOf (v .seat)) 0)))
         (Refused NotPermitted)
-    unfolding answerTo actRequest actRefusals applies onAct notPermitted seatUnavailable firstRefusal actCost seen
+    unfolding answerTo actRequest actRefusals applies onAct notPermitted seatUnavailable firstRefusal actCost seen unseated
     lowest-tests d c = swapped (notPermitted (factsOf (stateOf z [])) (readLowest d c)) _ _
       where
         swapped : (b : Bool) (x y : Answer) → cond b x y ≡ cond (not b) y x

@@ -1,19 +1,18 @@
 -- The answer to a submission, by its tests, and what a submission does, by its answer.
 use Prim.Native.Nat.{ℕ, _+_}
 use mathlib.Core.Path.{_≡_, refl, sym, ap, _∙_}
-use mathlib.Core.Bool.{Bool, true, false, cond, not, _||_}
+use mathlib.Core.Bool.{Bool, true, false, cond, not, _&&_, _||_}
 use mathlib.Core.List.{List, [], _∷_}
 use mathlib.Core.Logic.{⊎-elim}
 use lib.Dec.{eqb, leb, ltb}
 use Rattle.model.specs.declared.Refusal.{Refusal}
-use Rattle.model.specs.declared.Refusal.the-variants.{NotACard, Version, RackSize, SlotCount, CardLength, PriceRange, NotConvex, LoadRange}
-use Rattle.model.specs.declared.Refusal.the-variants.{NotMonotone, BufferTooShort, WrongLength, EntryRange, LoadNotServed, ZeroStart}
-use Rattle.model.specs.declared.Refusal.the-variants.{NotPermitted, SeatUnavailable, AllowanceSpent}
+use Rattle.model.specs.declared.Refusal.the-variants.{WrongLength, EntryRange, LoadNotServed, NotPermitted, SeatUnavailable, AllowanceSpent}
 use Rattle.model.specs.declared.Answer.{Answer}
 use Rattle.model.specs.declared.Answer.the-variants.{Cost, Refused}
 use Rattle.model.specs.declared.Seat.{Seat}
 use Rattle.model.specs.declared.Sitting.{Sitting}
 use Rattle.model.specs.declared.Reply.{Reply}
+use Rattle.model.specs.Answers.{refusalNumber}
 use Rattle.model.specs.Instance.{instanceOf}
 use Rattle.model.specs.Sheets.{sheetCost}
 use Rattle.model.specs.Acts.{submitSheet, notPermitted, seatUnavailable, allowanceSpent}
@@ -31,7 +30,7 @@ use Rattle.card.specs.Checking.{checkedOf}
 use Rattle.card.proofs.Groups.{refused-answer}
 use Rattle.seats.specs.declared.View.{View}
 use Rattle.sitting.specs.declared.Outcome.{Outcome}
-use Rattle.sitting.specs.Seen.{seen, placeFor, recordFor, eventSeen, replySeen, outcomeOf, replyGiving, unchangedOf, withSubmissions, Answered}
+use Rattle.sitting.specs.Seen.{seen, placeFor, recordFor, eventSeen, replySeen, outcomeOf, replyGiving, unchangedOf, withSubmissions, Uncounted, Answered}
 use Rattle.sitting.proofs.Phases.{open-phase}
 
 -- What f makes of each refusal of a list is b.
@@ -67,18 +66,19 @@ card-not-counted s e =
 module _ (z : Sitting) (v : View) (d : ℕ) (s x : List ℕ) where
   -- A refusal by which the submission does not count.
   pub refused-answered :
-      {y : Refusal} → answerTo (seen z v) (submitSheet d s x) ≡ Refused y → submissionRefused y ≡ nothingDone →
-      Answered z v (submitSheet d s x) (Refused y) (z .submissions)
+      {y : Refusal} {b : Answer} {n : ℕ} → Uncounted y z b n → answerTo (seen z v) (submitSheet d s x) ≡ Refused y →
+      submissionRefused y ≡ nothingDone → Answered z v (submitSheet d s x) b n
   unfolding eventSeen eventOf actRefused sittingAfter
-  refused-answered e none = record { answer-is = sym e; submissions-are = rw (e, none) }
+  refused-answered u e none = record { answer-is = u .refused-is ∙ sym e; submissions-are = u .submissions-stay ∙ rw (e, none) }
 
   -- A submission on a card that is refused is refused with the same number.
   pub card-answered :
-      {c : Checked} {y : Refusal} → c ≡ checkedOf s → c ≡ Invalid y → Answered z v (submitSheet d s x) (Refused y) (z .submissions)
+      {c : Checked} {y : Refusal} {b : Answer} {n : ℕ} → Uncounted y z b n → c ≡ checkedOf s → c ≡ Invalid y →
+      Answered z v (submitSheet d s x) b n
   unfolding answerTo actRequest actRefusals
-  card-answered is e =
+  card-answered u is e =
       let refused = refused-answer s is e in
-      refused-answered (on-card-refused s _ _ _ _ _ refused) (card-not-counted s refused)
+      refused-answered u (on-card-refused s _ _ _ _ _ refused) (card-not-counted s refused)
 
   module _ (given : Accepted s) where
     -- On an accepted card the further refusals decide.
@@ -117,23 +117,11 @@ data Quiet : Event → Type 0 where
 -- Every refusal of a submission is of that kind.
 refused-quiet : (y : Refusal) → Quiet (submissionRefused y)
 unfolding submissionRefused
-refused-quiet NotACard = does-nothing
-refused-quiet Version = does-nothing
-refused-quiet RackSize = does-nothing
-refused-quiet SlotCount = does-nothing
-refused-quiet CardLength = does-nothing
-refused-quiet PriceRange = does-nothing
-refused-quiet NotConvex = does-nothing
-refused-quiet LoadRange = does-nothing
-refused-quiet NotMonotone = does-nothing
-refused-quiet BufferTooShort = does-nothing
-refused-quiet WrongLength = counts
-refused-quiet EntryRange = counts
-refused-quiet LoadNotServed = counts
-refused-quiet ZeroStart = does-nothing
-refused-quiet NotPermitted = does-nothing
-refused-quiet SeatUnavailable = does-nothing
-refused-quiet AllowanceSpent = does-nothing
+refused-quiet y = either (leb 11 (refusalNumber y) && leb (refusalNumber y) 13)
+  where
+    either : (b : Bool) → Quiet (cond b submissionCounted nothingDone)
+    either true = counts
+    either false = does-nothing
 
 -- So it changes no record, and in the sitting the submissions used at most.
 quiet-parts :

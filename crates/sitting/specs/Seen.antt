@@ -1,9 +1,9 @@
 -- What an act makes of a view of the list of seats.
 use Prim.Native.Nat.{ℕ}
 use mathlib.Core.Path.{_≡_}
-use mathlib.Core.Bool.{not}
+use mathlib.Core.Bool.{Bool, not, _||_}
 use mathlib.Core.List.{[]}
-use lib.Dec.{ltb}
+use lib.Dec.{ltb, eqb}
 use Rattle.model.specs.declared.Refusal.{Refusal}
 use Rattle.model.specs.declared.Answer.{Answer}
 use Rattle.model.specs.declared.Answer.the-variants.{Cost, Refused}
@@ -32,6 +32,10 @@ seen z v =
       full = not (ltb (v .free) (v .n));
       lowest = λ c. lowestOf (v .seat);
     }
+
+-- A number names no seat, by a view for it.
+unfoldable pub unseated : View → ℕ → Bool
+unseated v c = eqb c 0 || not (ltb (v .at) (v .n))
 
 -- The place that an event changes: the first empty record, the candidate's, or none, which is said by the length of the list.
 unfoldable pub placeFor : View → Event → ℕ
@@ -76,6 +80,11 @@ unchangedOf len x z = record { at = len; seat = emptySeat; reply = replyGiving (
 -- A sitting with another number of submissions used.
 unfoldable pub withSubmissions : Sitting → ℕ → Sitting
 withSubmissions z n = record { state = z .state; allowance = z .allowance; submissions = n; least = z .least }
+
+-- An answer and a number of submissions used are those of a submission that is refused and does not count.
+pub record Uncounted (x : Refusal) (z : Sitting) (answer : Answer) (submissions : ℕ) : Type 0 where
+  pub refused-is : answer ≡ Refused x
+  pub submissions-stay : submissions ≡ z .submissions
 
 -- An answer and a number of submissions used are those of a submission.
 pub record Answered (z : Sitting) (v : View) (a : Act) (answer : Answer) (submissions : ℕ) : Type 0 where

@@ -19,7 +19,7 @@ ghost use Rattle.model.specs.SittingState.{phaseOf, markedRecord, factsOf, stat
 ghost use Rattle.model.specs.Calls.{actIn, answer, planAtExit, workAtExit};
 ghost use Rattle.model.specs.Sittings.{answerTo, replyOf};
 ghost use Rattle.card.specs.Checking.{Ready};
-ghost use Rattle.sitting.specs.Seen.{seen, outcomeOf, replySeen, replyGiving, unchangedOf, withSubmissions, Answered, openingOf};
+ghost use Rattle.sitting.specs.Seen.{seen, unseated, outcomeOf, replySeen, replyGiving, unchangedOf, withSubmissions, Uncounted, Answered, openingOf};
 
 // What an act that may change the list of seats does: the place of a record, what it becomes, and the reply. Where no record changes, the
 // place is the length of the list.
@@ -140,6 +140,16 @@ pub fn seating(sitting: Sitting, caller: u16, candidate: u16, v: View) -> Outcom
     }
 }
 
+// A submission that is refused and does not count.
+fn uncounted(x: Refusal, sitting: Sitting) -> Submission
+    ensures { λ r. ⌜ Uncounted x sitting (r .answer) (r .submissions) ⌝ }
+{
+    Submission {
+        answer: Answer::Refused(x),
+        submissions: sitting.submissions,
+    }
+}
+
 // The answer to a submission on an accepted card, by a view for the caller: refusals 15, 16 and 17, and then as marking. The submission
 // counts from there on.
 fn answer_on(
@@ -153,37 +163,20 @@ fn answer_on(
     requires { ⌜ Ready (now card) h ⌝ }
     ensures { λ r. ⌜ Answered sitting v (submitSheet caller (now (card .entry)) (now (sheet .entry))) (r .answer) (r .submissions) ⌝ }
 {
-    let submissions = sitting.submissions;
     if caller == 0 {
-        let answer = Answer::Refused(Refusal::NotPermitted);
-        return Submission {
-            answer,
-            submissions,
-        };
+        return uncounted(Refusal::NotPermitted, sitting);
     }
     if sitting.state != 1 {
-        let answer = Answer::Refused(Refusal::NotPermitted);
-        return Submission {
-            answer,
-            submissions,
-        };
+        return uncounted(Refusal::NotPermitted, sitting);
     }
     if v.n <= v.at {
-        let answer = Answer::Refused(Refusal::SeatUnavailable);
-        return Submission {
-            answer,
-            submissions,
-        };
+        return uncounted(Refusal::SeatUnavailable, sitting);
     }
-    if sitting.allowance <= submissions {
-        let answer = Answer::Refused(Refusal::AllowanceSpent);
-        return Submission {
-            answer,
-            submissions,
-        };
+    if sitting.allowance <= sitting.submissions {
+        return uncounted(Refusal::AllowanceSpent, sitting);
     }
     let answer = calls::mark_sheet_on(card, h, sheet);
-    let counted = submissions + 1;
+    let counted = sitting.submissions + 1;
     Submission {
         answer,
         submissions: counted,
@@ -202,10 +195,7 @@ fn answer_submission(
 {
     match card::check(card) {
         Checked::Valid(h) => answer_on(sitting, caller, v, card, h, sheet),
-        Checked::Invalid(x) => Submission {
-            answer: Answer::Refused(x),
-            submissions: sitting.submissions,
-        },
+        Checked::Invalid(x) => uncounted(x, sitting),
     }
 }
 
@@ -295,6 +285,19 @@ fn may_read_lowest(sitting: Sitting, caller: u16, candidate: u16) -> bool
     caller == candidate
 }
 
+// Whether a number names no seat, by a view for this number: it is 0, or unknown.
+fn no_seat(candidate: u16, v: View) -> bool
+    ensures { λ r. ⌜ r ≡ unseated v candidate ⌝ }
+{
+    if candidate == 0 {
+        return true;
+    }
+    if v.at < v.n {
+        return false;
+    }
+    true
+}
+
 // Reads a candidate's lowest cost, by a view for this candidate: refusals 15 and 16.
 pub fn reading_lowest(sitting: Sitting, caller: u16, candidate: u16, v: View) -> Reply
     ensures { λ r. ⌜ r ≡ replySeen sitting v (readLowest caller candidate) ⌝ }
@@ -302,10 +305,7 @@ pub fn reading_lowest(sitting: Sitting, caller: u16, candidate: u16, v: View) ->
     if !may_read_lowest(sitting, caller, candidate) {
         return reply_giving(Answer::Refused(Refusal::NotPermitted), 0, sitting);
     }
-    if candidate == 0 {
-        return reply_giving(Answer::Refused(Refusal::SeatUnavailable), 0, sitting);
-    }
-    if v.n <= v.at {
+    if no_seat(candidate, v) {
         return reply_giving(Answer::Refused(Refusal::SeatUnavailable), 0, sitting);
     }
     let seat = v.seat;

@@ -34,3 +34,4 @@ pub mod SittingEvents
 pub mod SittingHistory
 pub mod SittingRuns
 pub mod SittingBounds
+pub mod SittingCalls

@@ -25,4 +25,6 @@ returns-5 : tie.Need-returns-5
 returns-5 c = search (marked-answered, submit-tests, eq-eqb, ne-eqb, lt-ltb, lt-leb)
 
 pub answer-on-spec : {M : Type 1} → statement M
-answer-on-spec = tie.close (tie.spec returns returns-2 returns-3 returns-4 (λ c κs. search needs) (λ c. search needs) returns-5)
+answer-on-spec =
+    tie.close (tie.spec (λ c κs. search needs) returns (λ c κs. search needs) returns-2 (λ c κs. search needs) returns-3
+    (λ c κs. search needs) returns-4 (λ c κs. search needs) (λ c. search needs) returns-5)

@@ -12,4 +12,5 @@ returns-2 c = search card-answered
 
 pub answer-submission-spec : {M : Type 1} → statement M
 answer-submission-spec =
-    tie.close (tie.spec (λ c κs. search needs) (λ c. search needs) answer-on-requires (λ c. search needs) (λ c. search needs) returns-2)
+    tie.close (tie.spec (λ c κs. search needs) (λ c. search needs) answer-on-requires (λ c. search needs) (λ c κs. search needs)
+    (λ c. search needs) returns-2)

@@ -1,5 +1,4 @@
 use Rattle.lists.specs.Tests.{test-failed, test-passed}
-use borrow.Author.Tests.{eq-eqb, ne-eqb, lt-ltb, le-ltb}
 use Rattle.sitting.proofs.Rules.{lowest-tests}
 use Rattle.sitting.proofs.Lowest.{lowest-refused, lowest-none, lowest-some}
 use borrow.Author.Needs.{needs}
@@ -13,25 +12,41 @@ returns c =
 
 returns-2 : tie.Need-returns-2
 returns-2 c =
-    let asked = c .before .before in
-    search (lowest-refused, lowest-tests, eq-eqb, test-passed (asked .before .may-read-lowest .ensures) (asked .if1 .left))
+    let known = c .before in
+    let asked = known .before .before in
+    search (
+      lowest-refused,
+      lowest-tests,
+      test-passed (asked .before .may-read-lowest .ensures) (asked .if1 .left),
+      ← known .before .no-seat .ensures,
+      known .if2 .taken,
+    )
 
 returns-3 : tie.Need-returns-3
 returns-3 c =
-    let asked = c .before .before .before .before in
-    search (lowest-refused, lowest-tests, ne-eqb, le-ltb, test-passed (asked .before .may-read-lowest .ensures) (asked .if1 .left))
+    let known = c .before .before .before .before in
+    let asked = known .before .before in
+    search (
+      lowest-none,
+      lowest-tests,
+      test-passed (asked .before .may-read-lowest .ensures) (asked .if1 .left),
+      ← known .before .no-seat .ensures,
+      known .if2 .left,
+    )
 
 returns-4 : tie.Need-returns-4
 returns-4 c =
-    let asked = c .before .before .before .before .before .before .before in
-    search (lowest-none, lowest-tests, ne-eqb, lt-ltb, test-passed (asked .before .may-read-lowest .ensures) (asked .if1 .left))
-
-returns-5 : tie.Need-returns-5
-returns-5 c =
-    let asked = c .before .before .before .before .before .before .before in
-    search (lowest-some, lowest-tests, ne-eqb, lt-ltb, test-passed (asked .before .may-read-lowest .ensures) (asked .if1 .left))
+    let known = c .before .before .before .before in
+    let asked = known .before .before in
+    search (
+      lowest-some,
+      lowest-tests,
+      test-passed (asked .before .may-read-lowest .ensures) (asked .if1 .left),
+      ← known .before .no-seat .ensures,
+      known .if2 .left,
+    )
 
 pub reading-lowest-spec : {M : Type 1} → statement M
 reading-lowest-spec =
-    tie.close (tie.spec (λ c κs. search needs) (λ c κs. search needs) returns (λ c κs. search needs) returns-2 (λ c κs. search needs)
-    returns-3 (λ c κs. search needs) returns-4 (λ c κs. search needs) returns-5)
+    tie.close (tie.spec (λ c κs. search needs) (λ c κs. search needs) returns (λ c κs. search needs) (λ c κs. search needs) returns-2
+    (λ c κs. search needs) returns-3 (λ c κs. search needs) returns-4)
