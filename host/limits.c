@@ -35,8 +35,9 @@ enum {
     LOADS_AT = TABLE_AT + 4 * (TOP_STEP + 1)
 };
 
-/* The stack on which a call is measured, and the bytes that a function of known size writes on it. */
-enum { STACK_BYTES = 1 << 20, KNOWN_BYTES = 4096, KNOWN_FRAME = 64 };
+/* The stack on which a call is measured, the bytes that a function of known size writes on it, and the number of which
+ * LAMP_MAX_STACK is a multiple. */
+enum { STACK_BYTES = 1 << 20, KNOWN_BYTES = 4096, KNOWN_FRAME = 64, STACK_UNIT = 256 };
 
 /* A start whose practice card is as long as one can be, and how many practice cards are looked at in a row. */
 enum { LONGEST_START = 6548, STARTS = 100000 };
@@ -44,6 +45,7 @@ enum { LONGEST_START = 6548, STARTS = 100000 };
 static uint8_t card[CARD_BYTES], plan[PLAN_BYTES], work[EXACT_BYTES], sheet[SHEET_BYTES], practice[PRACTICE_BYTES];
 static struct lamp_seat seats[SEATS + 1];
 static unsigned compared, faults;
+static size_t largest_stack; /* of the calls measured so far */
 
 /* Counts a comparison, and a fault if it does not hold. */
 static int counted(int holds)
@@ -370,6 +372,8 @@ static void measure(const struct call *call, const char *show)
     printf("%s: %zu bytes of stack on %s, %zu when it refuses\n", call->name, accepted, show, refused);
     compare_range(call->name, "stack", accepted, 1, LAMP_MAX_STACK);
     compare_range(call->name, "stack when it refuses", refused, 1, LAMP_MAX_STACK);
+    largest_stack = accepted > largest_stack ? accepted : largest_stack;
+    largest_stack = refused > largest_stack ? refused : largest_stack;
 }
 
 /* A plan buffer of one byte less is refused too. */
@@ -485,6 +489,7 @@ static void compare_with_library(void)
     put_table(1);
     for (size_t k = 0; k < CALLS_ON_A_CARD; k++)
         measure(&calls[k], "the largest show with a falling table");
+    compare("LAMP_MAX_STACK", "bytes", LAMP_MAX_STACK, (largest_stack + STACK_UNIT - 1) / STACK_UNIT * STACK_UNIT);
     compare_plan_length();
     compare_sitting();
     compare_empty();

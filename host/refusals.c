@@ -257,23 +257,32 @@ static void refuse_seats(void)
     sheet[0] = 2;
 }
 
-static struct lamp_reply low_part(uint64_t caller, uint64_t candidate)
-{
-    return lamp_sitting_lowest(opened, (uint16_t)caller, (uint16_t)candidate, seats, SEATS);
-}
+/* Four acts as a host calls them that leaves something above the 16 bits of a caller and of a candidate. gcc itself
+ * leaves zeros there. So each act is called as if its caller and its candidate had 64 bits, which System V C hands over
+ * in the same registers. The compiler cannot tell which functions these are. */
+typedef struct lamp_reply of_caller(struct lamp_sitting, uint64_t);
+typedef struct lamp_reply of_seats(struct lamp_sitting, uint64_t, struct lamp_seat *, size_t);
+typedef struct lamp_reply of_candidate(struct lamp_sitting, uint64_t, uint64_t, struct lamp_seat *, size_t);
+static of_caller *volatile whole_used = (of_caller *)(void (*)(void))lamp_sitting_used;
+static of_seats *volatile whole_least = (of_seats *)(void (*)(void))lamp_sitting_least;
+static of_candidate *volatile whole_seat = (of_candidate *)(void (*)(void))lamp_sitting_seat;
+static of_candidate *volatile whole_lowest = (of_candidate *)(void (*)(void))lamp_sitting_lowest;
 
-/* The compiler cannot tell which function this is, as with any_half below. */
-static struct lamp_reply (*volatile any_part)(uint64_t, uint64_t) = low_part;
-
-/* C gives an act the low 16 bits of a caller and a candidate; the others must not count. */
-static void read_by_low_bits(void)
+/* Only the low 16 bits of a caller and a candidate count, whatever is above them. */
+static void read_by_low_bits(uint64_t above)
 {
-    struct lamp_reply found = any_part(UINT64_C(0xFFFFFFFFFFFF0000) + 7, UINT64_C(0x10000) + 7);
+    struct lamp_reply found = whole_lowest(opened, above + 7, above + 7, seats, SEATS);
 
     expect_cost("lamp_sitting_lowest", (struct lamp_answer){found.number, found.cost}, 37);
-    found = any_part(UINT64_C(0x10000), UINT64_C(0x8000000000000000) + 7);
+    found = whole_lowest(opened, above, above + 7, seats, SEATS);
     expect_cost("lamp_sitting_lowest", (struct lamp_answer){found.number, found.cost}, 37);
-    refuse("lamp_sitting_lowest", any_part(8, UINT64_C(0x10000) + 7), LAMP_NOT_PERMITTED, opened);
+    found = whole_least(closed, above + 7, seats, SEATS);
+    expect_cost("lamp_sitting_least", (struct lamp_answer){found.number, found.cost}, closed.least);
+    found = whole_used(opened, above);
+    expect_cost("lamp_sitting_used", (struct lamp_answer){found.number, found.cost}, opened.submissions);
+    refuse("lamp_sitting_lowest", whole_lowest(opened, above + 8, above + 7, seats, SEATS), LAMP_NOT_PERMITTED, opened);
+    refuse("lamp_sitting_seat", whole_seat(opened, above, above, seats, SEATS), LAMP_SEAT_UNAVAILABLE, opened);
+    refuse("lamp_sitting_seat", whole_seat(opened, above, above + 7, seats, SEATS), LAMP_SEAT_UNAVAILABLE, opened);
 }
 
 static struct lamp_answer low_half(uint64_t start, uint8_t *bytes, size_t length)
@@ -336,7 +345,9 @@ int main(void)
     refuse_planning();
     refuse_callers();
     refuse_seats();
-    read_by_low_bits();
+    read_by_low_bits(UINT64_C(0x10000));
+    read_by_low_bits(UINT64_C(0x8000000000000000));
+    read_by_low_bits(UINT64_C(0xFFFFFFFFFFFF0000));
     plan_falling();
     refuse_handed_in();
     make_practice();

@@ -2,7 +2,9 @@
  * seated, a third one is not. They submit the sheets of document 01's example D, one with more light than the load of
  * slot 3, one with too little light there, the planner's own, and one more than the allowance has.
  *
- *   gcc -std=c11 -Wall -Wextra -Werror -Iinclude host/sitting.c target/staticlib/liblamp.a -o target/host/sitting
+ * In the repository, and in a release folder:
+ *   gcc -std=c11 -O2 -Wall -Wextra -Wswitch-enum -pedantic -Werror -Iinclude host/sitting.c target/staticlib/liblamp.a
+ *   gcc -std=c11 -O2 -Wall -Wextra -Wswitch-enum -pedantic -Werror -Iinclude samples/sitting.c lib/liblamp.a
  */
 #include <inttypes.h>
 #include <stddef.h>

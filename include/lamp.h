@@ -1,8 +1,8 @@
 /* lamp.h: the calls of liblamp.a, the lamp planner for a rack of laser modules.
  *
  * This file is the manual for the author of a host, a C program that uses the library. host/host.c (in a
- * release folder samples/host.c) is a whole host to copy from. LAMP_RELEASE below names the release, and
- * CHANGES.md says what each changed.
+ * release folder samples/host.c) is a whole host to copy from, and host/sitting.c (samples/sitting.c) is
+ * one that plays a sitting. LAMP_RELEASE below names the release, and CHANGES.md says what each changed.
  *
  *
  * WHAT THE LIBRARY DOES
@@ -227,7 +227,7 @@
  * A sitting is an examination on one card. The supervisor opens it, seats candidates and closes it, and
  * seated candidates submit sheets, which are marked. The seven calls lamp_sitting_.. are its acts. Each
  * act names its caller: 0 is the supervisor, and a candidate has a number from 1 to 65,535. The library
- * decides what a caller may do. That a caller is the one whose number is given, the host has to know.
+ * decides what a caller may do. The host has to make sure that a caller is the one whose number it gives.
  *
  *   act      who may do it, and when                          the cost that it gives
  *   open     the supervisor, at any time                      the least cost of the card
@@ -237,23 +237,26 @@
  *   least    the supervisor, while it is open or closed;      the least cost of the card
  *            a seated candidate, while it is closed
  *   lowest   the supervisor for any seat, and a seated        the lowest cost of the candidate's sheets
- *            candidate for the own, while it is open or       that were marked in this sitting
- *            closed
+ *            candidate for the own seat, while it is open     that were marked in this sitting
+ *            or closed
  *   used     the supervisor, while it is open or closed       how many submissions were used
  *
  * The sitting has an allowance of 1 to LAMP_MAX_ALLOWANCE submissions, one count for all candidates
  * together. A sheet that is marked uses one submission, and so does a sheet that is refused by 11, 12 or
  * 13. A submission that is refused by another number uses none. Closing ends seating and submitting. A
  * sitting lasts until the next opening that is accepted, which may come while it is open or closed and
- * empties all seats. An opening that is refused leaves the old sitting as it was.
+ * empties all seats. No act empties a single seat: a candidate keeps it until then. An opening that is
+ * refused leaves the old sitting as it was.
  *
  * What the host keeps. The library keeps nothing between two acts. The host keeps the sitting, a struct
  * lamp_sitting, and the list of seats, an array of struct lamp_seat with one record for each seat. It
  * hands the sitting to every act by value, and every act gives it back in its reply, refused or not: the
  * host hands the next act what the last one gave back. It lends the list to the acts that ask for it, as
- * the last one left it, and it lends the card of the opening to every submission. It alters none of the
- * three. Then every sequence of acts is answered by the rules of this section, and that is proved. Two
- * acts of one sitting must not run at the same time: the second is handed what the first gives back.
+ * the last one left it and with the same length, and it lends the card of the opening to every
+ * submission. It may read all three, and it alters none of them. Then every sequence of acts is answered
+ * by the rules of this section, and that is proved. Two acts of one sitting must not run at the same
+ * time: the second is handed what the first gives back. A host may keep several sittings, each with its
+ * own list, and their acts may run at the same time.
  *
  * A host begins with a sitting that is all zero, which is unopened. The list may hold anything before the
  * first opening, which empties it. The first LAMP_MAX_SEATS records of the list are its seats. A shorter
@@ -261,13 +264,17 @@
  * after the first LAMP_MAX_SEATS. seats_len counts records, and not bytes.
  *
  * What a caller is told is number, cost and marked. The sitting holds the least cost and is the host's to
- * keep: do not show it to a candidate. The list holds the lowest cost of every seat and is the host's to
- * keep too. It is proved that no candidate is told the least cost by lamp_sitting_least before the
- * sitting is closed, that no lowest cost that is marked is below the least cost, and that no more
- * submissions are used than the allowance.
+ * keep: do not show it to a candidate. After an opening, plan holds a plan of least cost. It is not for a
+ * candidate either. The list holds the lowest cost of every seat and is the host's to keep too.
  *
- * This opens a sitting with 30 submissions, seats candidate 4,021, and marks the candidate's sheet. The
- * buffers are those of A SHORT HOST above.
+ * It is proved that no candidate is told the least cost by lamp_sitting_least before the sitting is
+ * closed. For a host that keeps the rules above it is also proved that no lowest cost is below the least
+ * cost, and that no more submissions are used than the allowance. The library cannot see whether a
+ * submission is lent the card of the opening: it marks the sheet on the card that it is lent.
+ *
+ * This opens a sitting with 30 submissions, seats candidate 4,021, and marks the candidate's sheet, which
+ * has sheet_len bytes. The other buffers are those of A SHORT HOST above. A host looks at reply.number
+ * after each act. It keeps reply.sitting also after a refusal, since 11, 12 and 13 use a submission.
  *
  *     static struct lamp_seat seats[LAMP_MAX_SEATS];
  *     struct lamp_sitting sitting = {0, 0, 0, 0};
@@ -302,8 +309,9 @@
  * below has its refusals in the order in which they are tested. No call sets errno.
  *
  * The acts of a sitting give a third number, marked, and the sitting. marked is 1 only where
- * lamp_sitting_lowest gives a lowest cost, so that no cost at all is told from a cost of 0. In every other
- * reply it is 0. The sitting is given back as it was handed in, where nothing else is said at the act.
+ * lamp_sitting_lowest gives a lowest cost, so that a candidate without a marked sheet can be told from
+ * one whose lowest cost is 0. In every other reply it is 0. The sitting is given back as it was handed
+ * in, where nothing else is said at the act.
  *
  * Number 9 is never given, by any call, which is proved. Before release 2.0.0 a slot had to get its load
  * exactly, and lamp_plan_coarse gave refusal 9 for a table that falls. Now it reads G in the place of F,
@@ -315,8 +323,9 @@
  *
  * A buffer is a pointer and a length in bytes; only the list of seats has its length in records. All
  * buffers belong to the host, and a call uses them until it returns and no longer. A buffer must be as
- * long as its length says, and no two buffers of a call may overlap: these two rules the library cannot
- * check. A buffer of length 0 may come with any pointer, also NULL.
+ * long as its length says, no two buffers of a call may overlap, and a list of seats must be aligned to 8
+ * bytes, as every array of struct lamp_seat in C is: these three rules the library cannot check. A buffer
+ * of length 0 may come with any pointer, also NULL.
  *
  * Buffers that are read (card of every call but lamp_practice_card, a plan given to lamp_sheet, a sheet
  * given to lamp_mark or lamp_sitting_submit) have exactly the length of what they hold. So a plan is given
@@ -330,8 +339,8 @@
  * bytes asked for hold the answer, in a work buffer zeros, and all further bytes are as they were. After a
  * refusal all bytes are as they were.
  *
- * The list of seats is an array of struct lamp_seat of any length, aligned as C does it. The comment at
- * each act says which records it changes. After a refusal all records are as they were.
+ * The list of seats is an array of struct lamp_seat of any length. The comment at each act says which
+ * records it changes. After a refusal all records are as they were.
  *
  *   buffer                       bytes asked for
  *   plan                         T
@@ -363,7 +372,7 @@
  *
  * Each call has a contract, in crates/lamp/src/lib.rt of the repository, and this file says in plain
  * words what the contracts say. A contract gives the number, the cost and every byte of every written
- * buffer, for every input that keeps the two rules on buffers; that of an act also gives marked, the
+ * buffer, for every input that keeps the three rules on buffers; that of an act also gives marked, the
  * sitting and every record. The contracts are proved. docs/TRUST.md says what the proofs rest on. The use
  * of stack is measured and not proved.
  */
@@ -404,9 +413,9 @@ extern "C" {
  * multiple of 256. It counts the call's return address, those arguments and the reply that lie on the
  * stack, and the memset of the GNU C library. A dynamically linked host that binds symbols at their first
  * use needs more in the first call that uses memset, because the dynamic linker then runs on the same
- * stack: 6,648 bytes were measured on one machine. Such a host may use memset once before, or be linked
+ * stack: 6,904 bytes were measured on one machine. Such a host may use memset once before, or be linked
  * with -Wl,-z,now. */
-#define LAMP_MAX_STACK 4096
+#define LAMP_MAX_STACK 3840
 
 /* What every call but the acts of a sitting returns. */
 struct lamp_answer {
@@ -419,7 +428,7 @@ struct lamp_seat {
     uint64_t lowest;    /* the lowest cost of the candidate's marked sheets, in points; 0 if there is none */
     uint16_t candidate; /* the candidate's number; 0 in an empty record */
     uint16_t marked;    /* 1 if a sheet was marked, else 0 */
-    uint32_t reserved;  /* 0 in every record that a sitting uses; the host leaves it as it is */
+    uint32_t reserved;  /* 0 after an opening; no act gives it another value, and the host leaves it as it is */
 };
 
 /* A sitting: 32 bytes. One that is all zero is unopened. It holds the least cost: do not show it to a candidate. */
@@ -440,7 +449,7 @@ struct lamp_reply {
 };
 
 /* The three records have no padding. A compiler that gives one of them another size than the library has stops here.
- * C before C11 and C++ before C++11 have no way to ask. */
+ * Before C11 and C++11 nothing is asked. */
 #if defined(__cplusplus) && __cplusplus >= 201103L
 #define LAMP_ASSERT_SIZE(record, bytes) static_assert(sizeof(record) == (bytes), "a record of lamp.h is padded");
 #elif !defined(__cplusplus) && defined(__STDC_VERSION__) && __STDC_VERSION__ >= 201112L
@@ -622,7 +631,8 @@ struct lamp_reply lamp_sitting_submit(struct lamp_sitting sitting, uint16_t call
 
 /* Reads the least cost of the card. A candidate reads it only after closing.
  *
- * Reads:     seats, the first LAMP_MAX_SEATS records, if caller is not 0.
+ * Reads:     seats, the first LAMP_MAX_SEATS records. For caller 0 they do not matter, and the list may
+ *            have length 0.
  * Writes:    nothing.
  * Success:   the least cost. The sitting is as it was.
  * Refusals:  15 if the sitting is unopened, or if caller is not 0 and it is not closed; 16 if caller is

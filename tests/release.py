@@ -142,7 +142,7 @@ def release(folder):
 
 
 def use(folder, bare):
-    """The programs, and a host built with the folder's header and archive."""
+    """The programs, and the two hosts built with the folder's header and archive."""
     expect("plan", run(["bin/plan", "samples/a.card"], folder, env=bare), 0, A)
     reason = b"bin/plan: refused 7: table not convex"
     expect("plan of a refused card", run(["bin/plan", "samples/not-convex.card"], folder, env=bare), 1, b"refused 7\n", reason)
@@ -152,9 +152,11 @@ def use(folder, bare):
     expect("lamp from elsewhere", run([folder / "bin" / "lamp", "--version"], "/", env=bare), 0, version())
     flags = run(["pkg-config", "--cflags", "--libs", "lamp"], folder, env={**bare, "PKG_CONFIG_PATH": str(folder / "lib" / "pkgconfig")})
     expect("pkg-config", flags, 0)
-    line = f"gcc -std=c11 samples/host.c {flags[1].decode().strip()} -o host && ./host samples/a.card"
-    expect("a host", run(["sh", "-c", line], folder, env=bare), 0, A)
-    (folder / "host").unlink()
+    sitting = (ROOT / "host" / "sitting.expected").read_bytes()
+    for host, words, listing in (("host", "samples/a.card", A), ("sitting", "", sitting)):
+        line = f"gcc -std=c11 samples/{host}.c {flags[1].decode().strip()} -o {host} && ./{host} {words}"
+        expect(f"the host {host}", run(["sh", "-c", line], folder, env=bare), 0, listing)
+        (folder / host).unlink()
 
 
 def expect_cards(folder, starts):
