@@ -1,25 +1,23 @@
 -- What an act of a sitting is told depends on the phase alone while it is unopened, and else on the facts about one candidate.
 use Prim.Native.Nat.{ℕ}
 use mathlib.Core.Path.{_≡_, refl, sym, ap, _∙_}
-use mathlib.Core.Bool.{Bool, true, false, not, _&&_, _||_, true≢false}
-use mathlib.Core.List.{List, [], _∷_, _++_}
+use mathlib.Core.Bool.{Bool, true, false, not, _&&_, _||_}
+use mathlib.Core.List.{List, [], _∷_}
 use mathlib.Core.Option.{Option, Option·getD, Option·elim}
 use lib.Dec.{eqb}
 use borrow.Author.Tests.{not-false}
 use Rattle.lists.specs.Tests.{or-left, or-right}
-use Rattle.model.specs.declared.Refusal.{Refusal}
 use Rattle.model.specs.declared.Refusal.the-variants.{NotPermitted, SeatUnavailable, AllowanceSpent, WrongLength, EntryRange, LoadNotServed}
 use Rattle.model.specs.declared.Answer.{Answer}
 use Rattle.model.specs.declared.Answer.the-variants.{Cost, Refused}
-use Rattle.model.specs.Answers.{numberOf, costOf}
 use Rattle.model.specs.Acts.{Act, openSitting, seatCandidate, closeSitting, submitSheet, readLeast, readLowest, readUsed}
 use Rattle.model.specs.Acts.{Phase, unopened, opened, closed, isUnopened, isOpened, isClosed, Facts, supervisor, noSeat}
 use Rattle.model.specs.Acts.{notPermitted, seatUnavailable, allowanceSpent}
-use Rattle.model.specs.Calls.{onAct, applies, cardRefusals, actRequest, actRefusals, actCost, firstRefusal, rightLength, entriesInRange, loadsServed}
+use Rattle.model.specs.Calls.{onAct, applies, actRequest, actRefusals, actCost, firstRefusal}
 use Rattle.model.specs.Calls.{Accepted}
 use Rattle.model.specs.Instance.{instanceOf}
 use Rattle.model.specs.Sheets.{sheetCost}
-use Rattle.model.specs.Sittings.{answerTo, markedBy, markedWith, Told, told}
+use Rattle.model.specs.Sittings.{answerTo, markedBy, markedWith, told}
 use Rattle.laws.specs.FirstRefusal.{first-alike, first-passed, Alike}
 use Rattle.laws.specs.OnCard.{on-card-accepted, on-card-passed}
 

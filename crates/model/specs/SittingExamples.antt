@@ -1,6 +1,6 @@
 -- Examples of the acts of a sitting (document 02, §4), on card A, whose least cost is 32: a table of acts, a table of what wrong readings would
 -- answer, and a whole sitting.
-use Prim.Native.Nat.{ℕ, _+_}
+use Prim.Native.Nat.{ℕ}
 use Prim.Native.String.{String}
 use mathlib.Core.List.{List, [], _∷_, _++_, map}
 use mathlib.Core.Option.{Option·elim}
@@ -9,7 +9,6 @@ use native.Mathlib.Omega.{arith}
 use Rattle.lists.specs.FirstPlace.{occurs, countOf, firstPlace, changeFirst}
 use Rattle.model.specs.declared.Seat.{Seat}
 use Rattle.model.specs.declared.Sitting.{Sitting}
-use Rattle.model.specs.declared.Reply.{Reply}
 use Rattle.model.specs.Acts.{Act, openSitting, seatCandidate, closeSitting, submitSheet, readLeast, readLowest, readUsed}
 use Rattle.model.specs.Acts.{isUnopened, isOpened, isClosed, notPermitted, seatUnavailable, allowanceSpent}
 use Rattle.model.specs.Acts.{submissionRefused, actDone, actRefused, eventOf}
@@ -18,7 +17,7 @@ use Rattle.model.specs.Calls.{actIn, onAct, actBuffers, actRequest, actR
 use Rattle.model.specs.Sittings.{answerTo, markedBy, markedWith, Told, told, toldBy, replyWith, replyOf, seatsAtExit, toldInTurn}
 use Rattle.model.specs.Sittings.{isOpening, isClosing, isSubmission, seatedBy, costsOf, allowanceOf, leastOf, sinceOpening, lowestAmong}
 use Rattle.model.specs.Sittings.{phaseIn, toldFrom}
-use Rattle.model.specs.Examples.{cardA, sheetD, sevens, over, Example, one, agrees, AllHold, NoneHold}
+use Rattle.model.specs.Examples.{cardA, sheetD, sevens, over, Example, agrees, AllHold, NoneHold}
 
 -- A sitting with its four numbers, and a record with its four.
 abbrev sittingOf : (state allowance submissions least : ℕ) → Sitting

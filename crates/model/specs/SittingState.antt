@@ -1,6 +1,6 @@
 -- The state of a sitting (document 02, §4), how an event changes it, and the records that hold it: the sitting that each act gives back and
 -- the lent list of seats.
-use Prim.Native.Nat.{ℕ, zero, suc, _+_, min}
+use Prim.Native.Nat.{ℕ, _+_, min}
 use mathlib.Core.Bool.{Bool, cond, not}
 use mathlib.Core.List.{List, _++_, map}
 use mathlib.Core.Option.{Option, none, some}

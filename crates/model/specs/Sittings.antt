@@ -3,7 +3,7 @@
 use Prim.Native.Nat.{ℕ}
 use mathlib.Core.Path.{_≡_}
 use mathlib.Core.Bool.{Bool, true, false, cond}
-use mathlib.Core.List.{List, [], _∷_, _++_, headD, flatMap}
+use mathlib.Core.List.{List, [], _∷_, headD, flatMap}
 use mathlib.Core.Option.{Option, none, some, Option·elim}
 use lib.ListN.{length}
 use lib.Dec.{leb, eqb}

@@ -1,33 +1,31 @@
 -- What an act makes of a view of the list is what it makes of the list.
-use Prim.Native.Nat.{ℕ, zero, suc, _≤_}
+use Prim.Native.Nat.{ℕ, zero, suc}
 use mathlib.Core.Path.{_≡_, refl, sym, ap, _∙_}
 use mathlib.Core.Bool.{Bool, true, false, cond, not, _&&_}
 use mathlib.Core.List.{List, [], _∷_, _++_, map}
-use native.Mathlib.Nat.{le-refl}
-use lib.ListN.{length, getD, set, take, drop, replicate, take-append-drop}
+use lib.ListN.{length, getD, set, take-append-drop}
 use lib.Seq.{set-append-left}
 use lib.Dec.{leb, eqb}
 use borrow.Author.Tests.{not-false}
 use Rattle.lists.specs.Tests.{or-right}
 use Rattle.lists.specs.FirstPlace.{occurs, firstPlace, changeFirst, occurs-place, place-inside, change-sets, occurs-map, place-map}
-use Rattle.model.specs.declared.Refusal.{Refusal}
-use Rattle.model.specs.declared.Refusal.the-variants.{NotPermitted, SeatUnavailable}
+use Rattle.model.specs.declared.Refusal.the-variants.{SeatUnavailable}
 use Rattle.model.specs.declared.Answer.{Answer}
 use Rattle.model.specs.declared.Answer.the-variants.{Cost, Refused}
 use Rattle.model.specs.declared.Seat.{Seat}
 use Rattle.model.specs.declared.Sitting.{Sitting}
 use Rattle.model.specs.Answers.{refusalNumber}
-use Rattle.model.specs.Acts.{Act, openSitting, seatCandidate, submitSheet, Facts, seatUnavailable, noSeat}
+use Rattle.model.specs.Acts.{Act, seatCandidate, submitSheet, seatUnavailable}
 use Rattle.model.specs.Acts.{nothingDone, submissionCounted, submissionRefused, eventOf, actDone, actRefused}
-use Rattle.model.specs.Calls.{applies, onAct, actRequest, actRefusals, cardRefusals}
+use Rattle.model.specs.Calls.{applies, onAct, actRequest, actRefusals}
 use Rattle.model.specs.SittingState.{Place, isFor, emptyPlace, factsOf, seatsOf, beyondSeats, isOf, lowestOf, placeOf, stateOf}
 use Rattle.model.specs.SittingState.{emptySeat, seatedRecord, markedRecord, seatsAfter}
-use Rattle.model.specs.Sittings.{answerTo, told, toldBy, replyWith, replyOf, seatsAtExit}
+use Rattle.model.specs.Sittings.{answerTo, toldBy, replyOf, seatsAtExit}
 use Rattle.laws.specs.FirstRefusal.{first-passed}
 use Rattle.laws.specs.SittingLaws.{submitted-seated, concerned, AgreeAt, answers-agree, told-agree}
 use Rattle.seats.specs.declared.View.{View}
-use Rattle.seats.specs.Scanned.{scanned, emptied}
-use Rattle.sitting.specs.Seen.{seen, placeFor, recordFor, eventSeen, replySeen, outcomeOf, recordsEmptied, openingOf}
+use Rattle.seats.specs.Scanned.{scanned}
+use Rattle.sitting.specs.Seen.{seen, placeFor, recordFor, eventSeen, replySeen, outcomeOf}
 
 -- Element k of the images is the image of element k.
 getD-map : {A B : Type 0} (f : A → B) (d : A) (xs : List A) (k : ℕ) → getD (map f xs) k (f d) ≡ f (getD xs k d)

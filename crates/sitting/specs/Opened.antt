@@ -1,6 +1,6 @@
 -- What an opening does, decided without the list of seats, is what it does with the list.
 use Prim.Native.Nat.{ℕ}
-use mathlib.Core.Path.{_≡_, refl, sym, ap, _∙_}
+use mathlib.Core.Path.{_≡_, refl, sym, ap}
 use mathlib.Core.List.{List, [], _∷_, _++_, map}
 use lib.ListN.{length, replicate}
 use Rattle.model.specs.declared.Answer.{Answer}

@@ -1,8 +1,8 @@
 -- What a sitting never tells (document 02, §4): the least cost before closing, a lowest cost below the least, more submissions than the
 -- allowance.
-use Prim.Native.Nat.{ℕ, zero, suc, _+_, _≤_, _<_, min}
+use Prim.Native.Nat.{ℕ, zero, suc, _≤_}
 use mathlib.Core.Path.{_≡_, refl, sym, ap, _∙_, subst}
-use mathlib.Core.Bool.{Bool, true, false, cond, not, _&&_, _||_, true≢false}
+use mathlib.Core.Bool.{Bool, true, false, cond, _&&_, _||_, true≢false}
 use mathlib.Core.List.{List, [], _∷_, map}
 use mathlib.Core.Option.{Option, none, some, Option·getD, Option·elim, Option·none-ne-some, Option·some-injective}
 use mathlib.Core.Logic.{⊎-elim}
@@ -22,11 +22,11 @@ use Rattle.model.specs.Instance.{instanceOf}
 use Rattle.model.specs.Sheets.{sheetCost}
 use Rattle.model.specs.Planners.{exact, plannedCost}
 use Rattle.model.specs.Acts.{Act, openSitting, seatCandidate, closeSitting, submitSheet, readLeast, readLowest, readUsed}
-use Rattle.model.specs.Acts.{Phase, unopened, opened, closed, isUnopened, isClosed, Facts, notPermitted, seatUnavailable, allowanceSpent}
+use Rattle.model.specs.Acts.{opened, isUnopened, isClosed, Facts, notPermitted, seatUnavailable, allowanceSpent}
 use Rattle.model.specs.Acts.{Event, openingDone, seatingDone, closingDone, submissionMarked, submissionCounted, nothingDone, submissionRefused, actDone, actRefused, eventOf}
 use Rattle.model.specs.SittingState.{Place, State, isFor, emptyPlace, seatedPlace, markedPlace, lowerOf, factsOf, after, phaseOf, stateOf}
 use Rattle.model.specs.Calls.{answer, planShow, markSheet, actIn, requestOf, refusals, successCost, actBuffers, buffersOf, Accepted, applies, onAct, actRequest, actRefusals, actCost, firstRefusal}
-use Rattle.model.specs.Sittings.{answerTo, markedBy, markedWith, told, toldBy, replyWith, replyOf, seatsAtExit, eventIn, leftBy, LentCard, EachAct, StartsAfresh, from-unopened, from-opening}
+use Rattle.model.specs.Sittings.{answerTo, markedBy, markedWith, told, toldBy, replyWith, replyOf, seatsAtExit, leftBy, LentCard, EachAct, StartsAfresh, from-unopened, from-opening}
 use Rattle.laws.specs.FirstRefusal.{first-hit, first-skip, first-passed}
 use Rattle.laws.specs.OnCard.{on-card-passed, on-card-accepted}
 use Rattle.laws.specs.SittingLaws.{submitted-card, own-refusals}

@@ -1,5 +1,5 @@
 -- What the calls of a sitting give is what the theorems on all calls and those on sequences of acts speak of (document 02, §4).
-use Prim.Native.Nat.{ℕ, _+_}
+use Prim.Native.Nat.{ℕ}
 use mathlib.Core.Path.{_≡_, refl}
 use mathlib.Core.Bool.{Bool, true, false, cond, _&&_}
 use mathlib.Core.List.{List, []}
@@ -12,7 +12,7 @@ use Rattle.model.specs.declared.Sitting.{Sitting}
 use Rattle.model.specs.Answers.{refusalNumber}
 use Rattle.model.specs.Acts.{Facts, Act, openSitting, seatCandidate, closeSitting, submitSheet, readLeast, readLowest, readUsed, notPermitted}
 use Rattle.model.specs.Acts.{nothingDone, submissionCounted, submissionRefused, actDone, actRefused, eventOf}
-use Rattle.model.specs.SittingState.{factsOf, stateOf, sittingAfter, seatsAfter}
+use Rattle.model.specs.SittingState.{factsOf, stateOf, seatsAfter}
 use Rattle.model.specs.Calls.{actIn, answer, requestOf, refusals, successCost, Gives, applies, onAct, actRequest, actRefusals, actCost, firstRefusal}
 use Rattle.model.specs.Sittings.{answerTo, markedBy, markedWith, told, toldBy, replyWith, replyOf, seatsAtExit}
 

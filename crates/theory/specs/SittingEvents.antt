@@ -1,7 +1,7 @@
 -- What an act of a sitting can do, by the rules that its answer has passed.
 use Prim.Native.Nat.{ℕ, _<_}
 use mathlib.Core.Path.{_≡_, refl, sym, ap, _∙_}
-use mathlib.Core.Bool.{Bool, true, false, cond, not, _&&_, _||_, true≢false}
+use mathlib.Core.Bool.{Bool, true, false, cond, not, _&&_, true≢false}
 use mathlib.Core.List.{List, [], _∷_, _++_, map, List·Memᴰ, List·Memᴰ·head, List·Memᴰ·tail, List·Memᴰ·not-nil, List·Memᴰ·cases-cons, Memᴰ·append-right}
 use mathlib.Core.Logic.{⊎-elim}
 use lib.Dec.{leb, eqb}
@@ -16,10 +16,10 @@ use Rattle.model.specs.declared.Answer.the-variants.{Cost, Refused}
 use Rattle.model.specs.Answers.{refusalNumber}
 use Rattle.model.specs.Instance.{instanceOf}
 use Rattle.model.specs.Acts.{Act, openSitting, seatCandidate, closeSitting, submitSheet, readLeast, readLowest, readUsed}
-use Rattle.model.specs.Acts.{Phase, isUnopened, isOpened, Facts, supervisor, noSeat, notPermitted, seatUnavailable, allowanceSpent}
+use Rattle.model.specs.Acts.{isUnopened, Facts, supervisor, noSeat, notPermitted, seatUnavailable, allowanceSpent}
 use Rattle.model.specs.Acts.{Event, nothingDone, openingDone, seatingDone, closingDone, submissionCounted, submissionMarked}
 use Rattle.model.specs.Acts.{submissionRefused, actDone, actRefused, eventOf}
-use Rattle.model.specs.SittingState.{Place, State, isFor, factsOf}
+use Rattle.model.specs.SittingState.{State, isFor, factsOf}
 use Rattle.model.specs.Sheets.{sheetCost}
 use Rattle.model.specs.Calls.{applies, onAct, cardRefusals, actRequest, actRefusals, actCost, firstRefusal}
 use Rattle.model.specs.Sittings.{answerTo}

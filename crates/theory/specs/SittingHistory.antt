@@ -1,24 +1,21 @@
 -- Any sequence of acts is told what the rules tell from the history alone (document 02, §4): 'Any sequence of calls answers as this
 -- paragraph's rules do'.
-use Prim.Native.Nat.{ℕ, zero, suc, _+_, _≤_, _<_}
+use Prim.Native.Nat.{ℕ, _+_, _≤_, _<_}
 use mathlib.Core.Path.{_≡_, refl, sym, ap, _∙_}
-use mathlib.Core.Bool.{Bool, true, false, cond, not, _&&_, _||_, true≢false}
-use mathlib.Core.List.{List, [], _∷_, _++_, map, headD, flatMap}
+use mathlib.Core.Bool.{true, false, not, true≢false}
+use mathlib.Core.List.{List, [], _∷_, map, headD, flatMap}
 use mathlib.Core.Option.{Option, none, some}
-use mathlib.Core.Logic.{_⊎_, ⊎-elim}
-use native.Mathlib.Nat.{zero-add, le-refl}
+use mathlib.Core.Logic.{⊎-elim}
+use native.Mathlib.Nat.{le-refl}
 use native.Mathlib.Omega.{arith}
 use lib.ListN.{length, getD, length-map, List·getD-eq-default}
-use lib.Dec.{leb, ltb, eqb}
-use borrow.Author.Tests.{lt-ltb, le-ltb, le-leb, lt-leb, eqb-true, eqb-false, eq-eqb, ne-eqb, not-false}
+use lib.Dec.{leb, eqb}
+use borrow.Author.Tests.{lt-ltb, le-ltb, le-leb, lt-leb, eqb-true, eqb-false, ne-eqb}
 use Rattle.lists.specs.Numbers.{true-or-false, le-or-lt}
-use Rattle.lists.specs.Tests.{or-left, or-right}
 use Rattle.lists.specs.Lists.{keep}
 use Rattle.lists.specs.FirstPlace.{occurs, countOf, firstPlace, changeFirst, occurs-count, place-beyond, length-change, count-taken}
 use Rattle.lists.specs.FirstPlace.{change-found, change-occurs, change-counts, change-adds, change-apart, change-first}
-use Rattle.model.specs.declared.Answer.{Answer}
-use Rattle.model.specs.declared.Answer.the-variants.{Cost, Refused}
-use Rattle.model.specs.Acts.{Act, Facts, Phase, unopened, opened, closed, isUnopened}
+use Rattle.model.specs.Acts.{isUnopened}
 use Rattle.model.specs.Acts.{Event, nothingDone, openingDone, seatingDone, closingDone, submissionCounted, submissionMarked}
 use Rattle.model.specs.SittingState.{Place, State, isFor, emptyPlace, seatedPlace, markedPlace, factsOf, lowerOf, after}
 use Rattle.model.specs.Sittings.{isOpening, isClosing, isSubmission, seatedBy, costsOf, allowanceOf, leastOf, sinceOpening, lastOpening}

@@ -1,33 +1,22 @@
 -- Any sequence of acts (document 02, §4): what it is told is what the rules tell from the history alone, and what follows of it for the
 -- candidates' figures.
-use Prim.Native.Nat.{ℕ, _+_, _≤_, _<_, min}
+use Prim.Native.Nat.{ℕ}
 use mathlib.Core.Path.{_≡_, refl, sym, ap, _∙_, subst}
-use mathlib.Core.Bool.{Bool, true, false, not, _&&_, _||_, true≢false}
-use mathlib.Core.List.{List, [], _∷_, map}
-use mathlib.Core.Option.{Option, none, some, Option·none-ne-some, Option·some-injective}
-use mathlib.Core.Logic.{_⊎_, ⊎-elim}
-use native.Mathlib.Omega.{arith}
-use lib.ListN.{length, getD, length-map}
-use lib.Dec.{eqb}
-use Rattle.lists.specs.FirstPlace.{occurs, firstPlace, changeFirst}
-use Rattle.lists.specs.Numbers.{true-or-false}
+use mathlib.Core.Bool.{false, true≢false}
+use mathlib.Core.List.{List, [], _∷_}
+use lib.ListN.{length, length-map}
+use Rattle.lists.specs.FirstPlace.{occurs}
 use Rattle.model.specs.declared.Answer.{Answer}
-use Rattle.model.specs.declared.Answer.the-variants.{Cost, Refused}
-use Rattle.model.specs.declared.Refusal.the-variants.{NotPermitted, SeatUnavailable, WrongLength, EntryRange, LoadNotServed}
 use Rattle.model.specs.declared.Seat.{Seat}
 use Rattle.model.specs.declared.Sitting.{Sitting}
-use Rattle.model.specs.Instance.{instanceOf}
-use Rattle.model.specs.Sheets.{serves, sheetCost}
-use Rattle.model.specs.Planners.{exact, plannedCost}
-use Rattle.model.specs.Acts.{Act, openSitting, seatCandidate, closeSitting, submitSheet, readLeast, readLowest, readUsed}
-use Rattle.model.specs.Acts.{Phase, unopened, isUnopened, isClosed, Facts, Event, eventOf, actDone, notPermitted}
-use Rattle.model.specs.SittingState.{Place, State, isFor, emptyPlace, factsOf, after, phaseOf, seatsOf, placeOf, stateOf, sittingAfter, seatsAfter}
-use Rattle.model.specs.Calls.{answer, Accepted, markSheet, applies, onAct, actRequest, actRefusals, firstRefusal}
-use Rattle.model.specs.Sittings.{answerTo, Told, told, toldBy, replyWith, replyOf, seatsAtExit, eventIn, toldInTurn, StartsAfresh, from-unopened, from-opening}
+use Rattle.model.specs.Acts.{Act, openSitting}
+use Rattle.model.specs.Acts.{isUnopened, Event, eventOf, actDone}
+use Rattle.model.specs.SittingState.{factsOf, after, phaseOf, seatsOf, placeOf, stateOf}
+use Rattle.model.specs.Sittings.{answerTo, toldBy, replyWith, replyOf, seatsAtExit, eventIn, toldInTurn, StartsAfresh, from-unopened, from-opening}
 use Rattle.model.specs.Sittings.{phaseIn, factsIn, toldFrom}
-use Rattle.laws.specs.SittingLaws.{concerned, AgreeAt, answers-agree, told-agree, opening-answer, opening-told}
+use Rattle.laws.specs.SittingLaws.{concerned, answers-agree, told-agree, opening-answer, opening-told}
 use Rattle.laws.specs.SittingRecords.{state-after}
-use Rattle.theory.specs.SittingEvents.{Possible, acts-possible}
+use Rattle.theory.specs.SittingEvents.{acts-possible}
 use Rattle.theory.specs.SittingHistory.{Joined, joined-agrees, event-joined, opening-joined}
 
 -- What an act leaves holds the state after what has happened by it.
