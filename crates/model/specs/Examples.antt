@@ -59,7 +59,7 @@ cardF = cardOf 2 1 1 0 (0 ∷ 0 ∷ []) (1 ∷ 0 ∷ [])
 abbrev cardG : List ℕ
 cardG = cardOf 2 2 0 0 (5 ∷ 1 ∷ 9 ∷ []) (2 ∷ [])
 
-abbrev cardI : List ℕ
+abbrev pub cardI : List ℕ
 cardI = cardOf 3 2 3 2 (1 ∷ 2 ∷ 4 ∷ []) []
 
 -- The card of 01's plausible error of rounding each exact count up.

@@ -17,10 +17,10 @@ use Rattle.model.specs.Calls.{actIn, onAct, actBuffers, actRequest, actR
 use Rattle.model.specs.Sittings.{answerTo, markedBy, markedWith, Told, told, toldBy, replyWith, replyOf, seatsAtExit, toldInTurn}
 use Rattle.model.specs.Sittings.{isOpening, isClosing, isSubmission, seatedBy, costsOf, allowanceOf, leastOf, sinceOpening, lowestAmong}
 use Rattle.model.specs.Sittings.{phaseIn, toldFrom}
-use Rattle.model.specs.Examples.{cardA, sheetD, sevens, over, Example, agrees, AllHold, NoneHold}
+use Rattle.model.specs.Examples.{cardA, cardI, sheetD, sevens, over, Example, agrees, AllHold, NoneHold}
 
 -- A sitting with its four numbers, and a record with its four.
-abbrev sittingOf : (state allowance submissions least : ℕ) → Sitting
+abbrev pub sittingOf : (state allowance submissions least : ℕ) → Sitting
 sittingOf s a u l = record { state = s; allowance = a; submissions = u; least = l }
 
 abbrev seatOf : (candidate lowest marked reserved : ℕ) → Seat
@@ -30,7 +30,7 @@ seatOf c l m r = record { lowest = l; candidate = c; marked = m; reserved = r }
 abbrev free : Seat
 free = seatOf 0 0 0 0
 
-abbrev odd : Seat
+abbrev pub odd : Seat
 odd = seatOf 0 7 7 7
 
 abbrev openNow : Sitting
@@ -177,7 +177,7 @@ unfolding actShown isOpening isClosing isSubmission seatedBy costsOf allowanceOf
 historyShown seats acts = map toldNumbers (toldFrom seats [] acts)
 
 -- A sitting with an allowance of three on a list of two seats.
-abbrev wholeSitting : List Act
+abbrev pub wholeSitting : List Act
 wholeSitting =
     seatCandidate 0 5 ∷ opens 0 3 ∷ seatCandidate 0 0 ∷ seatCandidate 0 5 ∷ seatCandidate 0 5 ∷ seatCandidate 0 6 ∷ seatCandidate 0 7 ∷
     readLowest 5 5 ∷ submitSheet 5 cardA (set sheetD 8 0) ∷ submitSheet 5 cardA sheetD ∷ readLowest 0 5 ∷ readLowest 6 6 ∷ readLeast 5 ∷
@@ -194,6 +194,11 @@ wholeRows : List Example
 wholeRows =
     record { name = "a whole sitting, call by call"; found = inTurnShown (sittingOf 0 0 0 0) (odd ∷ odd ∷ []) wholeSitting; expected = wholeTold } ∷
     record { name = "a whole sitting, by its history"; found = historyShown 2 wholeSitting; expected = wholeTold } ∷
+    record {
+      name = "with another card a lowest cost may be below the least";
+      found = inTurnShown (sittingOf 0 0 0 0) (odd ∷ []) (opens 0 3 ∷ seatCandidate 0 5 ∷ submitSheet 5 cardI [] ∷ readLowest 5 5 ∷ []);
+      expected = (0 ∷ 32 ∷ 0 ∷ []) ∷ (0 ∷ 0 ∷ 0 ∷ []) ∷ (0 ∷ 0 ∷ 0 ∷ []) ∷ (0 ∷ 0 ∷ 1 ∷ []) ∷ [];
+    } ∷
     record {
       name = "the bytes that an opening leaves";
       found = outcome (actIn openNow room (opens 0 3));

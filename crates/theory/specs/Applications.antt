@@ -1,4 +1,5 @@
--- The hypotheses of the theorems can be met: they hold of document 01's example E, and of a show whose table falls.
+-- The hypotheses of the theorems can be met: they hold of document 01's example E, of a show whose table falls, and of the whole sitting of
+-- the examples.
 use Prim.Native.Nat.{ℕ, _+_, _*_, _≤_}
 use mathlib.Core.Path.{_≡_, refl}
 use mathlib.Core.Bool.{true}
@@ -11,7 +12,7 @@ use Rattle.lists.specs.Tests.{every, every-at}
 use Rattle.lists.specs.Sums.{sum}
 use Rattle.lists.specs.Ranges.{leastOver, firstOver}
 use Rattle.lists.specs.Lists.{tabulate, rows, keep}
-use Rattle.model.specs.Instance.{Instance}
+use Rattle.model.specs.Instance.{Instance, instanceOf}
 use Rattle.model.specs.MoreLight.{leastFrom, activeStep}
 use Rattle.model.specs.Counts.{canServe, operatingCost, allCounts, powerOfTwo, coarseCounts}
 use Rattle.model.specs.Sheets.{off, stateAt, sheetLength, sheetEntries, lightAt, sheetLight, serves, stepCost, changeCost}
@@ -23,6 +24,14 @@ use Rattle.theory.specs.Hypotheses.{Plannable}
 use Rattle.theory.specs.SheetLaws.{sheet-at-least}
 use Rattle.theory.specs.Condition3.{exact-least, list-ratio, coarse-twice}
 use Rattle.theory.specs.Counterexamples.{exampleE, steadySheet, steady-serves}
+use Rattle.model.specs.Planners.{exact, plannedCost}
+use Rattle.model.specs.Acts.{readLowest}
+use Rattle.model.specs.SittingState.{phaseOf}
+use Rattle.model.specs.Sittings.{replyOf, toldInTurn, leftBy, StartsAfresh, from-unopened, LentCard, EachAct, toldFrom}
+use Rattle.model.specs.Examples.{cardA}
+use Rattle.model.specs.SittingExamples.{sittingOf, odd, wholeSitting}
+use Rattle.theory.specs.SittingRuns.{any-sequence}
+use Rattle.theory.specs.SittingBounds.{lowest-at-least}
 
 -- Example E meets the hypotheses.
 pub example-plannable : Plannable exampleE
@@ -129,3 +138,22 @@ falling-computed = (refl, refl, refl)
 -- On a table that falls the coarse plan costs at most twice as much too: 4 ≤ 6.
 pub falling-twice-applied : leastCost falling (coarseCounts (falling .modules)) ≤ 2 * sheetCost falling threeAtTop
 falling-twice-applied = coarse-twice falling-plannable threeAtTop (falling-computed .0)
+
+-- The whole sitting of the examples starts from a sitting that counts as unopened, and all its acts on a card are on card A.
+whole-starts : StartsAfresh (sittingOf 0 0 0 0) (odd ∷ odd ∷ []) wholeSitting
+unfolding phaseOf
+whole-starts = from-unopened wholeSitting refl
+
+whole-lent : EachAct (LentCard cardA) wholeSitting
+unfolding EachAct LentCard
+whole-lent = (tt, (refl, (tt, (tt, (tt, (tt, (tt, (tt, (refl, (refl, (tt, (tt, (tt, (refl, (refl, (tt, (tt, (tt, (tt, (refl, (tt, tt)))))))))))))))))))))
+
+-- So the theorems on sequences speak of it.
+pub sequence-applied : toldInTurn (sittingOf 0 0 0 0) (odd ∷ odd ∷ []) wholeSitting ≡ toldFrom 2 [] wholeSitting
+sequence-applied = any-sequence whole-starts
+
+pub lowest-applied :
+    let left = leftBy (sittingOf 0 0 0 0) (odd ∷ odd ∷ []) wholeSitting in
+    let reply = replyOf (left .0) (left .1) (readLowest 0 5) in
+    reply .marked ≡ 1 → plannedCost exact (instanceOf cardA) ≤ reply .cost
+lowest-applied = lowest-at-least cardA whole-starts whole-lent 0 5

@@ -29,9 +29,9 @@ pub mod LongInput
 pub mod Generator
 pub mod PracticeCards
 pub mod Counterexamples
-pub mod Applications
 pub mod SittingEvents
 pub mod SittingHistory
 pub mod SittingRuns
 pub mod SittingBounds
 pub mod SittingCalls
+pub mod Applications

@@ -12,7 +12,7 @@ use Rattle.model.specs.declared.Sitting.{Sitting}
 use Rattle.model.specs.Acts.{Act, openSitting}
 use Rattle.model.specs.Acts.{isUnopened, Event, eventOf, actDone}
 use Rattle.model.specs.SittingState.{factsOf, after, phaseOf, seatsOf, placeOf, stateOf}
-use Rattle.model.specs.Sittings.{answerTo, toldBy, replyWith, replyOf, seatsAtExit, eventIn, toldInTurn, StartsAfresh, from-unopened, from-opening}
+use Rattle.model.specs.Sittings.{next, answerTo, toldBy, replyWith, replyOf, seatsAtExit, eventIn, toldInTurn, StartsAfresh, from-unopened, from-opening}
 use Rattle.model.specs.Sittings.{phaseIn, factsIn, toldFrom}
 use Rattle.laws.specs.SittingLaws.{concerned, answers-agree, told-agree, opening-answer, opening-told}
 use Rattle.laws.specs.SittingRecords.{state-after}
@@ -24,6 +24,12 @@ pub left-state : (z : Sitting) (xs : List Seat) (a : Act) →
     stateOf (replyOf z xs a .sitting) (seatsAtExit z xs a) ≡ after (eventIn z xs a) (stateOf z xs)
 unfolding replyOf replyWith seatsAtExit
 left-state z xs a = state-after (eventIn z xs a) z xs
+
+-- The calls are the transition: what an act leaves holds the state that the transition makes of the state handed to it.
+pub transition :
+    (z : Sitting) (xs : List Seat) (a : Act) → stateOf (replyOf z xs a .sitting) (seatsAtExit z xs a) ≡ next (stateOf z xs) a
+unfolding next
+transition z xs a = left-state z xs a
 
 module _ (seats : ℕ) where
   -- A sitting and its seats that hold the state of a history are told what the history tells, act for act.
