@@ -13,12 +13,12 @@ use Rattle.model.specs.declared.Answer.the-variants.{Cost, Refused}
 use Rattle.model.specs.Acts.{Act, openSitting, seatCandidate, closeSitting, submitSheet, readLeast, readLowest, readUsed}
 use Rattle.model.specs.Acts.{Phase, unopened, opened, closed, isUnopened, isOpened, isClosed, Facts, supervisor, noSeat}
 use Rattle.model.specs.Acts.{notPermitted, seatUnavailable, allowanceSpent}
-use Rattle.model.specs.Calls.{onAct, applies, actRequest, actRefusals, actCost, firstRefusal}
+use Rattle.model.specs.Calls.{onAct, applies, cardRefusals, actRequest, actRefusals, actCost, firstRefusal}
 use Rattle.model.specs.Calls.{Accepted}
 use Rattle.model.specs.Instance.{instanceOf}
 use Rattle.model.specs.Sheets.{sheetCost}
 use Rattle.model.specs.Sittings.{answerTo, markedBy, markedWith, told}
-use Rattle.laws.specs.FirstRefusal.{first-alike, first-passed, Alike}
+use Rattle.laws.specs.FirstRefusal.{first-append, first-alike, first-passed, Alike}
 use Rattle.laws.specs.OnCard.{on-card-accepted, on-card-passed}
 
 -- The candidate whose seat an act is about, where it is about one.
@@ -81,7 +81,7 @@ opening-answer f g d a c p w = refl
 
 -- The answer to an act is the same where the sittings agree as far as it can tell.
 pub answers-agree : (a : Act) (f g : Facts) → AgreeAt (concerned a) f g → answerTo f a ≡ answerTo g a
-unfolding actRequest actRefusals applies onAct notPermitted seatUnavailable allowanceSpent actCost Alike
+unfolding answerTo firstRefusal actRequest actRefusals applies onAct notPermitted seatUnavailable allowanceSpent actCost Alike
 answers-agree (openSitting d a c p w) f g agree = opening-answer f g d a c p w
 answers-agree (seatCandidate d c) f g agree =
     by-refusals (seatCandidate d c) f g (
@@ -93,39 +93,21 @@ answers-agree (seatCandidate d c) f g agree =
 answers-agree (closeSitting d) f g agree =
     by-refusals (closeSitting d) f g (ap (λ (p : Phase). not (supervisor d) || not (isOpened p)) (agree .same-phase), λ e. refl)
 answers-agree (submitSheet d c s) f g agree =
-    by-refusals (submitSheet d c s) f g (
-      refl,
-      λ e1. (
-        refl,
-        λ e2. (
-          refl,
-          λ e3. (
-            refl,
-            λ e4. (
-              refl,
-              λ e5. (
-                refl,
-                λ e6. (
-                  refl,
-                  λ e7. (
-                    refl,
-                    λ e8. (
-                      ap (λ (p : Phase). supervisor d || not (isOpened p)) (agree .same-phase),
-                      λ e.
-                          let o = open-not-unopened (f .phase) (not-false _ (or-right (supervisor d) _ e)) in
-                          let same = agree .once-opened o in (
-                            no-seat-same agree o,
-                            λ e′. (rw (same .same-allowance, same .same-used), λ e″. (refl, λ n. (refl, λ m. (refl, λ k. refl)))),
-                          ),
-                    ),
-                  ),
-                ),
-              ),
-            ),
+    let t = applies (actRequest f (submitSheet d c s)) in
+    let u = applies (actRequest g (submitSheet d c s)) in
+    let own = NotPermitted ∷ SeatUnavailable ∷ AllowanceSpent ∷ WrongLength ∷ EntryRange ∷ LoadNotServed ∷ [] in
+    let cost = Cost (sheetCost (instanceOf c) s) in
+    first-append t cardRefusals own cost
+    ∙ ap (firstRefusal t cardRefusals) (first-alike t u own cost cost (
+      ap (λ (p : Phase). supervisor d || not (isOpened p)) (agree .same-phase),
+      λ e.
+          let o = open-not-unopened (f .phase) (not-false _ (or-right (supervisor d) _ e)) in
+          let same = agree .once-opened o in (
+            no-seat-same agree o,
+            λ e′. (rw (same .same-allowance, same .same-used), λ e″. (refl, λ n. (refl, λ m. (refl, λ k. refl)))),
           ),
-        ),
-      ),
-    )
+    ))
+    ∙ sym (first-append u cardRefusals own cost)
 answers-agree (readLeast d) f g agree =
     by-refusals (readLeast d) f g (
       ap (λ (p : Phase). isUnopened p || (not (supervisor d) && not (isClosed p))) (agree .same-phase),

@@ -231,8 +231,8 @@ applies r AllowanceSpent = onAct allowanceSpent (r .moment)
 abbrev pub cardRefusals : List Refusal
 cardRefusals = NotACard ∷ Version ∷ RackSize ∷ SlotCount ∷ CardLength ∷ PriceRange ∷ NotConvex ∷ LoadRange ∷ []
 
--- The refusals of each act, in the order in which they are tested: opening is answered as the exact planner and then by 15 and 17 ('after 1
--- to 10'); 'each answered as marking does', where 15, 16 and 17 'for hand-ins .. are tested in this order before 11 to 13'.
+-- The refusals of each act, in the order in which they are tested: opening is answered as the exact planner and then by 15 and 17 (which comes
+-- 'after 1 to 10'); 'each answered as marking does', where 15, 16 and 17 'for hand-ins .. are tested in this order before 11 to 13'.
 unfoldable pub actRefusals : Act → List Refusal
 actRefusals (openSitting d a c p w) = cardRefusals ++ (BufferTooShort ∷ NotPermitted ∷ AllowanceSpent ∷ [])
 actRefusals (seatCandidate d c) = NotPermitted ∷ SeatUnavailable ∷ []

@@ -15,9 +15,9 @@ use Rattle.model.specs.Acts.{submissionRefused, actDone, actRefused, eve
 use Rattle.model.specs.SittingState.{lowerOf, phaseOf, lowestOf, sittingAfter, seatsAfter}
 use Rattle.model.specs.Calls.{actIn, onAct, actBuffers, actRequest, actRefusals, actCost, outcome}
 use Rattle.model.specs.Sittings.{answerTo, markedBy, markedWith, Told, told, toldBy, replyWith, replyOf, seatsAtExit, toldInTurn}
-use Rattle.model.specs.Sittings.{isOpening, isClosing, isSubmission, seatedBy, costsOf, allowanceOf, leastOf, sinceOpening, lowestAmong}
+use Rattle.model.specs.Sittings.{isOpening, isClosing, isSubmission, seatedBy, costsOf, allowanceOf, leastOf, sinceOpening, smallestOf, lowestAmong}
 use Rattle.model.specs.Sittings.{phaseIn, toldFrom}
-use Rattle.model.specs.Examples.{cardA, cardI, sheetD, sevens, over, Example, agrees, AllHold, NoneHold}
+use Rattle.model.specs.Examples.{cardA, cardE, cardG, cardI, sheetD, sevens, over, Example, agrees, AllHold, NoneHold}
 
 -- A sitting with its four numbers, and a record with its four.
 abbrev pub sittingOf : (state allowance submissions least : ℕ) → Sitting
@@ -86,6 +86,9 @@ supervisorRows =
     refused "open: 10 before 15" openNow room (openSitting 5 0 cardA (sevens 2) (sevens 14)) 10 ∷
     refused "open with a short work area" openNow room (openSitting 0 3 cardA (sevens 5) (sevens 11)) 10 ∷
     refused "open: 2 before 10" openNow room (openSitting 5 0 (set cardA 3 2) [] []) 2 ∷
+    refused "open: 8 before 10" openNow room (openSitting 0 3 (set cardA 33 7) [] []) 8 ∷
+    act "open gives the exact planner's cost" openNow room (openSitting 0 3 cardE (sevens 4) (sevens 28)) 0 5 0 (sittingOf 1 3 0 5) (replicate 3 free) ∷
+    act "open while open, on a table that falls" openNow room (openSitting 0 3 cardG (sevens 2) (sevens 4)) 0 2 0 (sittingOf 1 3 0 2) (replicate 3 free) ∷
     act "seat in the first empty record" openNow (seatOf 5 40 1 9 ∷ odd ∷ free ∷ []) (seatCandidate 0 8) 0 0 0 openNow (seatOf 5 40 1 9 ∷ seatOf 8 0 0 0 ∷ free ∷ []) ∷
     act "seat, and leave what is beyond the seats" openNow (replicate 32 free ++ (odd ∷ odd ∷ [])) (seatCandidate 0 8) 0 0 0 openNow ((seatOf 8 0 0 0 ∷ replicate 31 free) ++ (odd ∷ odd ∷ [])) ∷
     refused "seat by a candidate" openNow room (seatCandidate 5 8) 15 ∷
@@ -109,15 +112,21 @@ submissionRows =
     act "a higher sheet" openNow room (submitSheet 5 cardA (set sheetD 8 0)) 0 43 0 (sittingOf 1 3 2 32) room ∷
     act "a mark other than 1 is a mark" openNow (seatOf 5 36 2 9 ∷ []) (submitSheet 5 cardA sheetD) 0 37 0 (sittingOf 1 3 2 32) (seatOf 5 36 1 9 ∷ []) ∷
     act "refused by 13, and counted" openNow room (submitSheet 5 cardA (replicate 9 255)) 13 0 0 (sittingOf 1 3 2 32) room ∷
-    act "refused by 12, and counted" openNow room (submitSheet 5 cardA (set sheetD 0 3)) 12 0 0 (sittingOf 1 3 2 32) room ∷
+    act "refused by 12, before 13, and counted" openNow room (submitSheet 5 cardA (set (replicate 9 255) 0 3)) 12 0 0 (sittingOf 1 3 2 32) room ∷
+    act "refused by 11 before 12" openNow room (submitSheet 5 cardA (3 ∷ [])) 11 0 0 (sittingOf 1 3 2 32) room ∷
     act "refused by 11, and counted" openNow room (submitSheet 5 cardA []) 11 0 0 (sittingOf 1 3 2 32) room ∷
     refused "refused by 5, not counted" openNow room (submitSheet 5 (cardA ++ (7 ∷ [])) sheetD) 5 ∷
     refused "refused by 1, not counted" openNow room (submitSheet 5 (7 ∷ cardA) sheetD) 1 ∷
+    refused "refused by 7, not counted" openNow room (submitSheet 5 (set cardA 25 2) sheetD) 7 ∷
     refused "refused by 8, not counted" openNow room (submitSheet 5 (set cardA 29 7) sheetD) 8 ∷
     act "the first of two records, and none beyond the seats" openNow (seatOf 5 40 1 9 ∷ seatOf 5 40 1 9 ∷ (replicate 30 free ++ (seatOf 5 40 1 9 ∷ []))) (submitSheet 5 cardA sheetD) 0 37 0
     (sittingOf 1 3 2 32) (seatOf 5 37 1 9 ∷ seatOf 5 40 1 9 ∷ (replicate 30 free ++ (seatOf 5 40 1 9 ∷ []))) ∷
     refused "a seat beyond the 32nd is none" openNow (replicate 32 free ++ (seatOf 5 40 1 9 ∷ [])) (submitSheet 5 cardA sheetD) 16 ∷
-    refused "2 before 15" closedNow room (submitSheet 0 (set cardA 3 2) sheetD) 2 ∷
+    refused "the card before 15, 16 and 17" (sittingOf 2 3 3 32) room (submitSheet 7 (cardA ++ (7 ∷ [])) []) 5 ∷
+    refused "17 before 12" (sittingOf 1 3 3 32) room (submitSheet 5 cardA (set sheetD 0 3)) 17 ∷
+    act "the sitting's least stays" (sittingOf 1 3 1 50) room (submitSheet 5 cardA sheetD) 0 37 0 (sittingOf 1 3 2 50) (seatOf 5 37 1 9 ∷ seatOf 6 0 0 0 ∷ free ∷ []) ∷
+    act "an allowance above 1,000 as it stands" (sittingOf 1 1001 1000 32) room (submitSheet 6 cardA sheetD) 0 37 0 (sittingOf 1 1001 1001 32)
+    (seatOf 5 40 1 9 ∷ seatOf 6 37 1 0 ∷ free ∷ []) ∷
     refused "a sheet before opening" (sittingOf 0 3 1 32) room (submitSheet 5 cardA sheetD) 15 ∷
     refused "15 before 16 and 17" (sittingOf 2 3 3 32) room (submitSheet 7 cardA []) 15 ∷
     refused "a sheet of the supervisor" openNow room (submitSheet 0 cardA sheetD) 15 ∷
@@ -147,6 +156,7 @@ readingRows =
     act "none yet" closedNow room (readLowest 0 6) 0 0 0 closedNow room ∷
     act "a lowest of 0 is told from none" openNow (seatOf 5 0 1 0 ∷ []) (readLowest 5 5) 0 0 1 openNow (seatOf 5 0 1 0 ∷ []) ∷
     refused "another's lowest" openNow room (readLowest 5 6) 15 ∷
+    refused "another's lowest, which is marked" openNow room (readLowest 6 5) 15 ∷
     refused "the lowest of nobody" openNow room (readLowest 0 7) 16 ∷
     refused "the lowest of 0" openNow room (readLowest 0 0) 16 ∷
     act "submissions used" closedNow room (readUsed 0) 0 1 0 closedNow room ∷
@@ -173,22 +183,25 @@ unfolding actShown toldInTurn
 inTurnShown z xs acts = map toldNumbers (toldInTurn z xs acts)
 
 historyShown : ℕ → List Act → List (List ℕ)
-unfolding actShown isOpening isClosing isSubmission seatedBy costsOf allowanceOf leastOf sinceOpening lowestAmong phaseIn countOf toldFrom
+unfolding actShown isOpening isClosing isSubmission seatedBy costsOf allowanceOf leastOf sinceOpening smallestOf lowestAmong phaseIn countOf toldFrom
 historyShown seats acts = map toldNumbers (toldFrom seats [] acts)
 
--- A sitting with an allowance of three on a list of two seats.
+-- A sitting with an allowance of four on a list of two seats, and a second one with an allowance of one.
 abbrev pub wholeSitting : List Act
 wholeSitting =
-    seatCandidate 0 5 ∷ opens 0 3 ∷ seatCandidate 0 0 ∷ seatCandidate 0 5 ∷ seatCandidate 0 5 ∷ seatCandidate 0 6 ∷ seatCandidate 0 7 ∷
-    readLowest 5 5 ∷ submitSheet 5 cardA (set sheetD 8 0) ∷ submitSheet 5 cardA sheetD ∷ readLowest 0 5 ∷ readLowest 6 6 ∷ readLeast 5 ∷
-    submitSheet 6 cardA [] ∷ submitSheet 6 cardA sheetD ∷ readUsed 0 ∷ closeSitting 0 ∷ readLeast 6 ∷ closeSitting 0 ∷ opens 0 1 ∷ readLowest 0 5 ∷ []
+    seatCandidate 0 5 ∷ opens 0 4 ∷ seatCandidate 0 0 ∷ seatCandidate 0 5 ∷ seatCandidate 0 5 ∷ seatCandidate 0 6 ∷ seatCandidate 0 7 ∷
+    readLowest 5 5 ∷ submitSheet 5 cardA (set sheetD 8 0) ∷ submitSheet 5 cardA sheetD ∷ submitSheet 5 cardA (set sheetD 8 0) ∷ readLowest 0 5 ∷
+    readLowest 6 6 ∷ readLeast 5 ∷ submitSheet 6 cardA [] ∷ submitSheet 6 cardA sheetD ∷ opens 0 0 ∷ readUsed 0 ∷ closeSitting 0 ∷ readLeast 6 ∷
+    closeSitting 0 ∷ readUsed 0 ∷ opens 0 1 ∷ readLowest 0 5 ∷ readUsed 0 ∷ seatCandidate 0 7 ∷ submitSheet 7 cardA sheetD ∷ seatCandidate 0 5 ∷
+    readLowest 5 5 ∷ submitSheet 5 cardA sheetD ∷ readLeast 7 ∷ []
 
 abbrev wholeTold : List (List ℕ)
 wholeTold =
     (15 ∷ 0 ∷ 0 ∷ []) ∷ (0 ∷ 32 ∷ 0 ∷ []) ∷ (16 ∷ 0 ∷ 0 ∷ []) ∷ (0 ∷ 0 ∷ 0 ∷ []) ∷ (16 ∷ 0 ∷ 0 ∷ []) ∷ (0 ∷ 0 ∷ 0 ∷ []) ∷ (16 ∷ 0 ∷ 0 ∷ []) ∷
-    (0 ∷ 0 ∷ 0 ∷ []) ∷ (0 ∷ 43 ∷ 0 ∷ []) ∷ (0 ∷ 37 ∷ 0 ∷ []) ∷ (0 ∷ 37 ∷ 1 ∷ []) ∷ (0 ∷ 0 ∷ 0 ∷ []) ∷ (15 ∷ 0 ∷ 0 ∷ []) ∷
-    (11 ∷ 0 ∷ 0 ∷ []) ∷ (17 ∷ 0 ∷ 0 ∷ []) ∷ (0 ∷ 3 ∷ 0 ∷ []) ∷ (0 ∷ 0 ∷ 0 ∷ []) ∷ (0 ∷ 32 ∷ 0 ∷ []) ∷ (15 ∷ 0 ∷ 0 ∷ []) ∷ (0 ∷ 32 ∷ 0 ∷ []) ∷
-    (16 ∷ 0 ∷ 0 ∷ []) ∷ []
+    (0 ∷ 0 ∷ 0 ∷ []) ∷ (0 ∷ 43 ∷ 0 ∷ []) ∷ (0 ∷ 37 ∷ 0 ∷ []) ∷ (0 ∷ 43 ∷ 0 ∷ []) ∷ (0 ∷ 37 ∷ 1 ∷ []) ∷
+    (0 ∷ 0 ∷ 0 ∷ []) ∷ (15 ∷ 0 ∷ 0 ∷ []) ∷ (11 ∷ 0 ∷ 0 ∷ []) ∷ (17 ∷ 0 ∷ 0 ∷ []) ∷ (17 ∷ 0 ∷ 0 ∷ []) ∷ (0 ∷ 4 ∷ 0 ∷ []) ∷ (0 ∷ 0 ∷ 0 ∷ []) ∷ (0 ∷ 32 ∷ 0 ∷ []) ∷
+    (15 ∷ 0 ∷ 0 ∷ []) ∷ (0 ∷ 4 ∷ 0 ∷ []) ∷ (0 ∷ 32 ∷ 0 ∷ []) ∷ (16 ∷ 0 ∷ 0 ∷ []) ∷ (0 ∷ 0 ∷ 0 ∷ []) ∷ (0 ∷ 0 ∷ 0 ∷ []) ∷ (0 ∷ 37 ∷ 0 ∷ []) ∷ (0 ∷ 0 ∷ 0 ∷ []) ∷
+    (0 ∷ 0 ∷ 0 ∷ []) ∷ (17 ∷ 0 ∷ 0 ∷ []) ∷ (15 ∷ 0 ∷ 0 ∷ []) ∷ []
 
 wholeRows : List Example
 wholeRows =
@@ -201,8 +214,8 @@ wholeRows =
     } ∷
     record {
       name = "the bytes that an opening leaves";
-      found = outcome (actIn openNow room (opens 0 3));
-      expected = (0 ∷ 32 ∷ []) ∷ over 5 (3 ∷ 1 ∷ 1 ∷ []) ∷ over 14 (replicate 12 0) ∷ [];
+      found = outcome (actIn openNow room (openSitting 0 3 cardE (sevens 4) (sevens 28)));
+      expected = (0 ∷ 5 ∷ []) ∷ over 4 (5 ∷ 5 ∷ 5 ∷ []) ∷ over 28 (replicate 27 0) ∷ [];
     } ∷
     []
 

@@ -1,6 +1,6 @@
 -- What an act of a sitting answers and leaves (document 02, §4), and what a list of acts is told: by the state, by the records that the calls
 -- hand on, and by the history alone.
-use Prim.Native.Nat.{ℕ}
+use Prim.Native.Nat.{ℕ, min}
 use mathlib.Core.Path.{_≡_}
 use mathlib.Core.Bool.{Bool, true, false, cond}
 use mathlib.Core.List.{List, [], _∷_, headD, flatMap}
@@ -18,7 +18,7 @@ use Rattle.model.specs.Answers.{numberOf, costOf}
 use Rattle.model.specs.Acts.{Act, openSitting, seatCandidate, closeSitting, submitSheet, readLeast, readLowest, readUsed}
 use Rattle.model.specs.Acts.{Phase, unopened, opened, closed, Facts, eventOf}
 use Rattle.model.specs.Acts.{Event, nothingDone, openingDone, seatingDone, closingDone, submissionCounted, submissionMarked}
-use Rattle.model.specs.SittingState.{State, factsOf, after, lowerOf, phaseOf, stateOf, sittingAfter, seatsAfter}
+use Rattle.model.specs.SittingState.{State, factsOf, after, phaseOf, stateOf, sittingAfter, seatsAfter}
 use Rattle.model.specs.Calls.{applies, actRequest, actRefusals, actCost, firstRefusal}
 
 -- The answer that the facts of a sitting give to an act.
@@ -181,10 +181,15 @@ sinceOpening (e ∷ h) = cond (isOpening e) [] (e ∷ sinceOpening h)
 abbrev pub lastOpening : List Event → Event
 lastOpening h = headD (keep isOpening h) nothingDone
 
+-- The smallest of a number and some others.
+unfoldable pub smallestOf : ℕ → List ℕ → ℕ
+smallestOf n [] = n
+smallestOf n (m ∷ ns) = min n (smallestOf m ns)
+
 -- The lowest of some costs, or none where there are none.
 unfoldable pub lowestAmong : List ℕ → Option ℕ
 lowestAmong [] = none
-lowestAmong (n ∷ ns) = some (lowerOf (lowestAmong ns) n)
+lowestAmong (n ∷ ns) = some (smallestOf n ns)
 
 -- Whether the sitting is unopened, open or closed.
 unfoldable pub phaseIn : List Event → Phase

@@ -20,7 +20,7 @@ pub struct View {
 }
 
 // The smaller of two numbers.
-fn least(a: usize, b: usize) -> usize
+fn smaller(a: usize, b: usize) -> usize
     ensures { λ r. ⌜ r ≡ min a b ⌝ }
 {
     if a < b {
@@ -30,7 +30,7 @@ fn least(a: usize, b: usize) -> usize
 }
 
 // An empty record.
-fn vacant() -> Seat
+fn empty_seat() -> Seat
     ensures { λ r. ⌜ r ≡ emptySeat ⌝ }
 {
     Seat {
@@ -45,8 +45,8 @@ fn vacant() -> Seat
 fn start(wanted: u16, len: usize) -> View
     ensures { λ r. ⌜ r ≡ startOf wanted len ⌝ }
 {
-    let n = least(32, len);
-    let seat = vacant();
+    let n = smaller(32, len);
+    let seat = empty_seat();
     View {
         wanted,
         k: 0,
@@ -139,8 +139,8 @@ pub fn put(seats: &mut [Seat], at: usize, s: Seat)
 pub fn empty_first(seats: &mut [Seat], count: usize)
     ensures { λ _. ⌜ now (seats .exit) ≡ emptied count (now (seats .entry)) ⌝ }
 {
-    let n = least(count, seats.len());
-    let s = vacant();
+    let n = smaller(count, seats.len());
+    let s = empty_seat();
     let mut k = 0;
     while k < n {
         seats[k] = s;

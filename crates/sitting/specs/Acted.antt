@@ -1,10 +1,11 @@
 -- What an act makes of a view of the list is what it makes of the list.
-use Prim.Native.Nat.{ℕ, zero, suc}
+use Prim.Native.Nat.{ℕ}
 use mathlib.Core.Path.{_≡_, refl, sym, ap, _∙_}
 use mathlib.Core.Bool.{Bool, true, false, cond, not, _&&_}
 use mathlib.Core.List.{List, [], _∷_, _++_, map}
-use lib.ListN.{length, getD, set, take-append-drop}
-use lib.Seq.{set-append-left}
+use lib.ListN.{length, getD, set, take-append-drop, List·getD-map}
+use native.Mathlib.Nat.{le-refl}
+use lib.Seq.{set-append-left, set-out}
 use lib.Dec.{leb, eqb}
 use borrow.Author.Tests.{not-false}
 use Rattle.lists.specs.Tests.{or-right}
@@ -27,12 +28,6 @@ use Rattle.seats.specs.declared.View.{View}
 use Rattle.seats.specs.Scanned.{scanned}
 use Rattle.sitting.specs.Seen.{seen, placeFor, recordFor, eventSeen, replySeen, outcomeOf}
 
--- Element k of the images is the image of element k.
-getD-map : {A B : Type 0} (f : A → B) (d : A) (xs : List A) (k : ℕ) → getD (map f xs) k (f d) ≡ f (getD xs k d)
-getD-map f d [] k = refl
-getD-map f d (x ∷ xs) zero = refl
-getD-map f d (x ∷ xs) (suc k) = getD-map f d xs k
-
 -- The view for a candidate and the list agree as far as an act about this candidate can tell.
 seen-agrees : (z : Sitting) (xs : List Seat) (c : ℕ) → AgreeAt c (seen z (scanned c xs)) (factsOf (stateOf z xs))
 unfolding seen scanned lowestOf
@@ -50,7 +45,7 @@ seen-agrees z xs c =
         same-lowest = λ e.
             ap (λ (p : Place). p .lowest) (sym
             (ap (λ (k : ℕ). getD (map placeOf (seatsOf xs)) k emptyPlace) (place-map placeOf (isOf c) (isFor c) (λ s. refl) (seatsOf xs))
-            ∙ getD-map placeOf emptySeat (seatsOf xs) (firstPlace (isOf c) (seatsOf xs))));
+            ∙ List·getD-map placeOf (seatsOf xs) (firstPlace (isOf c) (seatsOf xs)) emptySeat));
       };
     }
 
@@ -62,11 +57,6 @@ answer-seen z xs a = answers-agree a _ _ (seen-agrees z xs (concerned a))
 pub reply-seen : (z : Sitting) (xs : List Seat) (a : Act) → replySeen z (scanned (concerned a) xs) a ≡ replyOf z xs a
 unfolding replySeen replyOf toldBy eventSeen
 reply-seen z xs a = rw (told-agree a _ _ (seen-agrees z xs (concerned a)), answer-seen z xs a)
-
--- A list set at its end is as it was.
-set-end : {A : Type 0} (xs : List A) (x : A) → set xs (length xs) x ≡ xs
-set-end [] x = refl
-set-end (y ∷ ys) x = ap (λ (l : List _). y ∷ l) (set-end ys x)
 
 -- A list in which the first seat that passes a test is changed is set at its place.
 changed-set :
@@ -87,7 +77,7 @@ putBy v xs a r = set xs (placeFor v (eventOf a r)) (recordFor v (eventOf a r))
 seating-put : (z : Sitting) (xs : List Seat) (d c : ℕ) (r : Answer) → answerTo (factsOf (stateOf z xs)) (seatCandidate d c) ≡ r →
     putBy (scanned c xs) xs (seatCandidate d c) r ≡ seatsAfter (eventOf (seatCandidate d c) r) xs
 unfolding eventOf actDone actRefused placeFor recordFor seatsAfter scanned answerTo actRequest actRefusals applies onAct seatUnavailable
-seating-put z xs d c (Refused x) e = set-end xs emptySeat
+seating-put z xs d c (Refused x) e = set-out xs (length xs) emptySeat (le-refl (length xs))
 seating-put z xs d c (Cost n) e =
     let test = applies (actRequest (factsOf (stateOf z xs)) (seatCandidate d c)) in
     let (known, last) = first-passed test [] _ (first-passed test (SeatUnavailable ∷ []) _ e .1) in
@@ -104,8 +94,8 @@ submission-put z xs d card sheet (Refused x) e =
   where
     either : (b : Bool) → let f = cond b submissionCounted nothingDone in
         set xs (placeFor (scanned d xs) f) (recordFor (scanned d xs) f) ≡ seatsAfter f xs
-    either true = set-end xs emptySeat
-    either false = set-end xs emptySeat
+    either true = set-out xs (length xs) emptySeat (le-refl (length xs))
+    either false = set-out xs (length xs) emptySeat (le-refl (length xs))
 submission-put z xs d card sheet (Cost n) e =
     changed-set (isOf d) (markedRecord n) xs
     (sym (occurs-map placeOf (isOf d) (isFor d) (λ s. refl) (seatsOf xs)) ∙ not-false _ (or-right (eqb d 0) _ (submitted-seated _ d card sheet e)))

@@ -146,7 +146,7 @@ whole-starts = from-unopened wholeSitting refl
 
 whole-lent : EachAct (LentCard cardA) wholeSitting
 unfolding EachAct LentCard
-whole-lent = (tt, (refl, (tt, (tt, (tt, (tt, (tt, (tt, (refl, (refl, (tt, (tt, (tt, (refl, (refl, (tt, (tt, (tt, (tt, (refl, (tt, tt)))))))))))))))))))))
+whole-lent = (tt, (refl, (tt, (tt, (tt, (tt, (tt, (tt, (refl, (refl, (refl, (tt, (tt, (tt, (refl, (refl, (refl, (tt, (tt, (tt, (tt, (tt, (refl, (tt, (tt, (tt, (refl, (tt, (tt, (refl, (tt, tt)))))))))))))))))))))))))))))))
 
 -- So the theorems on sequences speak of it.
 pub sequence-applied : toldInTurn (sittingOf 0 0 0 0) (odd ∷ odd ∷ []) wholeSitting ≡ toldFrom 2 [] wholeSitting

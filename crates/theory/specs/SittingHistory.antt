@@ -19,7 +19,7 @@ use Rattle.model.specs.Acts.{isUnopened}
 use Rattle.model.specs.Acts.{Event, nothingDone, openingDone, seatingDone, closingDone, submissionCounted, submissionMarked}
 use Rattle.model.specs.SittingState.{Place, State, isFor, emptyPlace, seatedPlace, markedPlace, factsOf, lowerOf, after}
 use Rattle.model.specs.Sittings.{isOpening, isClosing, isSubmission, seatedBy, costsOf, allowanceOf, leastOf, sinceOpening, lastOpening}
-use Rattle.model.specs.Sittings.{lowestAmong, phaseIn, factsIn}
+use Rattle.model.specs.Sittings.{smallestOf, lowestAmong, phaseIn, factsIn}
 use Rattle.laws.specs.SittingLaws.{AgreeAt}
 use Rattle.theory.specs.SittingEvents.{Possible, nothing-possible, opening-possible, closing-possible, counted-possible, seating-possible}
 use Rattle.theory.specs.SittingEvents.{marked-possible}
@@ -47,6 +47,12 @@ unseated-none : (ps : List Place) (c : ℕ) → occurs (isFor c) ps ≡ false �
 unseated-none ps c absent =
     ap (λ (k : ℕ). getD ps k emptyPlace .lowest) (place-beyond (isFor c) ps absent)
     ∙ ap (λ (p : Place). p .lowest) (List·getD-eq-default ps emptyPlace (le-refl (length ps)))
+
+-- The lowest of some costs and one more is the lower of the two.
+lowest-more : (n : ℕ) (ns : List ℕ) → lowestAmong (n ∷ ns) ≡ some (lowerOf (lowestAmong ns) n)
+unfolding lowestAmong smallestOf lowerOf
+lowest-more n [] = refl
+lowest-more n (m ∷ ns) = ap (λ (l : ℕ). some l) (omega arith)
 
 module _ {seats : ℕ} {ps : List Place} {h : List Event} (told : SeatsTold seats ps h) where
   -- Seating a candidate.
@@ -79,7 +85,7 @@ module _ {seats : ℕ} {ps : List Place} {h : List Event} (told : SeatsTold seat
   marking-told :
       {c n : ℕ} → eqb c 0 ≡ false → occurs (isFor c) ps ≡ true →
       SeatsTold seats (changeFirst (isFor c) (markedPlace n) ps) (submissionMarked c n ∷ h)
-  unfolding seatedBy costsOf flatMap lowestAmong
+  unfolding seatedBy costsOf flatMap
   marking-told {c} {n} real found =
       record {
         who = λ d e. change-occurs (isFor c) (markedPlace n) (isFor d) (λ p f. refl) ps ∙ told .who d e;
@@ -90,7 +96,8 @@ module _ {seats : ℕ} {ps : List Place} {h : List Event} (told : SeatsTold seat
             let same : c ≡ d = eqb-true c d t in
             rw t (ap (λ (x : ℕ). lowestAt (changeFirst (isFor c) (markedPlace n) ps) x) (sym same)
             ∙ ap (λ (p : Place). p .lowest) (change-found (isFor c) (markedPlace n) (λ p. refl) emptyPlace ps found)
-            ∙ ap (λ (o : Option ℕ). some (lowerOf o n)) (told .lowest c real ∙ ap (λ (x : ℕ). lowestAmong (flatMap (costsOf x) h)) same)))
+            ∙ ap (λ (o : Option ℕ). some (lowerOf o n)) (told .lowest c real ∙ ap (λ (x : ℕ). lowestAmong (flatMap (costsOf x) h)) same)
+            ∙ sym (lowest-more n _)))
             (λ (t : eqb c d ≡ false).
             rw t (ap (λ (p : Place). p .lowest) (change-apart (isFor c) (markedPlace n) (isFor d) (λ p f. (seat-apart c d t p f, seat-apart c d t p f)) emptyPlace ps)
             ∙ told .lowest d e))

@@ -1,5 +1,4 @@
--- Any sequence of acts (document 02, §4): what it is told is what the rules tell from the history alone, and what follows of it for the
--- candidates' figures.
+-- Any sequence of acts of a sitting (document 02, §4): what it is told is what the rules tell from the history alone.
 use Prim.Native.Nat.{ℕ}
 use mathlib.Core.Path.{_≡_, refl, sym, ap, _∙_, subst}
 use mathlib.Core.Bool.{false, true≢false}

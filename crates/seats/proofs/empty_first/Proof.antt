@@ -14,14 +14,14 @@ use Rattle.model.proofs.Seat.Laws as S′
 use Rattle.seats.specs.Scanned.{emptied}
 use Rattle.seats.specs.Scanning.{empty-none, empty-next, empty-length, empty-least}
 use Rattle.seats.proofs.Walk.{var, part, sets, keeps, adds-num, seat, at-seat, typed, offset-fits, opens-at, closes-at, leave, run-of, Locals, places, by-walk, needs-none, whiles, Call, call-of, calls}
-use Rattle.seats.proofs.least as least
-use Rattle.seats.proofs.least.Symbol as least-def
-use Rattle.seats.proofs.least.Symbol.{name as #least}
-use Rattle.seats.proofs.least.Met as least-thm
-use Rattle.seats.proofs.vacant as vacant
-use Rattle.seats.proofs.vacant.Symbol as vacant-def
-use Rattle.seats.proofs.vacant.Symbol.{name as #vacant}
-use Rattle.seats.proofs.vacant.Met as vacant-thm
+use Rattle.seats.proofs.smaller as smaller
+use Rattle.seats.proofs.smaller.Symbol as smaller-def
+use Rattle.seats.proofs.smaller.Symbol.{name as #smaller}
+use Rattle.seats.proofs.smaller.Met as smaller-thm
+use Rattle.seats.proofs.empty_seat as empty-seat
+use Rattle.seats.proofs.empty_seat.Symbol as empty-seat-def
+use Rattle.seats.proofs.empty_seat.Symbol.{name as #empty-seat}
+use Rattle.seats.proofs.empty_seat.Met as empty-seat-thm
 use Rattle.seats.proofs.empty_first.Key.{name as #f}
 use Rattle.seats.proofs.empty_first as f
 use Rattle.seats.proofs.empty_first.Statement as stated
@@ -36,16 +36,16 @@ module _ {M : Type 1} (𝓤 : URA M) (H : Heap 𝓤) (A : Atoms 𝓤) (mem : Mem
   abbrev count : ℕ
   count = min c (length (x .now))
 
-  -- The call of `least`.
-  abbrev to-least : Call 𝓤 H A
-  to-least =
-      call-of least.ended (least.clauses 𝓤 H A mem run) ((tt, tt, tt, (c, (length (x .now), tt)), (vint w64 c ∷ [], (vint w64 (length (x .now)) ∷ [], tt))), tt)
+  -- The call of `smaller`.
+  abbrev to-smaller : Call 𝓤 H A
+  to-smaller =
+      call-of smaller.ended (smaller.clauses 𝓤 H A mem run) ((tt, tt, tt, (c, (length (x .now), tt)), (vint w64 c ∷ [], (vint w64 (length (x .now)) ∷ [], tt))), tt)
       (‵ ftrue) (id⊢ 𝓤 _) (id⊢ 𝓤 _) (id⊢ 𝓤 _) count (λ r ws. r ≡ count) (λ r ws. id⊢ 𝓤 _) (λ r ws e. e) (vint w64) (uint-tells w64)
 
-  -- The call of `vacant`.
-  abbrev to-vacant : Call 𝓤 H A
-  to-vacant =
-      call-of vacant.ended (vacant.clauses 𝓤 H A mem run) ((tt, tt, tt, tt, tt), tt)
+  -- The call of `empty_seat`.
+  abbrev to-empty-seat : Call 𝓤 H A
+  to-empty-seat =
+      call-of empty-seat.ended (empty-seat.clauses 𝓤 H A mem run) ((tt, tt, tt, tt, tt), tt)
       (‵ ftrue) (id⊢ 𝓤 _) (id⊢ 𝓤 _) (id⊢ 𝓤 _) emptySeat (λ r ws. r ≡ emptySeat) (λ r ws. id⊢ 𝓤 _) (λ r ws e. e) at-seat (LL.tells S.the-type S′.the-laws)
 
   -- What the parameters own where the list is now ys.
@@ -59,9 +59,9 @@ module _ {M : Type 1} (𝓤 : URA M) (H : Heap 𝓤) (A : Atoms 𝓤) (mem : Mem
 
 -- The walk.
 meets : {M : Type 1} (𝓤 : URA M) (H : Heap 𝓤) (A : Atoms 𝓤) (mem : Memory → SProp 𝓤) (run : Routine → Fun 𝓤) (W : Given 𝓤 H A) (𝓣 : Tables 𝓤 H) →
-    Triple 𝓤 (𝓣 .C #least) (tripleOf 𝓤 H A least.signature (least.spec 𝓤 H A mem run)) → Triple 𝓤 (𝓣 .C #vacant) (tripleOf 𝓤 H A vacant.signature (vacant.spec 𝓤 H A mem run)) →
+    Triple 𝓤 (𝓣 .C #smaller) (tripleOf 𝓤 H A smaller.signature (smaller.spec 𝓤 H A mem run)) → Triple 𝓤 (𝓣 .C #empty-seat) (tripleOf 𝓤 H A empty-seat.signature (empty-seat.spec 𝓤 H A mem run)) →
     Meets 𝓤 H A f.signature (WpFn 𝓤 H (𝓣 .C) (𝓣 .Λ) code.function) (f.spec 𝓤 H A mem run)
-meets 𝓤 H A mem run W 𝓣 known-least known-vacant =
+meets 𝓤 H A mem run W 𝓣 known-smaller known-empty-seat =
     by-walk 𝓤 H A f.ended stayed W (goes-slice 𝓤 H A W 1 0 tt (plain (λ _. seat)), (goes-none 𝓤 H A W 1 (λ _. usize) yes (λ κs x f. refl), tt)) (f.clauses 𝓤 H A mem run) 𝓣 code.function
     (λ κs. (slice-vals, (uint-vals w64, tt))) (λ κs. (mut-slice-tells (named 0) (κs .0) seat, (uint-tells w64, tt))) (λ κs qs bounds a g are ends.
     let x : RefT (List Seat) = a .0 in
@@ -75,9 +75,9 @@ meets 𝓤 H A mem run W 𝓣 known-least known-vacant =
     pass1 ! (init ! 16 refl (tt, (tt, (record { fits = len-fits }, tt)))) $ pass1 ! (init ! 14 refl (tt, record { fits = are .1 .0 .1 })) $ pass0 ! $
     sets ! (of-opd ! (part ! refl (look-in ! 16 (sub ! 1 refl (whole !))))) (init ! 6 refl (tt, record { fits = len-fits })) $
     nothing ! $ adds-num ! w64 n _ (refl, len-fits) $ adds-num ! w64 c _ (are .1 .0) $ nothing ! $
-    calls (to-least 𝓤 H A mem run x c) ! (fmOf 𝓤 H (W .laws) 𝓣) known-least (and-then ! (var ! 15 refl) (and-then ! (var ! 7 refl) (no-more !))) (λ r ws e is.
+    calls (to-smaller 𝓤 H A mem run x c) ! (fmOf 𝓤 H (W .laws) 𝓣) known-smaller (and-then ! (var ! 15 refl) (and-then ! (var ! 7 refl) (no-more !))) (λ r ws e is.
     drop ! $ drop ! $ drop ! $ keeps ! (init ! 12 refl (tt, record { fits = is .1 })) $ nothing ! $ nothing ! $
-    calls (to-vacant 𝓤 H A mem run x c) ! (fmOf 𝓤 H (W .laws) 𝓣) known-vacant (no-more !) (λ r ws e empty.
+    calls (to-empty-seat 𝓤 H A mem run x c) ! (fmOf 𝓤 H (W .laws) 𝓣) known-empty-seat (no-more !) (λ r ws e empty.
     drop ! $ drop ! $ drop ! $ keeps ! (init ! 10 refl (typed 𝓤 H A W emptySeat empty)) $
     sets ! (of-opd ! (lit ! tt)) (init ! 8 refl (tt, record { fits = lit< tt })) $
     move ! (20 ∷ 21 ∷ []) $ rewrite ! 1 (had 𝓤 H A mem run x c (κs .0)) (sym (empty-none xs)) refl $
@@ -112,5 +112,5 @@ empty-first-spec 𝓤 H 𝓜 𝓖 𝓡 =
     entered 𝓤 H (tripleOf 𝓤 H (𝓖 .A) f.signature (f.spec 𝓤 H (𝓖 .A) (𝓜 .mem) (𝓡 .run)))
     (tables 𝓤 H 𝓜 𝓡 code.env .C) (tables 𝓤 H 𝓜 𝓡 code.env .Λ) #f code.function (code.unfolded 𝓤 H 𝓜 𝓡)
     (meets 𝓤 H (𝓖 .A) (𝓜 .mem) (𝓡 .run) (givenOf 𝓤 H 𝓜 𝓖) (tablesOf 𝓤 H 𝓜 (tables 𝓤 H 𝓜 𝓡 code.env))
-    (cited 𝓤 H (tripleOf 𝓤 H (𝓖 .A) least.signature (least.spec 𝓤 H (𝓖 .A) (𝓜 .mem) (𝓡 .run))) 𝓜 𝓡 code.env #least least-def.routine code.calls-seats·least (least-thm.met 𝓤 H 𝓜 𝓖 𝓡))
-    (cited 𝓤 H (tripleOf 𝓤 H (𝓖 .A) vacant.signature (vacant.spec 𝓤 H (𝓖 .A) (𝓜 .mem) (𝓡 .run))) 𝓜 𝓡 code.env #vacant vacant-def.routine code.calls-seats·vacant (vacant-thm.met 𝓤 H 𝓜 𝓖 𝓡)))
+    (cited 𝓤 H (tripleOf 𝓤 H (𝓖 .A) smaller.signature (smaller.spec 𝓤 H (𝓖 .A) (𝓜 .mem) (𝓡 .run))) 𝓜 𝓡 code.env #smaller smaller-def.routine code.calls-seats·smaller (smaller-thm.met 𝓤 H 𝓜 𝓖 𝓡))
+    (cited 𝓤 H (tripleOf 𝓤 H (𝓖 .A) empty-seat.signature (empty-seat.spec 𝓤 H (𝓖 .A) (𝓜 .mem) (𝓡 .run))) 𝓜 𝓡 code.env #empty-seat empty-seat-def.routine code.calls-seats·empty-seat (empty-seat-thm.met 𝓤 H 𝓜 𝓖 𝓡)))
