@@ -1,18 +1,23 @@
 -- What the calls of a sitting give is what the theorems on all calls and those on sequences of acts speak of (document 02, §4).
 use Prim.Native.Nat.{ℕ}
-use mathlib.Core.Path.{_≡_, refl}
-use mathlib.Core.Bool.{Bool, true, false, cond, _&&_}
+use mathlib.Core.Path.{_≡_, refl, ap}
+use mathlib.Core.Bool.{Bool, true, false, cond, _&&_, false≢true}
+use mathlib.Core.Logic.{_↔_, ⊎-elim}
 use mathlib.Core.List.{List, []}
-use lib.Dec.{leb}
+use native.Mathlib.Omega.{arith}
+use lib.Dec.{leb, eqb}
+use borrow.Author.Tests.{eqb-true, eq-eqb, ne-eqb}
+use Rattle.lists.specs.Numbers.{true-or-false}
 use Rattle.model.specs.declared.Refusal.{Refusal}
 use Rattle.model.specs.declared.Answer.{Answer}
 use Rattle.model.specs.declared.Answer.the-variants.{Cost, Refused}
 use Rattle.model.specs.declared.Seat.{Seat}
 use Rattle.model.specs.declared.Sitting.{Sitting}
 use Rattle.model.specs.Answers.{refusalNumber}
-use Rattle.model.specs.Acts.{Facts, Act, openSitting, seatCandidate, closeSitting, submitSheet, readLeast, readLowest, readUsed, notPermitted}
+use Rattle.model.specs.Acts.{unopened, opened, closed, isOpened, isClosed, Facts, notPermitted}
+use Rattle.model.specs.Acts.{Act, openSitting, seatCandidate, closeSitting, submitSheet, readLeast, readLowest, readUsed}
 use Rattle.model.specs.Acts.{nothingDone, submissionCounted, submissionRefused, actDone, actRefused, eventOf}
-use Rattle.model.specs.SittingState.{factsOf, stateOf, seatsAfter}
+use Rattle.model.specs.SittingState.{phaseOf, factsOf, stateOf, seatsAfter}
 use Rattle.model.specs.Calls.{actIn, answer, requestOf, refusals, successCost, Gives, applies, onAct, actRequest, actRefusals, actCost, firstRefusal}
 use Rattle.model.specs.Sittings.{answerTo, markedBy, markedWith, told, toldBy, replyWith, replyOf, seatsAtExit}
 
@@ -93,3 +98,27 @@ module _ (z : Sitting) (xs : List Seat) where
   pub used-leaves : (d : ℕ) → seatsAtExit z xs (readUsed d) ≡ xs
   unfolding seatsAfter actDone
   used-leaves d = leaves (readUsed d) (λ n. refl)
+
+-- A sitting counts as open exactly if its state is 1.
+pub phase-opened : (n : ℕ) → phaseOf n ≡ opened ↔ (n ≡ 1)
+unfolding phaseOf isOpened
+phase-opened n = (
+  λ e. ⊎-elim (eqb-true n 1) (λ (t : eqb n 1 ≡ false). absurd (never (eqb n 2) (rw t at e))) (true-or-false (eqb n 1)),
+  λ e. rw (eq-eqb n 1 e),
+)
+  where
+    never : (b : Bool) → cond b closed unopened ≡ opened → ⊥
+    never true e = false≢true (ap isOpened e)
+    never false e = false≢true (ap isOpened e)
+
+-- A sitting counts as closed exactly if its state is 2.
+pub phase-closed : (n : ℕ) → phaseOf n ≡ closed ↔ (n ≡ 2)
+unfolding phaseOf isClosed
+phase-closed n = (
+  λ e. ⊎-elim (eqb-true n 2) (λ (t : eqb n 2 ≡ false). absurd (never (eqb n 1) (rw t at e))) (true-or-false (eqb n 2)),
+  λ e. rw (ne-eqb n 1 (λ one. absurd (omega arith)), eq-eqb n 2 e),
+)
+  where
+    never : (b : Bool) → cond b opened unopened ≡ closed → ⊥
+    never true e = false≢true (ap isClosed e)
+    never false e = false≢true (ap isClosed e)
