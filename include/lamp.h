@@ -12,8 +12,8 @@
  * load. More light is allowed, because the projectors have a shutter. An active module costs points in
  * each slot, and switching a module on or off costs points too. The library finds how many modules should
  * be active in each slot, and at which steps, so that the whole show costs the least. It also gives the
- * cost of any other choice, it makes practice cards, each from a number, and it keeps the rules of a
- * sitting, in which candidates submit sheets.
+ * cost of any other choice, it makes practice cards, each from a number, it writes the table of the
+ * catalogue module into a card, and it keeps the rules of a sitting, in which candidates submit sheets.
  *
  *
  * HOW TO LINK IT
@@ -222,6 +222,46 @@
  * it is at least 0 and at most UINT32_MAX.
  *
  *
+ * THE CATALOGUE MODULE'S TABLE
+ *
+ * Every customer buys the same module, the catalogue module, and its table comes with the library. The
+ * rule of the table, for k from 0 to 200, is
+ *     F(k) = 400 + 3 * k + k * (k - 1) / 2
+ * The division leaves no remainder, because k or k - 1 is even. So F(0) is 400, F(1) is 403, F(2) is 407,
+ * and F(200) is 20,900. For a calculation by hand: F(0) is 400, and F(k + 1) is F(k) + 3 + k, so the first
+ * difference is 3 and each later one is larger by 1 than the one before it. F(0) to F(8) are
+ *     400 403 407 412 418 425 433 442 452
+ *
+ * lamp_catalogue_table writes F(0) to F(top) as a card has them: four bytes each, the lowest byte first,
+ * 4(top + 1) bytes in all. In a card the table begins at offset 17, and the top step Q is the byte at
+ * offset 6. So a host makes a header with Q = top, lets the call write behind it, at card + 17, and puts
+ * the loads behind the table, at card + 17 + 4 * (top + 1):
+ *
+ *     static uint8_t card[LAMP_MAX_CARD] = {0x44, 0x4C, 0x53, 1, 0, 3, 2, 3, 0, 3, 0, 0, 0, 2, 0, 0, 0};
+ *     static const uint8_t loads[] = {6, 0, 0, 0, 2, 0};
+ *     struct lamp_answer answer = lamp_catalogue_table(card[6], card + 17, sizeof card - 17);
+ *     if (answer.number == 0) {
+ *         size_t loads_at = 17 + 4 * ((size_t)card[6] + 1);
+ *         memcpy(card + loads_at, loads, sizeof loads);
+ *         answer = lamp_check_card(card, loads_at + sizeof loads);
+ *     }
+ *
+ * This makes the card of THE CARD above with the catalogue module's table, F = 400 403 407. It is
+ * accepted. In hex:
+ *     44 4C 53 01 00 03 02 03 00 03 00 00 00 02 00 00 00 90 01 00 00 93 01 00 00 97 01 00 00 06 00 00 00 02 00
+ * lamp_plan_exact gives cost 1648 and the plan 3 0 1, because a module that stays active through slot 2
+ * costs 400 points there.
+ *
+ * It is proved of every card whose Q is top and whose table is these bytes that refusals 6 and 7 find
+ * nothing wrong with its table, and that its table never falls. So the card is accepted exactly if its
+ * other fields are in order: the mark, the version, m, T, the length, both prices and the loads. Q and top
+ * must be the same number, because Q says where the table of a card ends. The call cannot see this: it
+ * reads nothing of the card.
+ *
+ * A top outside 1 to 200 is refused by 3. top has 64 bits, so a host may hand on what it read: if it gives
+ * a negative number as top, C makes it a number far above 200.
+ *
+ *
  * A SITTING
  *
  * A sitting is an examination on one card. The supervisor opens it, seats candidates and closes it, and
@@ -334,20 +374,21 @@
  * is refused like any longer one.
  *
  * Buffers that are written (plan and work of a planner or of lamp_sitting_open, sheet of lamp_sheet, card
- * of lamp_practice_card) have at least the length that the call asks for. They may be longer, and may hold
- * anything at entry: they need no clearing, and nothing in them changes the answer. After a success the
- * bytes asked for hold the answer, in a work buffer zeros, and all further bytes are as they were. After a
- * refusal all bytes are as they were.
+ * of lamp_practice_card, table of lamp_catalogue_table) have at least the length that the call asks for.
+ * They may be longer, and may hold anything at entry: they need no clearing, and nothing in them changes
+ * the answer. After a success the bytes asked for hold the answer, in a work buffer zeros, and all further
+ * bytes are as they were. After a refusal all bytes are as they were.
  *
  * The list of seats is an array of struct lamp_seat of any length. The comment at each act says which
  * records it changes. After a refusal all records are as they were.
  *
- *   buffer                       bytes asked for
- *   plan                         T
- *   work of lamp_plan_exact      (m + 1) * T, also of lamp_sitting_open
- *   work of lamp_plan_coarse     10 * T, for every m
- *   sheet                        m * T
- *   card of lamp_practice_card   17 + 4(Q + 1) + 2T of the practice card, at most LAMP_MAX_PRACTICE
+ *   buffer                          bytes asked for
+ *   plan                            T
+ *   work of lamp_plan_exact         (m + 1) * T, also of lamp_sitting_open
+ *   work of lamp_plan_coarse        10 * T, for every m
+ *   sheet                           m * T
+ *   card of lamp_practice_card      17 + 4(Q + 1) + 2T of the practice card, at most LAMP_MAX_PRACTICE
+ *   table of lamp_catalogue_table   4(top + 1), at most LAMP_MAX_TABLE
  *
  * Once lamp_check_card has accepted a card, its m is card[5] and its T is card[7] + 256 * card[8], and a
  * host may make its buffers that long. Or it takes the sizes LAMP_MAX_.. below, enough for every card. Q
@@ -359,9 +400,9 @@
  *
  * THREADS, MEMORY AND STACK
  *
- * The library has no static data, and no call keeps anything after it returns. So all calls are
- * reentrant. Calls that run at the same time may share the buffers that are only read. A buffer that is
- * written belongs to one call at a time, and so does a list of seats.
+ * The library has no static data but constants, and no call keeps anything after it returns. So all calls
+ * are reentrant. Calls that run at the same time may share the buffers that are only read. A buffer that
+ * is written belongs to one call at a time, and so does a list of seats.
  *
  * No call allocates memory, does input or output, or computes with floating-point numbers. (The compiled
  * code does use the SSE2 registers of x86-64, for whole numbers.) LAMP_MAX_STACK below says how much
@@ -387,7 +428,7 @@ extern "C" {
 #endif
 
 /* The release of this library. */
-#define LAMP_RELEASE "2.2.0"
+#define LAMP_RELEASE "2.3.0"
 
 /* The version of the cards that this library accepts, and of those that it makes. */
 #define LAMP_CARD_VERSION 1
@@ -395,14 +436,15 @@ extern "C" {
 /* The byte of a sheet for a module that is off. */
 #define LAMP_OFF 255
 
-/* The sizes that are enough for every card and for every start, in bytes. A host whose buffers have these sizes never
- * gets refusal 10. */
+/* The sizes that are enough for every card, for every start and for every top step, in bytes. A host whose buffers have
+ * these sizes never gets refusal 10. */
 #define LAMP_MAX_CARD 2869         /* a card of Q 200 and T 1,024: 17 + 4 * (200 + 1) + 2 * 1,024 */
 #define LAMP_MAX_PLAN 1024         /* a plan of T 1,024 */
 #define LAMP_MAX_EXACT_WORK 205824 /* work of lamp_plan_exact for m 200 and T 1,024: (200 + 1) * 1,024 */
 #define LAMP_MAX_COARSE_WORK 10240 /* work of lamp_plan_coarse for T 1,024 and any m: 10 * 1,024 */
 #define LAMP_MAX_SHEET 204800      /* a sheet of m 200 and T 1,024: 200 * 1,024 */
 #define LAMP_MAX_PRACTICE 949      /* a practice card of Q 200 and T 64 (start 6,548): 17 + 4 * (200 + 1) + 2 * 64 */
+#define LAMP_MAX_TABLE 804         /* table of lamp_catalogue_table for top 200: 4 * (200 + 1) */
 
 /* The most seats of a sitting, and its largest allowance. A list of seats may have more records: those after the 32nd
  * are not used. */
@@ -575,6 +617,19 @@ struct lamp_answer lamp_rounded_count(uint64_t count, uint64_t modules);
  * Refusals:  14 if start is 0; then 10 if card_len is less than asked for. All bytes of card are as they
  *            were. */
 struct lamp_answer lamp_practice_card(uint32_t start, uint8_t *card, size_t card_len);
+
+/* Writes F(0) to F(top) of the catalogue module as a card's fields, by the rule that THE CATALOGUE MODULE'S TABLE above
+ * states.
+ *
+ * Reads:     nothing.
+ * Writes:    table.
+ * Asks for:  4(top + 1) bytes of table. This is at most LAMP_MAX_TABLE.
+ * Success:   cost 0. The first 4(top + 1) bytes of table hold F(0) to F(top), each four bytes, the lowest
+ *            byte first, and all further bytes are as they were. A top from 1 to 200 with LAMP_MAX_TABLE
+ *            bytes of table is never refused.
+ * Refusals:  3 if top is outside 1 to 200, with every buffer; 10 if table_len is less than asked for. All
+ *            bytes of table are as they were. */
+struct lamp_answer lamp_catalogue_table(uint64_t top, uint8_t *table, size_t table_len);
 
 /* Opens a sitting: plans the card exactly, empties the seats and sets the allowance. The sitting handed in may be
  * unopened, open or closed; after a success it is replaced.

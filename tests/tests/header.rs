@@ -1,4 +1,5 @@
 //! What include/lamp.h says beside what the tool and the documents say.
+use lamp::catalogue;
 use lamp::input;
 use lamp::practice;
 use lamp::refusal::Refusal;
@@ -54,7 +55,7 @@ fn words_without_fields_are_the_headers() {
 fn no_call_names_nine() {
     let header = read("include/lamp.h");
     let calls: Vec<&str> = header.split(" * Refusals: ").skip(1).map(|rest| rest.split("*/").next().unwrap()).collect();
-    assert_eq!(calls.len(), 15);
+    assert_eq!(calls.len(), 16);
     for refusals in calls {
         assert!(refusals.split(|c: char| !c.is_ascii_digit()).all(|number| number != "9"), "{refusals}");
     }
@@ -80,7 +81,7 @@ fn on_a_line(text: &str) -> String {
 fn every_call_is_bound() {
     let (header, binding) = (read("include/lamp.h"), read("tool/src/calls.rs"));
     let declared = on_a_line(&binding).replace("( ", "(").replace(", )", ")");
-    for (c, rust, count) in [("lamp_answer", "LampAnswer", 8), ("lamp_reply", "Reply", 7)] {
+    for (c, rust, count) in [("lamp_answer", "LampAnswer", 9), ("lamp_reply", "Reply", 7)] {
         let start = format!("\nstruct {c} lamp_");
         let calls: Vec<&str> = header.split(start.as_str()).skip(1).collect();
         assert_eq!(calls.len(), count);
@@ -117,6 +118,7 @@ fn release_and_limits() {
     assert_eq!(defined(&header, "LAMP_MAX_SHEET"), input::MOST_SHEET.to_string());
     assert!(defined(&header, "LAMP_MAX_CARD").parse::<usize>().unwrap() < input::MOST_CARD);
     assert_eq!(defined(&header, "LAMP_MAX_PRACTICE"), practice::LONGEST.to_string());
+    assert_eq!(defined(&header, "LAMP_MAX_TABLE"), catalogue::LONGEST.to_string());
     assert_eq!(defined(&header, "LAMP_CARD_VERSION"), lamp::show::VERSION.to_string());
     assert_eq!(defined(&header, "LAMP_OFF"), lamp::show::OFF.to_string());
     assert_eq!((defined(&header, "LAMP_MAX_SEATS").as_str(), defined(&header, "LAMP_MAX_ALLOWANCE").as_str()), ("32", "1000"));

@@ -76,6 +76,7 @@ extern "C" {
     fn lamp_mark(card: *const u8, card_len: usize, sheet: *const u8, sheet_len: usize) -> LampAnswer;
     fn lamp_rounded_count(count: u64, modules: u64) -> LampAnswer;
     fn lamp_practice_card(start: u32, card: *mut u8, card_len: usize) -> LampAnswer;
+    fn lamp_catalogue_table(top: u64, table: *mut u8, table_len: usize) -> LampAnswer;
     fn lamp_sitting_open(
         sitting: Sitting,
         caller: u16,
@@ -153,6 +154,12 @@ pub fn rounded_count(count: u64, modules: u64) -> Answer {
 /// The practice card of a start at the front of `card`, at cost 0. Start 0 is refused by 14, and then a short area by 10.
 pub fn practice_card(start: u32, card: &mut [u8]) -> Answer {
     answer(unsafe { lamp_practice_card(start, card.as_mut_ptr(), card.len()) })
+}
+
+/// F(0) to F(top) of the catalogue module at the front of `table`, four bytes each, at cost 0. A top outside 1 to 200 is refused by 3, and
+/// then a short area by 10.
+pub fn catalogue_table(top: u64, table: &mut [u8]) -> Answer {
+    answer(unsafe { lamp_catalogue_table(top, table.as_mut_ptr(), table.len()) })
 }
 
 /// Opens a sitting with an allowance of 1 to 1,000 submissions, at the least cost; `plan` and `work` are those of `plan_exact`. The first 32

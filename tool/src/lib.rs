@@ -3,6 +3,7 @@
 //! `calls` is the safe binding: every call of include/lamp.h as a function over slices. What a call answers is proved. All else in
 //! this crate is tested and not proved: it reads and writes texts, says where a refusal comes from, and draws.
 pub mod calls;
+pub mod catalogue;
 pub mod commands;
 pub mod faults;
 pub mod folder;
