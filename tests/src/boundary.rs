@@ -2,6 +2,7 @@
 use crate::cards::Card;
 use lamp::calls;
 pub use lamp::planning::Planner;
+use std::ops::Range;
 
 pub const BOTH: [Planner; 2] = [Planner::Exact, Planner::Coarse];
 
@@ -74,6 +75,13 @@ pub fn practice_card(start: u32, area: &[u8]) -> Outcome {
     let mut lent = area.to_vec();
     let answer = calls::practice_card(start, &mut lent).into();
     Outcome { answer, buffers: vec![lent] }
+}
+
+/// The call is lent a part of the area; the buffer of the outcome is the whole area.
+pub fn catalogue_table(top: u64, area: &[u8], lent: Range<usize>) -> Outcome {
+    let mut whole = area.to_vec();
+    let answer = calls::catalogue_table(top, &mut whole[lent]).into();
+    Outcome { answer, buffers: vec![whole] }
 }
 
 pub fn sheet(card: &[u8], plan: &[u8], sheet: &[u8]) -> Outcome {

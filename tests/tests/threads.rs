@@ -1,5 +1,7 @@
-//! Calls that run at the same time on one card and on areas of their own.
+//! Calls that run at the same time on one card and on areas of their own, and calls that write the same constant table.
 use lamp::planning::{self, Planner};
+use lamp_tests::boundary;
+use lamp_tests::catalogue;
 use lamp_tests::random::Random;
 use lamp_tests::shows;
 use std::thread;
@@ -18,6 +20,21 @@ fn a_card_is_shared() {
     let repeated = || {
         for _ in 0..10 {
             assert!(cards.iter().map(|card| plan(card)).eq(alone.iter().cloned()));
+        }
+    };
+    thread::scope(|scope| {
+        for _ in 0..4 {
+            scope.spawn(repeated);
+        }
+    });
+}
+
+#[test]
+fn the_catalogue_table_is_written_by_all() {
+    let area = [0xA5; 900];
+    let repeated = || {
+        for top in (0..=201).cycle().take(20_000) {
+            assert_eq!(boundary::catalogue_table(top, &area, 0..area.len()), catalogue::catalogue_table(top, &area));
         }
     };
     thread::scope(|scope| {
