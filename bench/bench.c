@@ -10,15 +10,16 @@
 #include "lamp.h"
 #include "plain.h"
 
-enum { ROUNDS = 60, STARTS = 10000, LOWEST = 80, TIMES = 10000, LAST = LAMP_MAX_SEATS };
+enum { ROUNDS = 60, STARTS = 10000, LOWEST = 80, TIMES = 10000, LAST = LAMP_MAX_SEATS, TOPS = 200, TABLES = 100 };
 
 /* What is measured. The acts after SUBMIT are so short that a round makes each of them TIMES times. */
-enum { EXACT, COARSE, SHEET, MARKING, PRACTICE, OPEN, SUBMIT, SEAT, CLOSE, LEAST, LOWEST_COST, USED, ALL };
-static const char *names[ALL] = {"exact", "coarse", "sheet", "marking", "practice", "open",
+enum { EXACT, COARSE, SHEET, MARKING, PRACTICE, TABLE, OPEN, SUBMIT, SEAT, CLOSE, LEAST, LOWEST_COST, USED, ALL };
+static const char *names[ALL] = {"exact", "coarse", "sheet", "marking", "practice", "table", "open",
                                  "submit", "seat", "close", "least", "lowest", "used"};
 
 static uint8_t card[LAMP_MAX_CARD], plan[LAMP_MAX_PLAN], work[LAMP_MAX_EXACT_WORK], sheet[LAMP_MAX_SHEET];
 static uint8_t practice[LAMP_MAX_PRACTICE], practice_of_c[LAMP_MAX_PRACTICE];
+static uint8_t table[LAMP_MAX_TABLE + 1], table_of_c[LAMP_MAX_TABLE + 1];
 static struct lamp_seat seats[LAMP_MAX_SEATS];
 static struct lamp_reply reply;
 static size_t card_len;
@@ -87,6 +88,39 @@ static void compare_practice(void)
     }
 }
 
+typedef struct lamp_answer (*writer)(uint64_t, uint8_t *, size_t);
+
+/* Writes the tables of tops 1 to TOPS, and all of them TABLES times, each over the one before it. */
+static struct lamp_answer write_tables(writer write)
+{
+    struct lamp_answer all = {0, 0};
+    for (int k = 0; k < TABLES; k++)
+        for (uint64_t top = 1; top <= TOPS; top++)
+            all.number |= write(top, table, sizeof table).number;
+    return all;
+}
+
+/* The library and C answer the same, and leave the same bytes, with a buffer of this length. */
+static void compare_table(uint64_t top, size_t length)
+{
+    memset(table, 0xA5, sizeof table);
+    memset(table_of_c, 0xA5, sizeof table_of_c);
+    struct lamp_answer first = lamp_catalogue_table(top, table, length);
+    struct lamp_answer second = plain_table(top, table_of_c, length);
+    if (first.number != second.number || first.cost != second.cost || memcmp(table, table_of_c, sizeof table)) {
+        printf("the two disagree: top %" PRIu64 ", %zu bytes\n", top, length);
+        exit(1);
+    }
+}
+
+/* Every top and one more, each with every length. */
+static void compare_tables(void)
+{
+    for (uint64_t top = 0; top <= TOPS + 1; top++)
+        for (size_t length = 0; length <= sizeof table; length++)
+            compare_table(top, length);
+}
+
 /* The candidates 1 to LAST are seated. The acts are those of the last one, so that every seat is looked at. */
 static void seat_all(void)
 {
@@ -153,6 +187,8 @@ static struct lamp_answer run(int which, int plain)
         return (plain ? plain_mark : lamp_mark)(card, card_len, sheet, modules * slots);
     case PRACTICE:
         return make_practice(plain ? plain_practice : lamp_practice_card);
+    case TABLE:
+        return write_tables(plain ? plain_table : lamp_catalogue_table);
     case OPEN:
     case SUBMIT:
         return run_on_card(which, plain);
@@ -271,6 +307,11 @@ int main(void)
     measure(PRACTICE, best);
     printf("the cards of starts 1 to 10,000\n");
     print_line(names[PRACTICE], best);
+    compare_tables();
+    measure(TABLE, best);
+    printf("the catalogue module's tables of tops 1 to %d, %d times each\n", TOPS, TABLES);
+    print_line(names[TABLE], best);
+    printf("table: %.1f nanoseconds a call, in C %.1f\n", best[0] * 1e3 / (TOPS * TABLES), best[1] * 1e3 / (TOPS * TABLES));
     make_card(modules, 200, slots = 512);
     measure(EXACT, best);
     printf("exact, T 512 to 1,024: %.2f times the time\n", whole / best[0]);
