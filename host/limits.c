@@ -13,8 +13,8 @@
 
 /* The names of lamp.h can be used by the preprocessor. */
 #if LAMP_CARD_VERSION < 1 || LAMP_MAX_CARD < 1 || LAMP_MAX_PLAN < 1 || LAMP_MAX_EXACT_WORK < 1 || \
-    LAMP_MAX_COARSE_WORK < 1 || LAMP_MAX_SHEET < 1 || LAMP_MAX_PRACTICE < 1 || LAMP_MAX_SEATS < 1 || \
-    LAMP_MAX_ALLOWANCE < 1 || LAMP_MAX_STACK < 1 || LAMP_OFF < 1
+    LAMP_MAX_COARSE_WORK < 1 || LAMP_MAX_SHEET < 1 || LAMP_MAX_PRACTICE < 1 || LAMP_MAX_TABLE < 1 || \
+    LAMP_MAX_SEATS < 1 || LAMP_MAX_ALLOWANCE < 1 || LAMP_MAX_STACK < 1 || LAMP_OFF < 1
 #error "a limit of lamp.h is not a positive number"
 #endif
 
@@ -31,6 +31,7 @@ enum {
     COARSE_BYTES = 10 * SLOTS,
     SHEET_BYTES = MODULES * SLOTS,
     PRACTICE_BYTES = 17 + 4 * (TOP_STEP + 1) + 2 * PRACTICE_SLOTS,
+    TABLE_BYTES = 4 * (TOP_STEP + 1),
     TABLE_AT = 17,
     LOADS_AT = TABLE_AT + 4 * (TOP_STEP + 1)
 };
@@ -43,6 +44,7 @@ enum { STACK_BYTES = 1 << 20, KNOWN_BYTES = 4096, KNOWN_FRAME = 64, STACK_UNIT =
 enum { LONGEST_START = 6548, STARTS = 100000 };
 
 static uint8_t card[CARD_BYTES], plan[PLAN_BYTES], work[EXACT_BYTES], sheet[SHEET_BYTES], practice[PRACTICE_BYTES];
+static uint8_t table[TABLE_BYTES];
 static struct lamp_seat seats[SEATS + 1];
 static unsigned compared, faults;
 static size_t largest_stack; /* of the calls measured so far */
@@ -106,6 +108,7 @@ static void compare_sizes(void)
     compare("LAMP_MAX_COARSE_WORK", "bytes", LAMP_MAX_COARSE_WORK, COARSE_BYTES);
     compare("LAMP_MAX_SHEET", "bytes", LAMP_MAX_SHEET, SHEET_BYTES);
     compare("LAMP_MAX_PRACTICE", "bytes", LAMP_MAX_PRACTICE, PRACTICE_BYTES);
+    compare("LAMP_MAX_TABLE", "bytes", LAMP_MAX_TABLE, TABLE_BYTES);
     compare("LAMP_MAX_SEATS", "records", LAMP_MAX_SEATS, SEATS);
     compare("LAMP_MAX_ALLOWANCE", "submissions", LAMP_MAX_ALLOWANCE, ALLOWANCE);
 }
@@ -138,7 +141,7 @@ static void compare_bounds(void)
 
 /* What the measured calls are given, and what they answer. */
 static struct {
-    uint64_t card_len, plan_len, work_len, sheet_len, practice_len, count, load, modules, state, seats_len;
+    uint64_t card_len, plan_len, work_len, sheet_len, practice_len, table_len, count, load, modules, state, seats_len;
 } given;
 static struct lamp_answer answer;
 static struct lamp_reply reply;
@@ -181,6 +184,11 @@ static void rounded_count(void)
 static void practice_card(void)
 {
     answer = lamp_practice_card(LONGEST_START, practice, given.practice_len);
+}
+
+static void catalogue_table(void)
+{
+    answer = lamp_catalogue_table(TOP_STEP, table, given.table_len);
 }
 
 /* The sitting that an act is handed. */
@@ -312,13 +320,14 @@ static const struct call {
     {"lamp_sitting_submit", submit, 0, 1, &given.sheet_len, LAMP_WRONG_LENGTH},
     {"lamp_rounded_count", rounded_count, 0, 0, &given.modules, LAMP_ENTRY_RANGE},
     {"lamp_practice_card", practice_card, 0, 0, &given.practice_len, LAMP_BUFFER_TOO_SHORT},
+    {"lamp_catalogue_table", catalogue_table, 0, 0, &given.table_len, LAMP_BUFFER_TOO_SHORT},
     {"lamp_sitting_seat", seat, 0, 1, &given.seats_len, LAMP_SEAT_UNAVAILABLE},
     {"lamp_sitting_close", close_sitting, 0, 1, &given.state, LAMP_NOT_PERMITTED},
     {"lamp_sitting_least", least, 0, 2, &given.state, LAMP_NOT_PERMITTED},
     {"lamp_sitting_lowest", lowest, 0, 1, &given.seats_len, LAMP_SEAT_UNAVAILABLE},
     {"lamp_sitting_used", used, 0, 1, &given.state, LAMP_NOT_PERMITTED},
 };
-enum { CALLS = sizeof calls / sizeof calls[0], CALLS_ON_A_CARD = CALLS - 7 };
+enum { CALLS = sizeof calls / sizeof calls[0], CALLS_ON_A_CARD = CALLS - 8 };
 
 /* A list of LAMP_MAX_SEATS seats that are all taken, by the candidates from 1 on, and one record more. */
 static void fill_seats(void)
@@ -338,6 +347,7 @@ static void give_largest(size_t work_len, uint64_t state)
     given.work_len = work_len;
     given.sheet_len = LAMP_MAX_SHEET;
     given.practice_len = LAMP_MAX_PRACTICE;
+    given.table_len = LAMP_MAX_TABLE;
     given.count = MODULES;
     given.load = MODULES * TOP_STEP;
     given.modules = MODULES;
@@ -409,7 +419,8 @@ static void compare_sitting(void)
     compare("a list of 33 records", "seated candidates", seated, SEATS);
 }
 
-/* Buffers of length 0 may be NULL: no card at all, a show without slots, no room for a practice card, no seat. */
+/* Buffers of length 0 may be NULL: no card at all, a show without slots, no room for a practice card or a table, no
+ * seat. */
 static void compare_empty(void)
 {
     put(7, 0, 2);
@@ -429,6 +440,8 @@ static void compare_empty(void)
     compare("no seat, the supervisor", "number", lamp_sitting_least(handed(), 0, NULL, 0).number, 0);
     compare("no room for a card", "number", lamp_practice_card(1, NULL, 0).number, LAMP_BUFFER_TOO_SHORT);
     compare("no room and start 0", "number", lamp_practice_card(0, NULL, 0).number, LAMP_ZERO_START);
+    compare("no room for a table", "number", lamp_catalogue_table(TOP_STEP, NULL, 0).number, LAMP_BUFFER_TOO_SHORT);
+    compare("no room and top 201", "number", lamp_catalogue_table(TOP_STEP + 1, NULL, 0).number, LAMP_RACK_SIZE);
 }
 
 /* The length of a practice card, which its fields tell. It is 0 if the card is not made in the header's size, or not
@@ -456,6 +469,25 @@ static void compare_practice(const char *starts, uint32_t stride)
     }
     compare(starts, "practice cards made and accepted", made, STARTS);
     compare(starts, "bytes of the longest practice card", longest, LAMP_MAX_PRACTICE);
+}
+
+/* The header's size is enough for every top, and just the tops from 1 to the top step's bound have a table. The last
+ * table needs the size, and a card of the largest show with it is accepted. */
+static void compare_tables(void)
+{
+    uint64_t written = 0, first = 0, last = 0;
+
+    for (uint64_t top = 0; top <= 70000; top++)
+        if (lamp_catalogue_table(top, table, LAMP_MAX_TABLE).number == 0) {
+            written++;
+            first = first == 0 ? top : first;
+            last = top;
+        }
+    compare("tops 0 to 70,000", "tables written", written, TOP_STEP);
+    compare("tops 0 to 70,000", "first top with a table", first, 1);
+    compare("tops 0 to 70,000", "last top with a table", last, TOP_STEP);
+    lamp_catalogue_table(TOP_STEP, card + TABLE_AT, TABLE_BYTES);
+    compare("the largest card, catalogue module", "number", lamp_check_card(card, sizeof card).number, 0);
 }
 
 /* The dearest sheet: every entry and price is at its bound, and each module starts as often as it can and is active as
@@ -496,6 +528,7 @@ static void compare_with_library(void)
     compare("the longest start", "bytes of the practice card", practice_length(LONGEST_START), LAMP_MAX_PRACTICE);
     compare_practice("starts 1 to 100,000", 1);
     compare_practice("starts over all 32 bits", UINT32_MAX / STARTS);
+    compare_tables();
     compare_dearest();
 }
 

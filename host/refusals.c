@@ -1,7 +1,8 @@
 /* Provokes each refusal through the public calls and compares its number with the name that lamp.h gives it. Only 9 is
- * never given: a table that falls, for which it once stood, is planned. Makes practice cards too, and compares every
- * byte of their buffers; of the acts of a sitting it compares the sitting that they give back and every record. Prints
- * each fault and how many answers and buffers were compared; fails if there is a fault.
+ * never given: a table that falls, for which it once stood, is planned. Makes practice cards and tables of the
+ * catalogue module too, and compares every byte of their buffers; of the acts of a sitting it compares the sitting that
+ * they give back and every record. Prints each fault and how many answers and buffers were compared; fails if there is
+ * a fault.
  *
  *   gcc -std=c11 -Wall -Wextra -Werror -Iinclude host/refusals.c target/staticlib/liblamp.a -o target/host/refusals
  */
@@ -66,6 +67,34 @@ static const struct practice practices[] = {
     {LAMP_ZERO_START, 0, LAMP_MAX_PRACTICE, card_1950, 0},                 /* enough for every start */
     {LAMP_ZERO_START, 0, 0, card_1950, 0},                                 /* 14 is tested before 10 */
     {LAMP_ZERO_START, UINT64_C(1) << 32, LAMP_MAX_PRACTICE, card_1950, 0}, /* bits above the low 32, and no other */
+};
+
+/* F(0) to F(3) of the catalogue module as a card's fields: 400 403 407 412. */
+static const uint8_t catalogue[] = {0x90, 1, 0, 0, 0x93, 1, 0, 0, 0x97, 1, 0, 0, 0x9C, 1, 0, 0};
+
+/* A table of the catalogue module that is asked for, and how many bytes are then written. */
+struct table {
+    enum lamp_refusal wanted; /* or 0 */
+    uint64_t top;
+    size_t length, written;
+};
+static const struct table tables[] = {
+    {0, 1, 8, 8},                                                 /* just the table's length */
+    {0, 2, 12, 12},                                               /* the same for top 2 */
+    {0, 3, 17, 16},                                               /* one byte more */
+    {0, 3, LAMP_MAX_TABLE, 16},                                   /* enough for every top */
+    {LAMP_BUFFER_TOO_SHORT, 1, 7, 0},                             /* one byte less */
+    {LAMP_BUFFER_TOO_SHORT, 1, 0, 0},                             /* no byte at all */
+    {LAMP_BUFFER_TOO_SHORT, 200, LAMP_MAX_TABLE - 1, 0},          /* the longest table, one byte less */
+    {LAMP_RACK_SIZE, 0, LAMP_MAX_TABLE, 0},                       /* top 0 */
+    {LAMP_RACK_SIZE, 0, 0, 0},                                    /* 3 is tested before 10 */
+    {LAMP_RACK_SIZE, 201, LAMP_MAX_TABLE + 4, 0},                 /* one above the largest top */
+    {LAMP_RACK_SIZE, 201, 0, 0},                                  /* 3 is tested before 10 */
+    {LAMP_RACK_SIZE, 256 + 2, LAMP_MAX_TABLE, 0},                 /* the low 8 bits are 2 */
+    {LAMP_RACK_SIZE, 65536 + 2, LAMP_MAX_TABLE, 0},               /* the low 16 bits are 2 */
+    {LAMP_RACK_SIZE, (UINT64_C(1) << 32) + 2, LAMP_MAX_TABLE, 0}, /* the low 32 bits are 2 */
+    {LAMP_RACK_SIZE, (UINT64_C(1) << 63) + 2, LAMP_MAX_TABLE, 0}, /* the low 63 bits are 2 */
+    {LAMP_RACK_SIZE, UINT64_MAX, 0, 0},                           /* -1, as C hands it on */
 };
 
 static unsigned compared, looked, faults;
@@ -333,6 +362,50 @@ static void make_longest(void)
     expect_practice(&longest, 0xA5);
 }
 
+/* Writes a table over bytes that hold `paint`. Then the first are those of the table, and all others are as they were,
+ * also those beyond the length. */
+static void expect_table(const struct table *table, int paint)
+{
+    uint8_t found[LAMP_MAX_TABLE + 8], left[LAMP_MAX_TABLE + 8];
+
+    memset(found, paint, sizeof found);
+    memset(left, paint, sizeof left);
+    memcpy(left, catalogue, table->written);
+    expect("lamp_catalogue_table", lamp_catalogue_table(table->top, found, table->length), table->wanted);
+    looked++;
+    if (memcmp(found, left, sizeof found) == 0)
+        return;
+    faults++;
+    printf("lamp_catalogue_table: top %" PRIu64 " with %zu bytes does not leave the bytes that lamp.h says\n",
+           table->top, table->length);
+}
+
+/* Each table is written over two values, as the practice cards are. */
+static void write_tables(void)
+{
+    for (size_t k = 0; k < sizeof tables / sizeof tables[0]; k++) {
+        expect_table(&tables[k], 0x5A);
+        expect_table(&tables[k], 0xA5);
+    }
+}
+
+/* A card whose table the call writes behind its header is accepted, and its running costs are the entries. The other
+ * fields decide: the same card with a price above its bound is refused by 6, and with a load above it by 8. */
+static void check_catalogue_card(void)
+{
+    uint8_t made[LAMP_MAX_CARD] = {0x44, 0x4C, 0x53, 1, 0, 1, 200, 1};
+    const size_t loads_at = 17 + LAMP_MAX_TABLE, length = loads_at + 2;
+
+    expect("lamp_catalogue_table", lamp_catalogue_table(made[6], made + 17, LAMP_MAX_TABLE), 0);
+    expect("lamp_check_card", lamp_check_card(made, length), 0);
+    for (uint64_t k = 0; k <= 200; k++)
+        expect_cost("lamp_running_cost", lamp_running_cost(made, length, 1, k), 400 + 3 * k + k * (k - (k > 0)) / 2);
+    made[loads_at] = 201;
+    expect("lamp_check_card", lamp_check_card(made, length), LAMP_LOAD_RANGE);
+    made[12] = 0xFF;
+    expect("lamp_check_card", lamp_check_card(made, length), LAMP_PRICE_RANGE);
+}
+
 int main(void)
 {
     for (size_t k = 0; k < sizeof damages / sizeof damages[0]; k++) {
@@ -352,6 +425,8 @@ int main(void)
     refuse_handed_in();
     make_practice();
     make_longest();
+    write_tables();
+    check_catalogue_card();
     printf("refusals: %u answers and %u buffers compared with lamp.h, %u faults\n", compared, looked, faults);
     return faults != 0;
 }
