@@ -3,10 +3,11 @@ use lamp::faults;
 use lamp::refusal::Refusal;
 use lamp::sheet_text;
 use lamp::show::Show;
-use lamp::show_text;
+use lamp::show_text::{self, Field};
 use lamp::words;
 use lamp_tests::boundary::{check_card, mark};
 use lamp_tests::cards::{card_a, largest, small, Card};
+use lamp_tests::catalogue;
 use lamp_tests::classes::Classes;
 use lamp_tests::plain::{self, OFF};
 use lamp_tests::random::Random;
@@ -146,6 +147,114 @@ fn wrong_shows_are_told() {
     wrong("warm-up 3", "warm-up 0x3", 3, 9, "'0x3' is not a number");
     wrong("warm-up 3", "warm-up \u{664}", 3, 9, "is not a number");
     wrong("loads 6", "loads \u{e9}\u{e9} 6", 6, 7, "is no field");
+}
+
+/// The catalogue module's table by the plain rule, as numbers.
+fn plain_table(top: u64) -> Vec<u32> {
+    (0..=top).map(|k| catalogue::entry(k) as u32).collect()
+}
+
+/// All orders of six things.
+fn orders() -> Vec<Vec<usize>> {
+    (0..6).fold(vec![Vec::new()], |shorter, next| {
+        let with_next = |order: &Vec<usize>| (0..=order.len()).map(|at| [&order[..at], &[next], &order[at..]].concat()).collect();
+        shorter.iter().flat_map(|order| -> Vec<Vec<usize>> { with_next(order) }).collect()
+    })
+}
+
+/// The word `catalogue` makes the card that the numbers make, whatever the order of the fields.
+#[test]
+fn catalogue_in_every_order() {
+    assert_eq!(orders().len(), 720);
+    for top in [1, 2, 9, 10, 199, 200] {
+        let card = Card { modules: 3, top: top as u8, up: 3, down: 2, table: plain_table(top), loads: vec![3, 0, 2] };
+        let fields = ["modules 3", &format!("top {top}"), "warm-up 3", "cool-down 2", "table catalogue", "loads 3 0 2"];
+        for order in orders() {
+            let text: String = order.iter().map(|at| format!("{}\n", fields[*at])).collect();
+            let found = show_text::read(&text).unwrap_or_else(|error| panic!("{error} in {text}"));
+            assert_eq!(found.show.card(), card.bytes(), "{text}");
+            assert_eq!(check_card(&found.show.card()).number, 0);
+        }
+    }
+}
+
+/// The word may stand where the first number of a list may, and the table that is printed is that of `lamp show`, for every top.
+#[test]
+fn catalogue_typed_in_many_ways() {
+    for top in 1..=200 {
+        let table = lamp::catalogue::table(top).unwrap();
+        assert_eq!(table, plain_table(top));
+        let card = Card { modules: 3, top: top as u8, up: 3, down: 2, table, loads: vec![3, 0, 2] };
+        let show = show_text::write(&Show::read(&card.bytes()).unwrap());
+        let printed = show_text::write_table(&card.table);
+        assert!(show.contains(&format!("\n{printed}loads ")), "{show}");
+        let typed = ["table catalogue\n", "table\tcatalogue # all\n", "table\ncatalogue\n", " table # none\r\n\n  catalogue\r"];
+        for table in typed.into_iter().chain([printed.as_str()]) {
+            let text = format!("modules 3\n{table}loads 3\n0 2\ntop {top}\nwarm-up 3\ncool-down 2");
+            let found = show_text::read(&text).unwrap_or_else(|error| panic!("{error} in {text:?}"));
+            assert_eq!(found.show.card(), card.bytes(), "{text:?}");
+        }
+    }
+}
+
+/// Wrong uses of the word in a table are told with their places.
+#[test]
+fn wrong_catalogues_are_told() {
+    let table = |to: &str, line: usize, column: usize, words: &str| wrong("table 1 2 4", to, line, column, words);
+    table("table catalogue 5", 5, 17, "a number after 'catalogue', which stands for the whole table");
+    table("table catalogue 400 403 407", 5, 17, "a number after 'catalogue'");
+    table("table catalogue\n5", 6, 1, "a number after 'catalogue'");
+    table("table catalogue # so\n\n   5 6", 7, 4, "a number after 'catalogue'");
+    table("table\ncatalogue 5", 6, 11, "a number after 'catalogue'");
+    table("table 5 catalogue", 5, 9, "'catalogue' after a number; it stands for the whole table");
+    table("table 1 2 4\ncatalogue", 6, 1, "'catalogue' after a number");
+    table("table catalogue catalogue", 5, 17, "a second 'catalogue'; one stands for the whole table");
+    table("table catalogue\ntable 1 2 4", 6, 1, "a second table; the first is in line 5");
+    table("table 1 2 4\ntable catalogue", 6, 1, "a second table; the first is in line 5");
+    for word in ["Catalogue", "CATALOGUE", "catalog", "catalogue,", "catalogues"] {
+        let words = "is not a number; the catalogue module's table is typed as catalogue, in small letters";
+        table(&format!("table {word}"), 5, 7, &format!("'{word}' {words}"));
+        table(&format!("table 1 {word}"), 5, 9, words);
+    }
+    table("table 'catalogue'", 5, 7, "is not a number: digits alone");
+    table("table catalogue 1,000", 5, 17, "'1,000' is not a number");
+    table("table catalogue module", 5, 17, "'module' is no field");
+    table("table catalogue loads 6", 5, 17, "'loads' stands inside a line");
+    table("table catalogue\nlodas 6", 6, 1, "'lodas' is no field");
+    table("catalogue", 5, 1, "'catalogue' is no field");
+}
+
+/// So are those in other fields, and what is wrong beside the word.
+#[test]
+fn wrong_fields_beside_catalogue_are_told() {
+    wrong("loads 6 0 2", "loads catalogue", 6, 7, "'catalogue' stands for a table, and this is the field loads");
+    wrong("loads 6 0 2", "loads 6 0\ncatalogue", 7, 1, "this is the field loads");
+    wrong("loads 6 0 2", "loads Catalogue", 6, 7, "'Catalogue' is no field");
+    wrong("top 2", "top catalogue", 2, 5, "this is the field top");
+    wrong("top 2", "top 2 catalogue", 2, 7, "this is the field top");
+    wrong("top 2", "top 2\ncatalogue", 3, 1, "'catalogue' is no field");
+    wrong("modules 3", "catalogue\nmodules 3", 1, 1, "'catalogue' is no field");
+    wrong("2\nwarm-up 3\ncool-down 2\ntable 1 2 4", "256\nwarm-up 3\ncool-down 2\ntable catalogue", 2, 5, "'256' is too large");
+    wrong("top 2\nwarm-up 3\ncool-down 2\ntable 1 2 4", "table catalogue", 4, 1, "the text ends without top, warm-up, cool-down");
+}
+
+/// A top step outside 1 to 200 is refused for itself, as it is with numbers typed for the table.
+#[test]
+fn catalogue_beyond_its_tops() {
+    let with = |modules: u8, top: u64, table: &str| {
+        let text = A.replace("modules 3", &format!("modules {modules}")).replace("top 2", &format!("top {top}"));
+        show_text::read(&text.replace("1 2 4", table)).unwrap()
+    };
+    for (modules, top) in [(3, 0), (3, 201), (3, 255), (0, 201), (201, 0)] {
+        let [word, numbers] = ["catalogue".to_string(), "7 ".repeat(top as usize + 1)].map(|table| with(modules, top, &table));
+        assert_eq!((check_card(&word.show.card()).number, check_card(&numbers.show.card()).number), (3, 3));
+        assert_eq!(told(&word.show.card()), told(&numbers.show.card()));
+        assert_eq!(word.place(Field::Top, 0), numbers.place(Field::Top, 0));
+        assert_eq!(Show::read(&word.show.card()), None);
+    }
+    let found = with(3, 2, "catalogue");
+    assert_eq!(found.place(Field::Table, 2).to_string(), "line 5, column 7");
+    assert_eq!(found.place(Field::Loads, 2).to_string(), "line 6, column 11");
 }
 
 /// What would be read otherwise than it looks is told too: blanks inside numbers, and characters that cannot be seen.

@@ -8,7 +8,7 @@ use crate::refusal::Refusal;
 use crate::sheet_text::{self, SheetText};
 use crate::show::Show;
 use crate::words::{grouped, several};
-use crate::{folder, help, listing, numbers, page, picture, practice, show_text};
+use crate::{catalogue, folder, help, listing, numbers, page, picture, practice, show_text};
 use std::ffi::{OsStr, OsString};
 use std::path::Path;
 
@@ -168,6 +168,15 @@ pub fn practice(words: &Words) -> Ended {
         Some(into) => folder::write(into, &cards).map(|()| Outcome::done("")),
         None => Ok(Outcome::done(cards.into_iter().flat_map(|file| file.bytes).collect::<Vec<_>>())),
     }
+}
+
+/// The catalogue module's table, as a show's text has it.
+pub fn table(words: &Words) -> Ended {
+    let top = number_at(words, 0, "TOP")?;
+    Ok(match catalogue::table(top) {
+        Ok(table) => Outcome::done(show_text::write_table(&table)),
+        Err(refusal) => Outcome::refused(&lines(refusal, &[format!("top {}", grouped(top))])),
+    })
 }
 
 /// A refused card is read back too, as far as its fields can be told apart, so that the fault can be looked at.

@@ -41,6 +41,7 @@ SHOW is a text with one field a line, in any order; - is standard input:
     cool-down 2
     table 1 2 4     # F(0) to F(top), each at most 1,000,000; may go on over several lines
     loads 6 0 2     # one a slot, at most 1,024; may go on over several lines
+The line 'table catalogue' stands for the catalogue module's table, F(0) to F(top), which 'lamp table' prints.
 A show that the library refuses is refused in words, with the place, and no card is written.";
 
 const PRACTICE: &str = "\
@@ -54,6 +55,11 @@ practice card is accepted, and can be planned by either planner.
     A run that fails or stops halfway, as by Ctrl-C, removes what it wrote, or says what it could not remove.
     A run that is killed may leave whole cards under their names, and the folder lamp.part, which the next
     run into DIR removes, or says why not.";
+
+const TABLE: &str = "\
+Prints F(0) to F(TOP) as a show's text has them, so that the lines can be put into one. The line 'table catalogue'
+in a show's text stands for the same numbers. TOP is the top step, 1 to 200, digits alone.
+    lamp table 8    # table 400 403 407 412 418 425 433 442 452";
 
 const SHEET_TEXT: &str = "\
 SHEET has a line a slot, with a step or - (off) for each module, as '2 2 -'. A line may begin with
@@ -75,9 +81,10 @@ const fn command(
 }
 
 /// All commands, in the order of an examiner's day.
-pub const COMMANDS: [Command; 10] = [
+pub const COMMANDS: [Command; 11] = [
     command("card", &["SHOW"], &[], commands::card, "makes a card of a show typed as text", SHOW_TEXT),
     command("practice", &["NUMBER"], &[INTO], commands::practice, "makes practice cards by their numbers", PRACTICE),
+    command("table", &["TOP"], &[], commands::table, "prints the catalogue module's table for a show's text", TABLE),
     command("show", &[CARD], &[], commands::show, "reads a card back as text", ""),
     command("check", &[CARD], &[], commands::check, "says whether the card is accepted, or where it is at fault", ""),
     command("key", &[CARD], PLANNER, commands::key, "prints the show, the least cost, the plan and the sheet", ""),

@@ -13,7 +13,7 @@ pub const VERSION: u16 = 1;
 const HEAD: usize = 17;
 
 /// The fields of a card but for mark and version, as numbers. The slots are as many as the loads, and the table has one entry more
-/// than the top step.
+/// than the top step. It may have none where the top step is outside 1 to 200: no card of such a top step is accepted.
 #[derive(Clone, Debug, PartialEq, Eq)]
 pub struct Show {
     pub modules: u8,
@@ -91,7 +91,8 @@ impl Show {
     /// The card with these fields.
     pub fn card(&self) -> Vec<u8> {
         let slots = u16::try_from(self.loads.len()).expect("the slots have two bytes");
-        assert_eq!(self.table.len(), usize::from(self.top) + 1, "the table has an entry for each step");
+        let whole = self.table.len() == usize::from(self.top) + 1;
+        assert!(whole || self.has_no_table(), "the table has an entry for each step");
         let mut card = MARK.to_vec();
         card.extend(VERSION.to_le_bytes());
         card.extend([self.modules, self.top]);
@@ -101,6 +102,11 @@ impl Show {
         self.table.iter().for_each(|entry| card.extend(entry.to_le_bytes()));
         self.loads.iter().for_each(|load| card.extend(load.to_le_bytes()));
         card
+    }
+
+    /// Whether there is no table, because the top step is outside 1 to 200.
+    fn has_no_table(&self) -> bool {
+        self.table.is_empty() && !(1..=200).contains(&self.top)
     }
 
     pub fn slots(&self) -> usize {

@@ -1,5 +1,7 @@
 //! A show as text: fields by name, each at the start of a line, in any order, with decimal numbers. A list goes on over the lines of
-//! numbers that follow it. `#` begins a comment.
+//! numbers that follow it. In the place of the table's numbers the word `catalogue` may stand, for the catalogue module's table. `#` begins
+//! a comment.
+use crate::catalogue;
 use crate::show::{Show, VERSION};
 use crate::typed::{self, NoNumber, Place, TextError, Word, NEEDLESS_ZERO};
 use crate::words::{grouped, listed, range, several};
@@ -59,11 +61,15 @@ impl Field {
     }
 }
 
-/// A field as it was typed: where its name stands, and its numbers with their places.
+/// The word that stands for the numbers of the catalogue module's table.
+pub const CATALOGUE: &str = "catalogue";
+
+/// A field as it was typed: where its name stands, and its numbers with their places, or the place of the word that stands for them.
 #[derive(Clone, Debug)]
 struct Typed {
     name: Place,
     numbers: Vec<(u64, Place)>,
+    catalogue: Option<Place>,
 }
 
 /// The fields typed so far.
@@ -77,10 +83,10 @@ pub struct ShowText {
 }
 
 impl ShowText {
-    /// Where a field's number stands, or its name where it has no such number.
+    /// Where a field's number stands, or the word for its numbers, or its name where it has no such number.
     pub fn place(&self, field: Field, index: usize) -> Place {
         let typed = &self.fields[field as usize];
-        typed.numbers.get(index).map_or(typed.name, |(_, place)| *place)
+        typed.numbers.get(index).map_or(typed.catalogue.unwrap_or(typed.name), |(_, place)| *place)
     }
 }
 
@@ -111,7 +117,7 @@ fn begin(fields: &mut Fields, field: Field, word: &Word) -> Result<(), TextError
     if let Some(first) = &fields[field as usize] {
         return word.error(format!("a second {}; the first is in line {}", field.name(), first.name.line));
     }
-    fields[field as usize] = Some(Typed { name: word.place, numbers: Vec::new() });
+    fields[field as usize] = Some(Typed { name: word.place, numbers: Vec::new(), catalogue: None });
     Ok(())
 }
 
@@ -130,26 +136,57 @@ fn no_field(word: &Word) -> String {
     format!("{} is no field; the fields are modules, top, warm-up, cool-down, table and loads", word.quoted())
 }
 
-/// Adds numbers to a field. What its bytes cannot hold is an error here; what they hold is judged by the library.
+/// Adds numbers to a field, or the word for a table's numbers.
 fn add(fields: &mut Fields, field: Field, words: &[Word]) -> Result<(), TextError> {
-    let most = (1u64 << (8 * field.bytes())) - 1;
+    let Some(typed) = &mut fields[field as usize] else { return Ok(()) };
     for word in words {
-        let number = match typed::number(word.text, most) {
-            Ok(number) => number,
-            Err(NoNumber::TooLarge) => return word.error(format!("{} is too large: {}", word.quoted(), field.bound())),
-            Err(NoNumber::NeedlessZero) => return word.error(format!("{} {NEEDLESS_ZERO}", word.quoted())),
-            Err(NoNumber::NotDigits) => return not_digits(word),
-        };
-        if let Some(typed) = &mut fields[field as usize] {
-            typed.numbers.push((number, word.place));
+        if word.text == CATALOGUE {
+            add_catalogue(typed, field, word)?;
+        } else {
+            add_number(typed, field, word)?;
         }
     }
     Ok(())
 }
 
-fn not_digits<T>(word: &Word) -> Result<T, TextError> {
+/// Adds a number. What the field's bytes cannot hold is an error here; what they hold is judged by the library.
+fn add_number(typed: &mut Typed, field: Field, word: &Word) -> Result<(), TextError> {
+    let most = (1u64 << (8 * field.bytes())) - 1;
+    let number = match typed::number(word.text, most) {
+        Ok(number) => number,
+        Err(NoNumber::TooLarge) => return word.error(format!("{} is too large: {}", word.quoted(), field.bound())),
+        Err(NoNumber::NeedlessZero) => return word.error(format!("{} {NEEDLESS_ZERO}", word.quoted())),
+        Err(NoNumber::NotDigits) => return not_digits(field, word),
+    };
+    if typed.catalogue.is_some() {
+        return word.error(format!("a number after '{CATALOGUE}', which stands for the whole table"));
+    }
+    typed.numbers.push((number, word.place));
+    Ok(())
+}
+
+/// Adds the word for a table's numbers, which stands alone.
+fn add_catalogue(typed: &mut Typed, field: Field, word: &Word) -> Result<(), TextError> {
+    if field != Field::Table {
+        return word.error(format!("'{CATALOGUE}' stands for a table, and this is the field {}", field.name()));
+    }
+    if typed.catalogue.is_some() {
+        return word.error(format!("a second '{CATALOGUE}'; one stands for the whole table"));
+    }
+    if !typed.numbers.is_empty() {
+        return word.error(format!("'{CATALOGUE}' after a number; it stands for the whole table"));
+    }
+    typed.catalogue = Some(word.place);
+    Ok(())
+}
+
+fn not_digits<T>(field: Field, word: &Word) -> Result<T, TextError> {
     if Field::named(word.text).is_some() {
         return word.error(format!("{} stands inside a line; each field begins a line of its own", word.quoted()));
+    }
+    if field == Field::Table && word.text.to_lowercase().starts_with("catalog") {
+        let hint = format!("the catalogue module's table is typed as {CATALOGUE}, in small letters");
+        return word.error(format!("{} is not a number; {hint}", word.quoted()));
     }
     if word.text.starts_with(|letter: char| letter.is_alphabetic()) {
         return word.error(no_field(word));
@@ -178,7 +215,7 @@ fn whole(fields: Fields, end: Place) -> Result<ShowText, TextError> {
     }
     let fields = fields.map(|field| field.expect("no field is missing"));
     let [modules, top, warm_up, cool_down, table, loads] = &fields;
-    table_size(table, top.numbers[0].0)?;
+    let table = entries_of(table, top.numbers[0].0)?;
     if let Some((_, place)) = loads.numbers.get(usize::from(u16::MAX)) {
         return Err(TextError { place: *place, message: "too many loads: the slots have 2 bytes".to_string() });
     }
@@ -187,10 +224,20 @@ fn whole(fields: Fields, end: Place) -> Result<ShowText, TextError> {
         top: top.numbers[0].0 as u8,
         warm_up: warm_up.numbers[0].0 as u32,
         cool_down: cool_down.numbers[0].0 as u32,
-        table: table.numbers.iter().map(|(entry, _)| *entry as u32).collect(),
+        table,
         loads: loads.numbers.iter().map(|(load, _)| *load as u16).collect(),
     };
     Ok(ShowText { show, fields })
+}
+
+/// The entries of a table: those that were typed, or the catalogue module's. It has none for a top step outside 1 to 200; a card of such a
+/// top step is refused for it, whatever its table.
+fn entries_of(table: &Typed, top: u64) -> Result<Vec<u32>, TextError> {
+    if table.catalogue.is_some() {
+        return Ok(catalogue::table(top).unwrap_or_default());
+    }
+    table_size(table, top)?;
+    Ok(table.numbers.iter().map(|(entry, _)| *entry as u32).collect())
 }
 
 fn table_size(table: &Typed, top: u64) -> Result<(), TextError> {
@@ -219,9 +266,14 @@ pub fn write(show: &Show) -> String {
     out += &format!("top {}\n", show.top);
     out += &format!("warm-up {}\n", show.warm_up);
     out += &format!("cool-down {}\n", show.cool_down);
-    out += &list("table", &show.table, entry_range);
+    out += &write_table(&show.table);
     out += &list("loads", &show.loads, |first, last| range("slot", first + 1, last + 1));
     out
+}
+
+/// The text of a show's table.
+pub fn write_table(table: &[u32]) -> String {
+    list(Field::Table.name(), table, entry_range)
 }
 
 fn entry_range(first: usize, last: usize) -> String {
