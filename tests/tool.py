@@ -296,11 +296,11 @@ def wrong_use(folder):
     expect("no command", lamp(), 2, b"", usage)
     expect("no such command", lamp("plan", "x"), 2, b"", "'plan' is no command", usage)
     expect("a dash for a command", lamp("-"), 2, b"", "'-' is no command", usage)
-    for words in ("key", "key a b", "mark a", "cost a 1", "round 1", "key --bytes a", "check --coarse a", "page a --course"):
+    for words in ("key", "key a b", "mark a", "cost a 1", "round 1", "table", "key --bytes a", "check --coarse a", "page a --course"):
         expect(f"wrong use {words}", lamp(*words.split()), 2, b"", f"usage: lamp {words.split()[0]} ")
     expect("standard input twice", lamp("mark", "-", "-"), 2, b"", "standard input can be read once only")
     require("help", lamp("--help")[0] == 0 and lamp("help")[1] == lamp("-h")[1] == lamp("--help")[1])
-    for command in ("card", "practice", "show", "check", "key", "page", "picture", "mark", "cost", "round"):
+    for command in ("card", "practice", "table", "show", "check", "key", "page", "picture", "mark", "cost", "round"):
         status, out, err = lamp(command, "--help")
         require(f"help of {command}", status == 0 and out.startswith(f"usage: lamp {command} ".encode()) and not err)
         require(f"{command} is in the help", f"\n  lamp {command} ".encode() in lamp("--help")[1])
@@ -384,7 +384,7 @@ CARD = '"$1/a.card"'
 
 def lost_output(folder):
     """What cannot be written whole has status 2."""
-    others = {"practice": "1950", "mark": '"$1/a.card" "$1/d.sheet"', "cost": '"$1/a.card" 3 4', "round": "5 6", "--help": ""}
+    others = {"practice": "1950", "table": "8", "mark": '"$1/a.card" "$1/d.sheet"', "cost": '"$1/a.card" 3 4', "round": "5 6", "--help": ""}
     for command in (*COMMANDS, *others):
         line = f'"$0" {command} {others.get(command, CARD)}'
         expect(f"{command} to a full device", shell(f"{line} > /dev/full"), 2, b"", "was not written whole: No space left on device")
@@ -430,6 +430,121 @@ def practice_cards():
     accepted = b"accepted: 118 modules, top step 2, 1 slot, warm-up 23, cool-down 635\n"
     expect("a practice card, checked", shell('"$0" practice 4294967255 | "$0" check -'), 0, accepted)
     expect("a practice card, coarse", shell('"$0" practice 6548 | "$0" key --coarse - | grep -c "^slot "'), 0, b"64\n")
+
+
+def catalogue(top):
+    """The catalogue module's table by the rule of document 02 section 5."""
+    return [400 + 3 * k + k * (k - 1) // 2 for k in range(top + 1)]
+
+
+def table_text(top):
+    """The table as `lamp show` writes it: on one line, or ten numbers a line with a comment that says which they are."""
+    numbers = [str(entry) for entry in catalogue(top)]
+    if top < 10:
+        return f"table {' '.join(numbers)}\n".encode()
+    width, lines = len(numbers[-1]), ""
+    for at in range(0, top + 1, 10):
+        last = min(at + 9, top)
+        shown = " ".join(number.rjust(width) for number in numbers[at : last + 1]).ljust(10 * width + 9)
+        lines += f"{'table' if at == 0 else '     '} {shown}  # F({at}){f' to F({last})' if last > at else ''}\n"
+    return lines.encode()
+
+
+def show_of(top, table, order=range(6)):
+    """A show's text with its fields in an order."""
+    fields = (b"modules 3", b"top %d" % top, b"warm-up 3", b"cool-down 2", table.rstrip(b"\n"), b"loads 3 0 2")
+    return b"".join(fields[at] + b"\n" for at in order)
+
+
+RACK = "refused 3: modules or top step outside 1 to 200\n"
+TABLE_USAGE = "usage: lamp table TOP\n"
+WRONG_TABLE = {
+    (): ("table: 0 words where it takes TOP", TABLE_USAGE),
+    ("1", "2"): ("table: 2 words where it takes TOP", TABLE_USAGE),
+    ("",): ("TOP is empty",),
+    ("x",): ("TOP x is not a number\n",),
+    ("-",): ("TOP - is not a number\n",),
+    ("catalogue",): ("TOP catalogue is not a number\n",),
+    ("1,0",): ("TOP 1,0 is not a number; digits alone, without commas\n",),
+    ("8 ",): ("TOP '8 ' is not a number\n",),
+    ("1..8",): ("TOP 1..8 is not a number\n",),
+    ("08",): ("TOP 08 begins with a needless 0\n",),
+    ("-8",): ("table: no option -8", TABLE_USAGE),
+    ("8", "--coarse"): ("table: no option --coarse", TABLE_USAGE),
+    ("8", "--into", "."): ("table: no option --into", TABLE_USAGE),
+    (str(2**64),): ("TOP 18446744073709551616 is above 18,446,744,073,709,551,615\n",),
+}
+
+
+def tables():
+    """The command `table`, for every top and for others."""
+    for top in range(1, 201):
+        expect(f"table {top}", lamp("table", str(top)), 0, table_text(top))
+    for top in (0, 201, 202, 255, 256, 257, 2**16 + 8, 2**32 + 8, 2**63 + 8, 2**64 - 1):
+        expect(f"table {top}", lamp("table", str(top)), 1, b"", f"lamp: {RACK}  top {top:,}\n")
+    for words, complaints in WRONG_TABLE.items():
+        expect(f"table {words}", lamp("table", *words), 2, b"", *complaints)
+    expect("the table's help", lamp("table", "8", "--help"), 0, lamp("table", "--help")[1])
+    require("an example of table", b"\n    lamp table 8    # " + lamp("table", "8")[1] in lamp("table", "--help")[1])
+    for command in ("card", "table"):
+        require(f"the word in the help of {command}", b"'table catalogue'" in lamp(command, "--help")[1])
+
+
+def catalogue_shows():
+    """A show's text with the word makes the card that the printed numbers make, byte for byte, in every order of its fields."""
+    for top in (1, 2, 9, 10, 11, 200):
+        made = card(q=top, table=catalogue(top), loads=(3, 0, 2))
+        for table in (b"table catalogue", lamp("table", str(top))[1], table_text(top), b"table # none\ncatalogue # all"):
+            expect(f"card of top {top}, {table[:20]}", lamp("card", "-", data=show_of(top, table)), 0, made)
+        word = show_of(top, b"table catalogue")
+        for words in (["show", "-"], ["check", "-"], ["key", "-"], ["key", "--coarse", "-"], ["page", "-"], ["picture", "-"]):
+            expect(f"{words} of top {top}", lamp(*words, data=word), 0, lamp(*words, data=made)[1])
+        expect(f"cost of top {top}", lamp("cost", "-", "1", str(top), data=word), 0, b"%d\n" % catalogue(top)[-1])
+        require(f"show of top {top} writes the numbers", b"\n" + table_text(top) + b"loads 3 0 2\n" in lamp("show", "-", data=word)[1])
+    word, made = show_of(8, b"table catalogue"), card(q=8, table=catalogue(8), loads=(3, 0, 2))
+    for order in itertools.permutations(range(6)):
+        expect(f"fields in the order {order}", lamp("card", "-", data=show_of(8, b"table catalogue", order)), 0, made)
+    expect("other ends of line", lamp("card", "-", data=word.replace(b"\n", b"\r\n")), 0, made)
+    sample = SAMPLES / "catalogue.show"
+    expect("marks on a text with the word", lamp("mark", sample, "-", data=b"3 -\n- -\n4 4\n"), 0, b"cost 1338\nleast 924\nabove 414\n")
+
+
+WRONG_CATALOGUE = {
+    b"table catalogue 5": "line 5, column 17: a number after 'catalogue', which stands for the whole table\n",
+    b"table catalogue\n5": "line 6, column 1: a number after 'catalogue', which stands for the whole table\n",
+    b"table 5 catalogue": "line 5, column 9: 'catalogue' after a number; it stands for the whole table\n",
+    b"table catalogue catalogue": "line 5, column 17: a second 'catalogue'; one stands for the whole table\n",
+    b"table Catalogue": "line 5, column 7: 'Catalogue' is not a number; the catalogue module's table is typed as catalogue, in small",
+    b"table catalogue loads 6": "line 5, column 17: 'loads' stands inside a line",
+    b"table catalogue\nloads catalogue": "line 6, column 7: 'catalogue' stands for a table, and this is the field loads\n",
+    b"table catalogue\ntop catalogue": "line 6, column 1: a second top; the first is in line 2",
+    b"catalogue": "line 5, column 1: 'catalogue' is no field",
+}
+
+
+def wrong_catalogue_shows():
+    """Wrong uses of the word, and shows with it that the library refuses, with their places."""
+    for table, complaint in WRONG_CATALOGUE.items():
+        for command in ("card", "show", "check", "key"):
+            wrong = lamp(command, "-", data=show_of(2, table))
+            expect(f"{command} of {table}", wrong, 2, b"", f"lamp: standard input: {complaint}")
+    for top in (0, 201, 255):
+        word, numbers = show_of(top, b"table catalogue"), show_of(top, b"table" + b" 7" * (top + 1))
+        place = f"  top {top} (line 2, column 5)\n"
+        expect(f"check of top {top}", lamp("check", "-", data=word), 1, (RACK + place).encode())
+        expect(f"card of top {top}", lamp("card", "-", data=word), 1, b"", f"lamp: standard input: {RACK}{place}")
+        for words in (["card", "-"], ["check", "-"], ["key", "-"], ["page", "-"], ["picture", "-"], ["cost", "-", "1", "1"]):
+            require(f"{words} of top {top}, as with numbers", lamp(*words, data=word) == lamp(*words, data=numbers))
+        expect(f"show of top {top}", lamp("show", "-", data=word), 1, b"", f"lamp: standard input: {RACK}{place}")
+    late = show_of(201, b"table catalogue", (4, 5, 3, 2, 1, 0)).replace(b"modules 3", b"modules 0")
+    places = f"{RACK}  modules 0 (line 6, column 9)\n  top 201 (line 5, column 5)\n"
+    expect("a top after the table, and no modules", lamp("check", "-", data=late), 1, places.encode())
+    expect("a top of two bytes", lamp("check", "-", data=show_of(256, b"table catalogue")), 2, b"", "line 2, column 5: '256' is too large")
+    bright = show_of(2, b"table catalogue").replace(b"loads 3", b"loads 7")
+    place = "refused 8: a load above modules times top step\n  slot 1: load 7, above 6, 3 times 2 (line 6, column 7)\n"
+    expect("a load above its bound", lamp("check", "-", data=bright), 1, place.encode())
+    dear = show_of(2, b"table catalogue").replace(b"warm-up 3", b"warm-up 500000001")
+    require("a price above its bound", lamp("check", "-", data=dear)[1].startswith(b"refused 6: "))
 
 
 def new_folder(folder, name):
@@ -1001,12 +1116,14 @@ struct lamp_answer lamp_mark(const uint8_t *card, size_t card_len, const uint8_t
 struct lamp_answer lamp_rounded_count(uint64_t count, uint64_t modules) { (void)count, (void)modules; return (struct lamp_answer){0, 0}; }
 struct lamp_answer lamp_practice_card(uint32_t start, uint8_t *card, size_t card_len)
 { (void)start, (void)card, (void)card_len; return (struct lamp_answer){0, 0}; }
+struct lamp_answer lamp_catalogue_table(uint64_t top, uint8_t *table, size_t table_len)
+{ (void)table, (void)table_len; return top == 8 ? (struct lamp_answer){0, 1} : (struct lamp_answer){top == 9 ? 3 : 10, 0}; }
 """
 
 
 def a_wrong_library(folder):
     """The tool over a library that contradicts itself prints no key: two costs that differ, an unknown number, a refusal with a cost, a
-    card that is none."""
+    card that is none, a table with a cost, and top steps without a table."""
     shutil.copytree(ROOT / "tool", folder / "tool", ignore=shutil.ignore_patterns("target"))
     (folder / "target" / "staticlib").mkdir(parents=True)
     (folder / "wrong.c").write_text(WRONG)
@@ -1015,11 +1132,15 @@ def a_wrong_library(folder):
     subprocess.run(["sh", "-c", build, "sh", ROOT], cwd=folder, check=True)
     wrong = folder / "tool" / "target" / "release" / "lamp"
     a, into = SAMPLES / "a.card", new_folder(folder, "no cards")
-    practices = ["practice", "1"], ["practice", "1..3", "--into", into]
-    for words in (["key", a], ["mark", a, SAMPLES / "d.sheet"], ["key", "--coarse", a], ["cost", a, "1", "1"], *practices):
+    others = ["practice", "1"], ["practice", "1..3", "--into", into], ["table", "8"]
+    for words in (["key", a], ["mark", a, SAMPLES / "d.sheet"], ["key", "--coarse", a], ["cost", a, "1", "1"], *others):
         ended = subprocess.run([wrong, *words], capture_output=True)
         found = ended.returncode, ended.stdout, ended.stderr
         expect(f"{words[0]} over a wrong library", found, 2, b"", "a fault of the tool; nothing was written")
+    for top in (8, 9, 10):
+        ended = subprocess.run([wrong, "card", "-"], input=show_of(top, b"table catalogue"), capture_output=True)
+        found = ended.returncode, ended.stdout, ended.stderr
+        expect(f"a show of top {top} over a wrong library", found, 2, b"", "a fault of the tool; nothing was written")
     require("no card of a wrong library", contents(into) == {})
 
 
@@ -1035,6 +1156,9 @@ with tempfile.TemporaryDirectory() as place:
     wrong_use(pathlib.Path(place))
     other_kinds(pathlib.Path(place))
     practice_cards()
+    tables()
+    catalogue_shows()
+    wrong_catalogue_shows()
     wrong_practice(pathlib.Path(place))
     practice_files(pathlib.Path(place))
     no_practice_files(pathlib.Path(place))
