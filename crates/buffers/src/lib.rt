@@ -3,6 +3,7 @@ ghost use mathlib.Core.Path.{_≡_};
 ghost use mathlib.Core.List.{[], _∷_};
 ghost use lib.ListN.{length, replicate};
 ghost use Rattle.lists.specs.Bytes.{bytesOf};
+ghost use Rattle.lists.specs.Rows.{elementBytes};
 ghost use Rattle.lists.specs.Writing.{Room, Written};
 
 // Every byte of the part is set to the byte given.
@@ -63,4 +64,18 @@ pub fn put_four(out: &mut [u8], at: usize, n: u32) -> usize
 {
     let next = put_two(out, at, n);
     put_two(out, next, n / 65536)
+}
+
+// Writes the numbers of a list, the four bytes of each.
+pub fn put_numbers(out: &mut [u8], at: usize, numbers: &[u32]) -> usize
+    requires { ⌜ Room (elementBytes 4 (now numbers)) at (now out) ⌝ }
+    ensures { λ r. ⌜ Written (elementBytes 4 (now (numbers .entry))) at (now (out .entry)) (now (out .exit)) r ⌝ }
+{
+    let mut place = at;
+    let mut k = 0;
+    while k < numbers.len() {
+        place = put_four(out, place, numbers[k]);
+        k += 1;
+    }
+    place
 }

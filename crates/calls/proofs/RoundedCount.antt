@@ -2,14 +2,14 @@
 use Prim.Native.Nat.{ℕ, _≤_, _<_}
 use mathlib.Core.Path.{_≡_, ap}
 use mathlib.Core.Bool.{true, false}
-use lib.Dec.{leb}
-use borrow.Author.Tests.{le-leb, lt-leb, leb-true}
-use Rattle.lists.specs.Tests.{allOf, and-left, and-right}
+use borrow.Author.Tests.{le-leb, lt-leb}
+use Rattle.lists.specs.Tests.{allOf}
 use Rattle.model.specs.declared.Refusal.the-variants.{RackSize, EntryRange}
 use Rattle.model.specs.declared.Answer.the-variants.{Cost, Refused}
 use Rattle.model.specs.Instance.{rackNumber}
 use Rattle.model.specs.Counts.{roundedCount}
 use Rattle.model.specs.Calls.{roundCount, requestOf, refusals, applies, entriesInRange, firstRefusal, successCost, answer}
+use Rattle.laws.specs.Acceptance.{rack-range}
 use Rattle.counts.specs.AllowedCounts.{RackCount}
 
 module _ (n m : ℕ) where
@@ -24,12 +24,7 @@ module _ (n m : ℕ) where
 
     module _ (few : n ≤ m) where
       pub rack-count : RackCount n m
-      rack-count =
-          record {
-            some = leb-true 1 m (and-left (leb 1 m) (leb m 200) right);
-            most = leb-true m 200 (and-right (leb 1 m) (leb m 200) right);
-            in-rack = few;
-          }
+      rack-count = let (some, most) = rack-range m right in record { some = some; most = most; in-rack = few }
 
       pub round-cost : {x : ℕ} → x ≡ roundedCount m n → Cost x ≡ answer (roundCount n m)
       unfolding answer requestOf refusals firstRefusal applies allOf entriesInRange successCost

@@ -16,13 +16,13 @@ use Rattle.model.specs.Instance.{instanceOf}
 use Rattle.model.specs.Sheets.{serves, sheetCost}
 use Rattle.model.specs.Plans.{sheetOf}
 use Rattle.model.specs.Planners.{Planner, exact, ratioOf, plannedBy, plannedCost}
-use Rattle.model.specs.Calls.{NumbersOf, Gives, Accepted, planShow, makeSheet, markSheet, practiceCard, answer, successCost, planBuffer}
-use Rattle.model.specs.Calls.{planAtExit, workAtExit, sheetAtExit, cardAtExit}
+use Rattle.model.specs.Calls.{NumbersOf, Gives, Accepted, planShow, makeSheet, markSheet, practiceCard, catalogueTable, answer, successCost}
+use Rattle.model.specs.Calls.{planBuffer, planAtExit, workAtExit, sheetAtExit, cardAtExit, tableAtExit}
 use Rattle.model.specs.Calls.{actIn, requestOf, refusals, buffersAtExit, buffersOf, actBuffers}
 use Rattle.model.specs.Acts.{Act, openSitting, readLeast, opened, unopened, isClosed}
 use Rattle.model.specs.SittingState.{factsOf, stateOf, phaseOf}
 use Rattle.model.specs.Sittings.{answerTo, markedWith, told, toldBy, replyWith, replyOf}
-use Rattle.model.specs.Promises.{OwnSheet, AtMostTimes, MarkedAlike, AcceptsExactly, WritesAccepted, AlwaysEnough, HiddenTillClosed}
+use Rattle.model.specs.Promises.{OwnSheet, AtMostTimes, MarkedAlike, AcceptsExactly, WritesAccepted, AlwaysEnough, HiddenTillClosed, WritesTable}
 use borrow.Author.Tests.{ne-eqb}
 use Rattle.laws.specs.Acceptance.{modules-range}
 use Rattle.laws.specs.AnswerNumber.{number-zero}
@@ -132,6 +132,14 @@ practises start c {card = card} {number = number} (is, card-is) given =
         ),
       ),
     )
+
+-- The catalogue call.
+pub catalogued :
+    (top : ℕ) (f : List ℕ) {a : Answer} {table : List ℕ} {number cost : ℕ} →
+    (a ≡ answer (catalogueTable top f)) × ((table ≡ tableAtExit (catalogueTable top f)) × WritesTable top table (numberOf a)) →
+    NumbersOf a number cost →
+    Gives (catalogueTable top f) number cost × ((table ≡ tableAtExit (catalogueTable top f)) × WritesTable top table number)
+catalogued top f (is, (table-is, writes)) given = (gives-as is given, (table-is, rw (given .number-is) writes))
 
 -- An opening that is accepted brings condition 3 with it, as the exact planner does.
 module _ (z : Sitting) (xs : List Seat) (d a : ℕ) (c p w : List ℕ) where

@@ -7,11 +7,11 @@ use model::Sitting;
 ghost use mathlib.Core.Path.{_≡_};
 ghost use mathlib.Core.List.{[]};
 ghost use Rattle.model.specs.Planners.{exact, coarse};
-ghost use Rattle.model.specs.Calls.{NumbersOf, Gives, checkCard, runningCost, planShow, makeSheet, markSheet, roundCount, practiceCard};
-ghost use Rattle.model.specs.Calls.{planAtExit, workAtExit, sheetAtExit, cardAtExit, actIn};
+ghost use Rattle.model.specs.Calls.{NumbersOf, Gives, checkCard, runningCost, planShow, makeSheet, markSheet, roundCount, practiceCard, catalogueTable};
+ghost use Rattle.model.specs.Calls.{planAtExit, workAtExit, sheetAtExit, cardAtExit, tableAtExit, actIn};
 ghost use Rattle.model.specs.Acts.{openSitting, seatCandidate, closeSitting, submitSheet, readLeast, readLowest, readUsed};
 ghost use Rattle.model.specs.Sittings.{replyOf, seatsAtExit};
-ghost use Rattle.model.specs.Promises.{OwnSheet, AtMostTimes, MarkedAlike, AcceptsExactly, WritesAccepted, AlwaysEnough, HiddenTillClosed};
+ghost use Rattle.model.specs.Promises.{OwnSheet, AtMostTimes, MarkedAlike, AcceptsExactly, WritesAccepted, AlwaysEnough, HiddenTillClosed, WritesTable};
 
 // What every call returns: a refusal's number and cost 0, or number 0 and the cost.
 #[repr(C)]
@@ -109,6 +109,16 @@ pub extern "C" fn lamp_practice_card(start: u32, card: &mut [u8]) -> LampAnswer
     ensures enough { λ r. ⌜ AlwaysEnough start (now (card .entry)) (r .number) ⌝ }
 {
     to_c(practice::practice_card(start, card))
+}
+
+// F(0) to F(top) of the catalogue module as a card's fields (document 02, §5): refusals 3 and 10.
+#[no_mangle]
+pub extern "C" fn lamp_catalogue_table(top: u64, table: &mut [u8]) -> LampAnswer
+    ensures outcome { λ r. ⌜ Gives (catalogueTable top (now (table .entry))) (r .number) (r .cost) ⌝ }
+    ensures table_bytes { λ r. ⌜ now (table .exit) ≡ tableAtExit (catalogueTable top (now (table .entry))) ⌝ }
+    ensures catalogue { λ r. ⌜ WritesTable top (now (table .exit)) (r .number) ⌝ }
+{
+    to_c(catalogue::catalogue_table(top, table))
 }
 
 // Opens a sitting (document 02, §4) on a card, in place of any other: refusals 1 to 8, 10, 15 and 17, in this order.

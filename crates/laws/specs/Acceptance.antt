@@ -35,20 +35,21 @@ passes s e =
     let loads = first-passed _ _ _ (convexity .1) in
     record { rack = rack .0; slots = slots .0; size = size .0; prices = prices .0; convexity = convexity .0; loads = loads .0 }
 
+-- A number that the rack may have is from 1 to 200.
+pub rack-range : (n : ℕ) → rackNumber n ≡ true → (1 ≤ n) × (n ≤ 200)
+rack-range n e = (leb-true 1 n (and-left (leb 1 n) (leb n 200) e), leb-true n 200 (and-right (leb 1 n) (leb n 200) e))
+
 module _ (s : List ℕ) (given : Accepted s) where
   rack-numbers : (rackNumber (instanceOf s .modules) && (rackNumber (instanceOf s .topStep) && true)) ≡ true
   unfolding applies requestOf allOf
   rack-numbers = not-false _ (passes s given .rack)
 
-  in-range : (n : ℕ) → rackNumber n ≡ true → (1 ≤ n) × (n ≤ 200)
-  in-range n e = (leb-true 1 n (and-left (leb 1 n) (leb n 200) e), leb-true n 200 (and-right (leb 1 n) (leb n 200) e))
-
   pub modules-range : (1 ≤ instanceOf s .modules) × (instanceOf s .modules ≤ 200)
-  modules-range = in-range _ (and-left (rackNumber (instanceOf s .modules)) _ rack-numbers)
+  modules-range = rack-range _ (and-left (rackNumber (instanceOf s .modules)) _ rack-numbers)
 
   pub top-range : (1 ≤ instanceOf s .topStep) × (instanceOf s .topStep ≤ 200)
   top-range =
-      in-range _ (and-left (rackNumber (instanceOf s .topStep)) true (and-right (rackNumber (instanceOf s .modules)) _ rack-numbers))
+      rack-range _ (and-left (rackNumber (instanceOf s .topStep)) true (and-right (rackNumber (instanceOf s .modules)) _ rack-numbers))
 
   pub slots-range : instanceOf s .slots ≤ 1024
   unfolding applies requestOf

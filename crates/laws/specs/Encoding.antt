@@ -21,6 +21,7 @@ use Rattle.model.specs.Promises.{frontCard}
 use Rattle.model.specs.RelatedShows.{Agree}
 use Rattle.laws.specs.Acceptance.{modules-range, top-range, slots-range, up-range, down-range, table-range, table-convex}
 use Rattle.laws.specs.Acceptance.{load-range}
+use Rattle.laws.specs.Tables.{same-range, same-convex}
 
 -- The fields of a show fit the bytes that a card has for them.
 pub record FieldsFit (i : Instance) : Type 0 where
@@ -85,13 +86,10 @@ module _ (i : Instance) where
 
 -- Of two shows that agree, both are in order or neither is.
 same-in-order : {i j : Instance} → SameShow i j → inOrder j ≡ inOrder i
-unfolding inOrder pricesInRange tableInRange convex convexAt loadsInRange
+unfolding inOrder pricesInRange loadsInRange
 same-in-order {i} {j} same =
-    let table = same .agree .table in
-    let entries = every-same (i .topStep + 1) _ _ (λ k h. ap (λ (x : ℕ). leb x 1000000) (table k (omega arith))) in
-    let convexity =
-    every-same (i .topStep - 1) (convexAt (j .table)) (convexAt (i .table))
-    (λ k h. rw (table k (omega arith), table (k + 1) (omega arith), table (k + 2) (omega arith))) in
+    let entries = same-range (i .topStep) (same .agree .table) in
+    let convexity = same-convex (i .topStep) (same .agree .table) in
     let loads = every-same (i .slots) _ _ (λ t h. ap (λ (x : ℕ). leb x (i .modules * i .topStep)) (same .load t h)) in
     rw (same .modules, same .agree .topStep, same .slots, same .agree .powerUp, same .agree .powerDown, entries, convexity, loads)
 

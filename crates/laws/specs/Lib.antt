@@ -5,8 +5,10 @@ pub mod Acceptance
 pub mod OnCard
 pub mod SittingLaws
 pub mod SittingRecords
+pub mod Tables
 pub mod Encoding
 pub mod PracticeAccepted
-pub mod Tables
+pub mod CardTables
+pub mod CatalogueTables
 pub mod LeastSteps
 pub mod Operating

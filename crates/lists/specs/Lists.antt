@@ -68,6 +68,12 @@ unfoldable pub rows : ℕ → (ℕ → List ℕ) → List ℕ
 rows zero f = []
 rows (suc n) f = rows n f ++ f n
 
+-- The rows of two functions that agree below n are equal.
+pub rows-same : (n : ℕ) {f g : ℕ → List ℕ} → ((k : ℕ) → k < n → f k ≡ g k) → rows n f ≡ rows n g
+unfolding rows
+rows-same zero same = refl
+rows-same (suc n) same = rw (rows-same n (λ k h. same k (omega arith)), same n (omega arith))
+
 -- The length of n rows of m elements each is n * m.
 pub length-rows : (m n : ℕ) (f : ℕ → List ℕ) → ((t : ℕ) → length (f t) ≡ m) → length (rows n f) ≡ n * m
 unfolding rows

@@ -8,9 +8,9 @@ use native.Mathlib.Numerals.{add-one}
 use native.Mathlib.Omega.{arith}
 use lib.Arith.{digits-lt}
 use lib.ListN.{length, getD, take, drop, length-append, length-drop, List·getD-append}
-use lib.Seq.{take-at, drop-at, drop-drop}
+use lib.Seq.{take-at, drop-at, drop-drop, length-take-le, getD-take}
 use borrow.Rule.Slice.PartMut.{putMid}
-use Rattle.lists.specs.Lists.{rows, length-rows, getD-rows}
+use Rattle.lists.specs.Lists.{rows, rows-same, length-rows, getD-rows}
 use Rattle.lists.specs.Bytes.{littleEndian, bytesOf, length-bytes, little-same, little-bytes}
 
 -- Each of n rows of m entries lies within a list that is long enough for all of them.
@@ -52,8 +52,18 @@ module _ (m : ℕ) (f : ℕ → List ℕ) (sized : (t : ℕ) → length (f t) �
 abbrev pub numbers : (w n : ℕ) → (ℕ → ℕ) → List ℕ
 numbers w n f = rows n (λ k. bytesOf w (f k))
 
+-- The elements of a list of numbers, each as w bytes.
+abbrev pub elementBytes : (w : ℕ) → List ℕ → List ℕ
+elementBytes w l = numbers w (length l) (λ k. getD l k 0)
+
 pub length-numbers : (w n : ℕ) (f : ℕ → ℕ) → length (numbers w n f) ≡ n * w
 length-numbers w n f = length-rows w n (λ k. bytesOf w (f k)) (λ k. length-bytes w (f k))
+
+-- The first n elements of a list that are f 0, .., f (n - 1), each as w bytes, are the numbers of f.
+pub taken-bytes :
+    (w n : ℕ) (f : ℕ → ℕ) (l : List ℕ) → n ≤ length l → ((k : ℕ) → k < n → getD l k 0 ≡ f k) → elementBytes w (take n l) ≡ numbers w n f
+taken-bytes w n f l long is =
+    rw (length-take-le n l long) (rows-same n (λ k h. ap (bytesOf w) (getD-take n l k 0 h ∙ is k h)))
 
 -- Each of the numbers that fits w bytes is read back.
 pub little-numbers :

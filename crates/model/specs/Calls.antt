@@ -1,5 +1,5 @@
 -- Every call's whole outcome: its answer, and the bytes of each lent buffer at exit (document 01, 'Refused', 'The plans'; 02 §1, §2,
--- §4).
+-- §4, §5).
 use Prim.Native.Nat.{ℕ, _*_}
 use mathlib.Core.Path.{_≡_}
 use mathlib.Core.Bool.{Bool, true, false, cond, not, _||_}
@@ -17,12 +17,14 @@ use Rattle.model.specs.declared.Answer.{Answer}
 use Rattle.model.specs.declared.Answer.the-variants.{Cost, Refused}
 use Rattle.model.specs.Answers.{numberOf, costOf}
 use Rattle.model.specs.Instance.{Instance, instanceOf, headLength, markOf, cardMark, versionOf, cardVersion, cardLength, cardBytes}
+use Rattle.model.specs.Instance.{tableSize}
 use Rattle.model.specs.Instance.{rackNumber, convex, neverFalls, pricesInRange, loadsInRange}
 use Rattle.model.specs.Counts.{canServe, operatingCost, roundedCount}
 use Rattle.model.specs.Sheets.{sheetLength, sheetEntries, sheetLight, sheetCost}
 use Rattle.model.specs.Plans.{planServes, planCost, sheetOf}
 use Rattle.model.specs.Planners.{Planner, exact, workBytes, plannedBy, plannedCost}
 use Rattle.model.specs.Practice.{practiceShow}
+use Rattle.model.specs.Catalogue.{catalogueBytes}
 use Rattle.model.specs.declared.Seat.{Seat}
 use Rattle.model.specs.declared.Sitting.{Sitting}
 use Rattle.model.specs.Acts.{Act, openSitting, seatCandidate, closeSitting, submitSheet, readLeast, readLowest, readUsed, Facts}
@@ -39,6 +41,7 @@ pub data Call : Type 0 where
   markSheet : (card sheet : List ℕ) → Call
   roundCount : (count modules : ℕ) → Call
   practiceCard : (start : ℕ) (card : List ℕ) → Call
+  catalogueTable : (top : ℕ) (table : List ℕ) → Call
   actIn : (sitting : Sitting) (seats : List Seat) (act : Act) → Call
 
 -- What a call is asked about: a count and a load, a plan or a sheet, each handed in with a card, a count in a rack of a given size, or
@@ -115,6 +118,10 @@ sheetBuffer i p s = record { entry = s; asked = sheetBytes i; writes = sheetOf i
 abbrev pub cardBuffer : Instance → (card : List ℕ) → Buffer
 cardBuffer i c = record { entry = c; asked = cardLength i; writes = cardBytes i }
 
+-- The table buffer of the catalogue call: 'a call writes its F(0) to F(Q) as a card's fields' (02 §5).
+abbrev pub tableBuffer : (top : ℕ) (table : List ℕ) → Buffer
+tableBuffer q f = record { entry = f; asked = tableSize q; writes = catalogueBytes q }
+
 -- The buffers of bytes lent to an act: to opening 'the exact planner's areas'.
 unfoldable pub actBuffers : Act → List Buffer
 actBuffers (openSitting d a c p w) = planBuffer exact (instanceOf c) p ∷ workBuffer exact (instanceOf c) w ∷ []
@@ -134,6 +141,7 @@ buffersOf (makeSheet c p s) = sheetBuffer (instanceOf c) p s ∷ []
 buffersOf (markSheet c s) = []
 buffersOf (roundCount n m) = []
 buffersOf (practiceCard s c) = cardBuffer (practiceShow s) c ∷ []
+buffersOf (catalogueTable q f) = tableBuffer q f ∷ []
 buffersOf (actIn z xs a) = actBuffers a
 
 -- One of the buffers is too short. Refusal 10: 'a lent area shorter than asked for'.
@@ -177,6 +185,10 @@ onRack n m = record { card = []; rack = m ∷ []; buffers = []; handed = inRack 
 abbrev pub onStart : (start : ℕ) → List Buffer → Request
 onStart s bs = record { card = []; rack = []; buffers = bs; handed = fromStart s; moment = outside }
 
+-- A request on a top step alone, which is a number of the rack.
+abbrev pub onTop : (top : ℕ) → List Buffer → Request
+onTop q bs = record { card = []; rack = q ∷ []; buffers = bs; handed = nothing; moment = outside }
+
 -- A request on a sitting alone.
 abbrev pub onSitting : Facts → Act → Request
 onSitting f a = record { card = []; rack = []; buffers = []; handed = nothing; moment = during f a }
@@ -201,6 +213,7 @@ requestOf (makeSheet c p s) = onCard c (buffersOf (makeSheet c p s)) (plan p)
 requestOf (markSheet c s) = onCard c [] (sheet s)
 requestOf (roundCount n m) = onRack n m
 requestOf (practiceCard s c) = onStart s (buffersOf (practiceCard s c))
+requestOf (catalogueTable q f) = onTop q (buffersOf (catalogueTable q f))
 requestOf (actIn z xs a) = actRequest (factsOf (stateOf z xs)) a
 
 -- The show that a request's card says.
@@ -245,7 +258,7 @@ actRefusals (readUsed d) = NotPermitted ∷ []
 
 -- The refusals of each call, in the order in which they are tested: 'Running cost adds 12 and 13; the sheet adds 10 to 13; marking adds 11
 -- to 13; the two planners add 10'; 'the coarse planner takes every accepted table and 9 is never given' (02 §2); a practice card '14, before
--- 10' (02 §1).
+-- 10' (02 §1); of the catalogue's table 'Q outside 1 to 200 gets 3, a short area 10' (02 §5).
 unfoldable pub refusals : Call → List Refusal
 refusals (checkCard c) = cardRefusals
 refusals (runningCost c n l) = cardRefusals ++ (EntryRange ∷ LoadNotServed ∷ [])
@@ -254,6 +267,7 @@ refusals (makeSheet c p s) = cardRefusals ++ (BufferTooShort ∷ WrongLength ∷
 refusals (markSheet c s) = cardRefusals ++ (WrongLength ∷ EntryRange ∷ LoadNotServed ∷ [])
 refusals (roundCount n m) = RackSize ∷ EntryRange ∷ []
 refusals (practiceCard s c) = ZeroStart ∷ BufferTooShort ∷ []
+refusals (catalogueTable q f) = RackSize ∷ BufferTooShort ∷ []
 refusals (actIn z xs a) = actRefusals a
 
 -- A submission has an order of its own: 17 stands before 11.
@@ -276,6 +290,7 @@ ownOrder (makeSheet c p s) = false
 ownOrder (markSheet c s) = false
 ownOrder (roundCount n m) = false
 ownOrder (practiceCard s c) = true
+ownOrder (catalogueTable q f) = false
 ownOrder (actIn z xs a) = actOwnOrder a
 
 -- The first refusal of a list that applies, or else the given answer. In an ascending list it is the lowest one: 'Of several, the lowest
@@ -305,6 +320,7 @@ successCost (makeSheet c p s) = planCost (instanceOf c) p
 successCost (markSheet c s) = sheetCost (instanceOf c) s
 successCost (roundCount n m) = roundedCount m n
 successCost (practiceCard s c) = 0
+successCost (catalogueTable q f) = 0
 successCost (actIn z xs a) = actCost (factsOf (stateOf z xs)) a
 
 -- The answer of a call.
@@ -344,6 +360,10 @@ sheetAtExit c = getD (buffersAtExit c) 0 []
 -- The card buffer of a practice card at exit, which is the only one lent to it.
 unfoldable pub cardAtExit : Call → List ℕ
 cardAtExit c = getD (buffersAtExit c) 0 []
+
+-- The table buffer of the catalogue call at exit, which is the only one lent to it.
+unfoldable pub tableAtExit : Call → List ℕ
+tableAtExit c = getD (buffersAtExit c) 0 []
 
 -- The whole outcome: number and cost, then each lent buffer in the order of the parameters.
 unfoldable pub outcome : Call → List (List ℕ)

@@ -2,7 +2,7 @@
 use Prim.Native.Nat.{ℕ, _+_, _-_, _*_}
 use mathlib.Core.Bool.{Bool, _&&_}
 use mathlib.Core.List.{List, [], _∷_, _++_}
-use lib.ListN.{take}
+use lib.ListN.{take, drop}
 use lib.Dec.{leb}
 use Rattle.lists.specs.Tests.{every}
 use Rattle.lists.specs.Lists.{rows}
@@ -45,9 +45,13 @@ headLength = 17
 abbrev pub entryPlace : ℕ → ℕ
 entryPlace k = headLength + 4 * k
 
+-- How many bytes the table has, where the top step is q: '4 each', 'F(0) to F(Q)'.
+abbrev pub tableSize : ℕ → ℕ
+tableSize q = 4 * (q + 1)
+
 -- The place of the load of slot t (from 0), where the top step is q.
 abbrev pub loadPlace : ℕ → ℕ → ℕ
-loadPlace q t = headLength + 4 * (q + 1) + 2 * t
+loadPlace q t = headLength + tableSize q + 2 * t
 
 -- The fields of a card. Total: a missing byte reads as 0, so of a card that is refused by 1 to 5 the result means nothing.
 unfoldable pub instanceOf : List ℕ → Instance
@@ -82,6 +86,14 @@ versionOf card = littleEndian 2 card versionPlace
 unfoldable pub cardLength : Instance → ℕ
 cardLength i = loadPlace (i .topStep) (i .slots)
 
+-- The entries of a table up to a top step as a card's fields.
+abbrev pub tableFields : (top : ℕ) → (ℕ → ℕ) → List ℕ
+tableFields q f = rows (q + 1) (λ k. bytesOf 4 (f k))
+
+-- The bytes of a card where its table stands.
+abbrev pub tableOf : List ℕ → List ℕ
+tableOf card = take (tableSize (instanceOf card .topStep)) (drop headLength card)
+
 -- The bytes of a show's fields, as the card's table has them. A field too large for its bytes loses its high part.
 abbrev pub frontBytes : List ℕ
 frontBytes = cardMark ++ bytesOf 2 cardVersion
@@ -93,7 +105,7 @@ abbrev pub priceBytes : Instance → List ℕ
 priceBytes i = bytesOf 4 (i .powerUp) ++ bytesOf 4 (i .powerDown)
 
 abbrev pub tableBytes : Instance → List ℕ
-tableBytes i = rows (i .topStep + 1) (λ k. bytesOf 4 (i .table k))
+tableBytes i = tableFields (i .topStep) (i .table)
 
 abbrev pub loadBytes : Instance → List ℕ
 loadBytes i = rows (i .slots) (λ t. bytesOf 2 (i .load t))

@@ -9,6 +9,7 @@ pub mod Thesis
 pub mod Plans
 pub mod Planners
 pub mod Practice
+pub mod Catalogue
 pub mod Acts
 pub mod SittingState
 pub mod Calls

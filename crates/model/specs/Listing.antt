@@ -1,4 +1,4 @@
--- The program's text (document 01, 'Program and listing'), as bytes of ASCII.
+-- The texts of the programs, as bytes of ASCII: the planner's (document 01, 'Program and listing') and the generator's (02 §5).
 use Prim.Native.Nat.{ℕ, zero, suc, _+_, _*_, _/_, _%_}
 use Prim.Native.Char.{code}
 use mathlib.Core.Bool.{cond}
@@ -14,6 +14,7 @@ use Rattle.model.specs.Instance.{instanceOf}
 use Rattle.model.specs.Sheets.{off, isOff}
 use Rattle.model.specs.Plans.{sheetOf}
 use Rattle.model.specs.Planners.{exact, plannedBy}
+use Rattle.model.specs.Catalogue.{catalogueEntry, catalogueSize}
 use Rattle.model.specs.Calls.{planShow, answer}
 
 -- The character of a digit.
@@ -74,3 +75,10 @@ printedFor card (Refused x) = refusedLine (refusalNumber x)
 -- plan'. The sheet call is refused only where the planner is, since its area is never the shorter one.
 unfoldable pub printed : (card : List ℕ) → List ℕ
 printed card = printedFor card (answer (planShow exact card (replicate 1024 0) (replicate 65536 0)))
+
+-- What the generator of the catalogue's table prints: 'A small generator prints the 201 numbers, one a line' (02 §5).
+unfoldable pub numberLine : ℕ → List ℕ
+numberLine n = decimal n ++ newline
+
+unfoldable pub catalogueLines : List ℕ
+catalogueLines = rows catalogueSize (λ k. numberLine (catalogueEntry k))

@@ -18,8 +18,8 @@ use Rattle.model.specs.declared.Refusal.{Refusal}
 use Rattle.model.specs.declared.Answer.{Answer}
 use Rattle.model.specs.declared.Answer.the-variants.{Cost, Refused}
 use Rattle.model.specs.Answers.{refusalNumber, numberOf}
-use Rattle.model.specs.Calls.{Call, checkCard, runningCost, planShow, makeSheet, markSheet, roundCount, practiceCard, actIn, ownOrder}
-use Rattle.model.specs.Calls.{actRefusals, actOwnOrder}
+use Rattle.model.specs.Calls.{Call, checkCard, runningCost, planShow, makeSheet, markSheet, roundCount, practiceCard, catalogueTable, actIn}
+use Rattle.model.specs.Calls.{ownOrder, actRefusals, actOwnOrder}
 use Rattle.model.specs.Acts.{Act, openSitting, seatCandidate, closeSitting, submitSheet, readLeast, readLowest, readUsed}
 use Rattle.model.specs.Calls.{requestOf, applies, refusals, firstRefusal, successCost, answer, Buffer, buffersOf, atExit, lent, buffersAtExit}
 use Rattle.laws.specs.AnswerNumber.{number-zero}
@@ -59,6 +59,7 @@ refusals-ascend (planShow k c p w) = (λ e. ascends _ refl, λ order. refl)
 refusals-ascend (makeSheet c p s) = (λ e. ascends _ refl, λ order. refl)
 refusals-ascend (markSheet c s) = (λ e. ascends _ refl, λ order. refl)
 refusals-ascend (roundCount n m) = (λ e. ascends _ refl, λ order. refl)
+refusals-ascend (catalogueTable q f) = (λ e. ascends _ refl, λ order. refl)
 refusals-ascend (actIn z xs a) = act-refusals-ascend a
 refusals-ascend (practiceCard s c) = (λ e. absurd (true≢false e), λ order. absurd (falls (omega arith) order))
 
@@ -82,6 +83,7 @@ nine-unlisted (makeSheet c p s) = refl
 nine-unlisted (markSheet c s) = refl
 nine-unlisted (roundCount n m) = refl
 nine-unlisted (practiceCard s c) = refl
+nine-unlisted (catalogueTable q f) = refl
 nine-unlisted (actIn z xs a) = nine-unlisted-act a
 
 module _ (test : Refusal → Bool) where

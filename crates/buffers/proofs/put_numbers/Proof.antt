@@ -1,0 +1,39 @@
+use Prim.Native.Nat.{_-_}
+use native.Mathlib.Omega.{arith}
+use lib.ListN.{length, getD}
+use Rattle.lists.specs.Writing.{RowsWritten, rows-none, rows-room, rows-more, rows-all}
+use Rattle.lists.specs.Bytes.{bytesOf}
+use borrow.Author.Needs.{needs}
+use Rattle.buffers.proofs.put_numbers.Statement.{statement}
+use Rattle.buffers.proofs.put_numbers.Tie as tie
+
+abbrev Inv-loop : tie.InvT-loop
+Inv-loop out₀ at numbers place₀ k₀ out place k = RowsWritten (λ j. bytesOf 4 (getD numbers j 0)) (length numbers) at out₀ k out place
+
+abbrev μ-loop : tie.MeasureT-loop
+μ-loop out₀ at numbers place₀ k₀ out place k = length numbers - k
+
+loop-holds : tie.Need-loop-holds Inv-loop μ-loop
+loop-holds c = search rows-none
+
+put-four-requires : tie.Need-put-four-requires Inv-loop μ-loop
+put-four-requires c κs =
+    let loop = c .before .before .before in
+    rows-room (loop .before .before .before .pre) (loop .loop .inv) (c .before .before .loop-test .taken)
+
+loop-less : tie.Need-loop-less Inv-loop μ-loop
+loop-less c = omega arith
+
+loop-again : tie.Need-loop-again Inv-loop μ-loop
+loop-again c = search rows-more
+
+same-length : tie.Need-same-length Inv-loop μ-loop
+same-length c = search
+
+returns : tie.Need-returns Inv-loop μ-loop
+returns c = search rows-all
+
+pub put-numbers-spec : {M : Type 1} → statement M
+put-numbers-spec =
+    tie.close (tie.spec Inv-loop μ-loop loop-holds (λ c. search needs) (λ c. omega arith) put-four-requires (λ c. omega arith) loop-less
+    loop-again same-length returns)

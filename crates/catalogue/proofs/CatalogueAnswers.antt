@@ -1,0 +1,109 @@
+-- The answer of the catalogue call, by the top step and the length of its area, the area at exit, and what its bytes are in a card.
+use Prim.Native.Nat.{ℕ, _+_, _*_, _≤_, _<_}
+use mathlib.Core.Path.{_≡_, refl, sym, ap, _∙_}
+use mathlib.Core.Bool.{true, false}
+use mathlib.Core.List.{List, [], _∷_}
+use native.Mathlib.Omega.{arith}
+use lib.ListN.{length, take}
+use lib.Seq.{take-at}
+use borrow.Author.Tests.{lt-ltb, le-ltb}
+use Rattle.lists.specs.Tests.{allOf}
+use Rattle.lists.specs.Lists.{writtenOver}
+use Rattle.lists.specs.Rows.{elementBytes, length-numbers, taken-bytes}
+use Rattle.lists.specs.Writing.{Room, Written, written-start}
+use Rattle.model.specs.declared.Refusal.the-variants.{RackSize, BufferTooShort}
+use Rattle.model.specs.declared.Answer.{Answer}
+use Rattle.model.specs.declared.Answer.the-variants.{Cost, Refused}
+use Rattle.model.specs.Answers.{numberOf}
+use Rattle.model.specs.Instance.{instanceOf, tableSize, rackNumber, convex, neverFalls}
+use Rattle.model.specs.Catalogue.{catalogueTop, catalogueSize, catalogueEntry, entryOf, followsRule, catalogueBytes}
+use Rattle.model.specs.Calls.{catalogueTable, buffersOf, anyShort, requestOf, applies, refusals, firstRefusal, answer, successCost}
+use Rattle.model.specs.Calls.{tableBuffer, atExit, buffersAtExit, tableAtExit}
+use Rattle.model.specs.Promises.{WritesTable}
+use Rattle.laws.specs.Acceptance.{rack-range}
+use Rattle.laws.specs.CardTables.{head-top, table-behind}
+use Rattle.laws.specs.CatalogueTables.{entry-is, catalogue-card}
+
+-- The constant, as its contract gives it.
+pub record Tested (whole : List ℕ) : Type 0 where
+  pub size : length whole ≡ catalogueSize
+  pub rule : followsRule whole ≡ true
+  pub convexity : convex catalogueTop (entryOf whole) ≡ true
+  pub rise : neverFalls catalogueTop (entryOf whole) ≡ true
+
+pub tested :
+    {whole : List ℕ} →
+    (length whole ≡ catalogueSize) ×
+    ((followsRule whole ≡ true) × ((convex catalogueTop (entryOf whole) ≡ true) × (neverFalls catalogueTop (entryOf whole) ≡ true))) →
+    Tested whole
+tested (size, (rule, (convexity, rise))) = record { size = size; rule = rule; convexity = convexity; rise = rise }
+
+module _ (top : ℕ) (table : List ℕ) where
+  -- The area at exit, by the answer.
+  exit-by : {a : Answer} → answer (catalogueTable top table) ≡ a → atExit a (tableBuffer top table) ≡ tableAtExit (catalogueTable top table)
+  unfolding tableAtExit buffersAtExit buffersOf
+  exit-by e = rw e
+
+  -- A top step outside 1 to 200 is refused, and the area is as it was.
+  pub top-refused :
+      rackNumber top ≡ false →
+      (Refused RackSize ≡ answer (catalogueTable top table)) ×
+      ((table ≡ tableAtExit (catalogueTable top table)) × WritesTable top table (numberOf (Refused RackSize)))
+  unfolding answer refusals firstRefusal applies requestOf allOf atExit
+  top-refused e =
+      let given : answer (catalogueTable top table) ≡ Refused RackSize = rw e refl in
+      (sym given, (exit-by given, record { in-card = λ n. absurd (omega arith); behind-head = λ n. absurd (omega arith) }))
+
+  module _ (ranged : rackNumber top ≡ true) where
+    -- An area that is too short is refused, and is as it was.
+    pub short-refused :
+        length table < tableSize top →
+        (Refused BufferTooShort ≡ answer (catalogueTable top table)) ×
+        ((table ≡ tableAtExit (catalogueTable top table)) × WritesTable top table (numberOf (Refused BufferTooShort)))
+    unfolding answer refusals firstRefusal applies requestOf allOf buffersOf anyShort atExit
+    short-refused h =
+        let given : answer (catalogueTable top table) ≡ Refused BufferTooShort = rw (ranged, lt-ltb _ _ h) refl in
+        (sym given, (exit-by given, record { in-card = λ n. absurd (omega arith); behind-head = λ n. absurd (omega arith) }))
+
+    most : top ≤ catalogueTop
+    most = rack-range top ranged .1
+
+    module _ {whole : List ℕ} (tested : Tested whole) (long : tableSize top ≤ length table) where
+      -- The first entries of the constant are the table's bytes.
+      bytes-are : elementBytes 4 (take (top + 1) whole) ≡ catalogueBytes top
+      unfolding catalogueBytes
+      bytes-are =
+          taken-bytes 4 (top + 1) catalogueEntry whole (omega (arith, tested .size, most))
+          (λ k h. entry-is whole (tested .rule) k (omega (arith, most)))
+
+      bytes-size : length (catalogueBytes top) ≡ tableSize top
+      unfolding catalogueBytes
+      bytes-size = omega (arith, length-numbers 4 (top + 1) catalogueEntry)
+
+      -- There is room for them in an area that is long enough.
+      pub table-room : Room (elementBytes 4 (take (top + 1) whole)) 0 table
+      table-room = rw bytes-are (record { room = omega (arith, bytes-size) })
+
+      -- Every card that has them as its table has the catalogue's table.
+      writes-table : {new : List ℕ} → take (tableSize top) new ≡ catalogueBytes top → WritesTable top new 0
+      writes-table front =
+          let card-has = catalogue-card whole (tested .rule) (tested .convexity) (tested .rise) in
+          record {
+            in-card = λ n card e has. card-has card (omega (arith, most)) (has ∙ front ∙ ap catalogueBytes (sym e));
+            behind-head =
+                λ n head loads sized e.
+                let same = head-top head (catalogueBytes top) loads sized ∙ e in
+                let behind = table-behind head (catalogueBytes top) loads sized (rw e bytes-size) in
+                rw front (card-has _ (omega (arith, same, most)) (behind ∙ ap catalogueBytes (sym same)));
+          }
+
+      -- An area that is long enough holds them at exit, and behind them what it held before.
+      pub table-given :
+          {new : List ℕ} {r : ℕ} → Written (elementBytes 4 (take (top + 1) whole)) 0 table new r →
+          (Cost 0 ≡ answer (catalogueTable top table)) × ((new ≡ tableAtExit (catalogueTable top table)) × WritesTable top new 0)
+      unfolding answer refusals firstRefusal applies requestOf allOf buffersOf anyShort successCost atExit
+      table-given {new} w =
+          let given : answer (catalogueTable top table) ≡ Cost 0 = rw (ranged, le-ltb _ _ long) refl in
+          let over : new ≡ writtenOver (catalogueBytes top) table = rw bytes-are at (written-start w .1) in
+          let front : take (tableSize top) new ≡ catalogueBytes top = rw over (take-at (catalogueBytes top) _ (tableSize top) bytes-size) in
+          (sym given, (over ∙ exit-by given, writes-table front))

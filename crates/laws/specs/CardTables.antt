@@ -1,0 +1,72 @@
+-- Cards whose table is known as bytes: what is read from it, when the card is accepted, and how such a card is made.
+use Prim.Native.Nat.{ℕ, _+_, _*_, _^_, _≤_, _<_}
+use mathlib.Core.Path.{_≡_, refl, sym, _∙_}
+use mathlib.Core.Bool.{true, false}
+use mathlib.Core.List.{List, [], _++_, append-nil}
+use mathlib.Core.Logic.{_↔_}
+use native.Mathlib.Nat.{zero-add}
+use native.Mathlib.Omega.{arith}
+use lib.ListN.{length, getD, take, drop, List·getD-append}
+use lib.Seq.{getD-take, getD-drop, take-at, drop-at}
+use borrow.Author.Tests.{le-leb}
+use Rattle.lists.specs.Tests.{and-both}
+use Rattle.lists.specs.Bytes.{littleEndian, little-same}
+use Rattle.lists.specs.Rows.{little-numbers}
+use Rattle.model.specs.declared.Refusal.the-variants.{PriceRange, NotConvex}
+use Rattle.model.specs.declared.Answer.{Answer}
+use Rattle.model.specs.Instance.{instanceOf, headLength, entryPlace, tableSize, tableFields, tableOf, tableInRange, convex, pricesInRange}
+use Rattle.model.specs.Calls.{Accepted, checkCard, answer, requestOf, refusals, cardRefusals, successCost, applies, firstRefusal}
+use Rattle.model.specs.Promises.{otherRefusals, OthersInOrder}
+use Rattle.laws.specs.Acceptance.{up-range, down-range}
+
+module _ (card : List ℕ) where
+  abbrev top : ℕ
+  top = instanceOf card .topStep
+
+  -- An entry of a card is read from the bytes where its table stands.
+  table-byte : (k j : ℕ) → k ≤ top → j < 4 → getD card (entryPlace k + j) 0 ≡ getD (tableOf card) (k * 4 + j) 0
+  table-byte k j h g =
+      let place : entryPlace k + j ≡ headLength + (k * 4 + j) = omega arith in
+      rw place (sym (getD-drop headLength card (k * 4 + j) 0) ∙ sym (getD-take (tableSize top) (drop headLength card) (k * 4 + j) 0 (omega arith)))
+
+  -- Where the entries of f stand as a card's table, they are what is read.
+  pub table-read :
+      (f : ℕ → ℕ) → ((k : ℕ) → k ≤ top → f k < 256 ^ 4) → tableOf card ≡ tableFields top f →
+      (k : ℕ) → k ≤ top → instanceOf card .table k ≡ f k
+  unfolding instanceOf
+  table-read f fits has k h =
+      little-same 4 card (tableOf card) (entryPlace k) (k * 4) (λ j g. table-byte k j h g) ∙
+      rw has (rw append-nil at (little-numbers 4 (top + 1) f [] (omega arith) (fits k h)))
+
+  module _ (ranged : tableInRange top (instanceOf card .table) ≡ true) (bent : convex top (instanceOf card .table) ≡ true) where
+    -- Where the two prices keep their bound too, refusals 6 and 7 do not apply, and the card's answer is that of the others.
+    by-others :
+        instanceOf card .powerUp ≤ 500000000 → instanceOf card .powerDown ≤ 500000000 → (a : Answer) →
+        firstRefusal (applies (requestOf (checkCard card))) cardRefusals a ≡ firstRefusal (applies (requestOf (checkCard card))) otherRefusals a
+    unfolding firstRefusal applies requestOf pricesInRange
+    by-others up down a =
+        let prices = and-both (le-leb (instanceOf card .powerUp) 500000000 up) (and-both (le-leb (instanceOf card .powerDown) 500000000 down) ranged) in
+        rw (prices, bent)
+
+    -- A card with a table in range and convex is accepted exactly if its other fields are in order.
+    pub accepted-by-others : OthersInOrder card ↔ Accepted card
+    unfolding answer refusals successCost
+    accepted-by-others = (
+      λ o. by-others (o .power-up) (o .power-down) _ ∙ o .others,
+      λ e.
+          let up = up-range card e in
+          let down = down-range card e in
+          record { others = sym (by-others up down _) ∙ e; power-up = up; power-down = down },
+    )
+
+-- A head of 17 bytes, a table and loads, one after the other.
+module _ (head table loads : List ℕ) (sized : length head ≡ headLength) where
+  -- The top step of the card is the head's.
+  pub head-top : instanceOf (head ++ (table ++ loads)) .topStep ≡ instanceOf head .topStep
+  unfolding instanceOf
+  head-top = little-same 1 _ head _ _ (λ j h. List·getD-append head (table ++ loads) 0 _ (omega arith))
+
+  -- Where the head asks for a table of that length, the table stands where the card's table stands.
+  pub table-behind : length table ≡ tableSize (instanceOf head .topStep) → tableOf (head ++ (table ++ loads)) ≡ table
+  table-behind long =
+      rw (head-top, drop-at head (table ++ loads) headLength sized) (take-at table loads (tableSize (instanceOf head .topStep)) long)

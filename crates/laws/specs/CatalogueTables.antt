@@ -1,0 +1,86 @@
+-- The catalogue's table (document 02, §5): each test of a whole table, turned into the fact at each entry, and what follows for cards.
+use Prim.Native.Nat.{ℕ, zero, suc, _+_, _-_, _*_, _/_, _^_, _≤_, _<_}
+use mathlib.Core.Path.{_≡_, refl, sym, _∙_}
+use mathlib.Core.Bool.{true}
+use mathlib.Core.List.{List, _++_}
+use native.Mathlib.Nat.{mul-le-mul}
+use native.Mathlib.Omega.{arith}
+use borrow.Author.Tests.{eqb-true, le-leb}
+use Rattle.lists.specs.Tests.{every-at, every-all}
+use Rattle.model.specs.Instance.{instanceOf, tableOf, tableInRange, convex, neverFalls}
+use Rattle.model.specs.Catalogue.{catalogueEntry, catalogueTop, catalogueSize, entryOf, followsRule, catalogueBytes}
+use Rattle.model.specs.Calls.{applies, requestOf}
+use Rattle.model.specs.Promises.{CatalogueCard}
+use Rattle.laws.specs.Tables.{same-range, same-convex, same-rise, convex-less, never-falls-less}
+use Rattle.laws.specs.CardTables.{table-read, accepted-by-others}
+
+-- Halving the product of a number and the one before it leaves no rest.
+halved : (k : ℕ) → 2 * (k * (k - 1) / 2) ≡ k * (k - 1)
+halved zero = refl
+halved (suc k) =
+    let less : suc k - 1 ≡ k = omega arith in
+    rw less (even (suc k * k) (k * (k - 1)) k (halved k) (next k))
+  where
+    next : (k : ℕ) → suc k * k ≡ k * (k - 1) + 2 * k
+    next zero = refl
+    next (suc k) =
+        let less : suc k - 1 ≡ k = omega arith in
+        rw less (omega arith)
+
+    even : (a b c : ℕ) → 2 * (b / 2) ≡ b → a ≡ b + 2 * c → 2 * (a / 2) ≡ a
+    even a b c e d = omega arith
+
+-- The rule without a division: 2F(k) = 800 + 6k + k(k − 1).
+pub catalogue-doubled : (k : ℕ) → 2 * catalogueEntry k ≡ 800 + 6 * k + k * (k - 1)
+unfolding catalogueEntry
+catalogue-doubled k = omega (arith, halved k)
+
+-- No entry is above 21,000.
+catalogue-most : (k : ℕ) → k ≤ catalogueTop → catalogueEntry k ≤ 21000
+unfolding catalogueEntry
+catalogue-most k h =
+    let low : k - 1 ≤ 200 = omega arith in
+    omega (arith, mul-le-mul h low)
+
+-- Every entry keeps the bound of a card's entries.
+pub catalogue-in-range : (top : ℕ) → top ≤ catalogueTop → tableInRange top catalogueEntry ≡ true
+unfolding tableInRange
+catalogue-in-range top h =
+    every-all (top + 1) _ (λ k g. le-leb (catalogueEntry k) 1000000 (omega (arith, catalogue-most k (omega arith))))
+
+-- Every entry fits the bytes of its field.
+pub catalogue-fits : (k : ℕ) → k ≤ catalogueTop → catalogueEntry k < 256 ^ 4
+catalogue-fits k h = omega (arith, catalogue-most k h)
+
+-- A table that passes the test of the rule.
+module _ (table : List ℕ) (rule : followsRule table ≡ true) where
+  -- Each of its entries is the rule's.
+  pub entry-is : (k : ℕ) → k ≤ catalogueTop → entryOf table k ≡ catalogueEntry k
+  unfolding followsRule
+  entry-is k h = eqb-true _ _ (every-at catalogueSize _ rule k (omega arith))
+
+  -- If it is convex too, so is the rule's table up to each top step.
+  pub rule-convex : convex catalogueTop (entryOf table) ≡ true → (top : ℕ) → top ≤ catalogueTop → convex top catalogueEntry ≡ true
+  rule-convex e top h = convex-less catalogueTop catalogueEntry h (sym (same-convex catalogueTop entry-is) ∙ e)
+
+  -- If it never falls, neither does the rule's table up to each top step.
+  pub rule-rises : neverFalls catalogueTop (entryOf table) ≡ true → (top : ℕ) → top ≤ catalogueTop → neverFalls top catalogueEntry ≡ true
+  rule-rises e top h = never-falls-less catalogueTop catalogueEntry h (sym (same-rise catalogueTop entry-is) ∙ e)
+
+  -- A table that passes all three tests: every card that has the rule's entries as its table has the catalogue's table.
+  pub catalogue-card :
+      convex catalogueTop (entryOf table) ≡ true → neverFalls catalogueTop (entryOf table) ≡ true → (card : List ℕ) →
+      instanceOf card .topStep ≤ catalogueTop → tableOf card ≡ catalogueBytes (instanceOf card .topStep) → CatalogueCard card
+  unfolding catalogueBytes applies requestOf
+  catalogue-card bent rising card h has =
+      let q = instanceOf card .topStep in
+      let read = table-read card catalogueEntry (λ k g. catalogue-fits k (omega arith)) has in
+      let ranged = same-range q read ∙ catalogue-in-range q h in
+      let convexity = same-convex q read ∙ rule-convex bent q h in
+      record {
+        entries = read;
+        in-range = ranged;
+        convexity = rw convexity refl;
+        never-falls = same-rise q read ∙ rule-rises rising q h;
+        accepted = accepted-by-others card ranged convexity;
+      }
