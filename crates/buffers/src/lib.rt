@@ -66,15 +66,15 @@ pub fn put_four(out: &mut [u8], at: usize, n: u32) -> usize
     put_two(out, next, n / 65536)
 }
 
-// Writes the numbers of a list, the four bytes of each.
-pub fn put_numbers(out: &mut [u8], at: usize, numbers: &[u32]) -> usize
+// Writes the numbers of a list, each as four bytes.
+pub fn put_numbers(out: &mut [u8], at: usize, numbers: &[u16]) -> usize
     requires { ⌜ Room (elementBytes 4 (now numbers)) at (now out) ⌝ }
     ensures { λ r. ⌜ Written (elementBytes 4 (now (numbers .entry))) at (now (out .entry)) (now (out .exit)) r ⌝ }
 {
     let mut place = at;
     let mut k = 0;
     while k < numbers.len() {
-        place = put_four(out, place, numbers[k]);
+        place = put_four(out, place, numbers[k] as u32);
         k += 1;
     }
     place

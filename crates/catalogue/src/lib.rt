@@ -14,7 +14,7 @@ mod table;
 
 // The table F(0) to F(200). That it follows the rule, is convex and never falls are three tests of the constant, each computed once over the
 // whole of it.
-fn whole_table() -> [u32; 201]
+fn whole_table() -> [u16; 201]
     ensures size { λ r. ⌜ length r ≡ catalogueSize ⌝ }
     ensures rule { λ r. ⌜ followsRule r ≡ true ⌝ }
     ensures convexity { λ r. ⌜ convex catalogueTop (entryOf r) ≡ true ⌝ }

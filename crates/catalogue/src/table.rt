@@ -1,5 +1,5 @@
 // F(0) to F(200) of the catalogue module: the numbers that the generator of crates/catalogue_lines prints, in its file `stdout`.
-pub const CATALOGUE: [u32; 201] = [
+pub const CATALOGUE: [u16; 201] = [
     400,
     403,
     407,

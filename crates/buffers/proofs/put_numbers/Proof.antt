@@ -16,6 +16,9 @@ abbrev μ-loop : tie.MeasureT-loop
 loop-holds : tie.Need-loop-holds Inv-loop μ-loop
 loop-holds c = search rows-none
 
+cast-put-four : tie.Need-cast-put-four Inv-loop μ-loop
+cast-put-four c = omega (arith, c .shared-slice-known2 .given (c .before .before .before .loop .k))
+
 put-four-requires : tie.Need-put-four-requires Inv-loop μ-loop
 put-four-requires c κs =
     let loop = c .before .before .before in
@@ -35,5 +38,5 @@ returns c = search rows-all
 
 pub put-numbers-spec : {M : Type 1} → statement M
 put-numbers-spec =
-    tie.close (tie.spec Inv-loop μ-loop loop-holds (λ c. search needs) (λ c. omega arith) put-four-requires (λ c. omega arith) loop-less
-    loop-again same-length returns)
+    tie.close (tie.spec Inv-loop μ-loop loop-holds (λ c. search needs) (λ c. omega arith) cast-put-four put-four-requires (λ c. omega arith)
+    loop-less loop-again same-length returns)
