@@ -14,7 +14,7 @@ ENTRIES = 201
 CRATE = pathlib.PurePath("crates", "catalogue")
 OUTPUT = pathlib.PurePath("crates", "catalogue_lines", "stdout")
 NAME = re.compile(r"\bconst\s+CATALOGUE\b")
-WHOLE = re.compile(r"\bconst\s+CATALOGUE\s*:\s*\[\s*u32\s*;\s*([^\s\];]+)\s*\]\s*=\s*\[([^\[\]]*)\]\s*;")
+WHOLE = re.compile(r"\bconst\s+CATALOGUE\s*:\s*\[\s*u16\s*;\s*([^\s\];]+)\s*\]\s*=\s*\[([^\[\]]*)\]\s*;")
 NUMBER = re.compile(r"0|[1-9][0-9]*")
 
 
@@ -37,7 +37,7 @@ def find(root):
     text = texts[places[0]]
     found = WHOLE.search(without_comments(text))
     if not found:
-        form = f"const CATALOGUE: [u32; {ENTRIES}] = [ .. ];"
+        form = f"const CATALOGUE: [u16; {ENTRIES}] = [ .. ];"
         raise Fault(f"{places[0].relative_to(root)}: the constant CATALOGUE is not of the form {form}")
     return places[0], text, found
 
@@ -139,7 +139,7 @@ def changed_sources(text, found, numbers):
     whole = text[found.start() : found.end()]
     yield None, text.replace(whole, whole.replace("CATALOGUE", "CATALOGUES"))
     yield None, text + f"\n{whole}\n"
-    yield None, text.replace(whole, whole.replace("u32", "u16", 1))
+    yield None, text.replace(whole, whole.replace("u16", "u32", 1))
     yield None, text.replace(whole, whole.replace(str(ENTRIES), str(ENTRIES - 1), 1))
     yield None, text.replace(whole, "".join(f"// {line}\n" for line in whole.split("\n")))
     yield None, ""

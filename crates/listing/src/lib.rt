@@ -9,7 +9,7 @@ ghost use Rattle.listing.specs.Texts.{numberedLine, countText, countText
 ghost use Rattle.listing.specs.Texts.{InRows, Printable, LineRoom};
 
 // Writes a number in decimal.
-fn put_number(out: &mut [u8], at: usize, n: u64) -> usize
+pub fn put_number(out: &mut [u8], at: usize, n: u64) -> usize
     requires { ⌜ Room (decimal n) at (now out) ⌝ }
     ensures { λ r. ⌜ Written (decimal n) at (now (out .entry)) (now (out .exit)) r ⌝ }
 {

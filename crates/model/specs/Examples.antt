@@ -23,7 +23,7 @@ use Rattle.model.specs.Sheets.{sheetOperatingCost, sheetSwitchingCost, s
 use Rattle.model.specs.Plans.{moduleByte, slotRow, sheetOf, planCost, planServes, plansInOrder, cheapest, cheapestOf, leastPlan}
 use Rattle.model.specs.Planners.{exact, coarse, allowedCounts, workBytes, plannedBy}
 use Rattle.model.specs.Listing.{digits, decimal, costLine, planLine, stepText, slotLine, listing, refusedLine, printedFor, printed}
-use Rattle.model.specs.Listing.{numberLine, catalogueLines}
+use Rattle.model.specs.Listing.{catalogueLines}
 use Rattle.model.specs.Practice.{xorLeft, xorRight, draw, drawn, practiceDifference, practiceEntry, practiceShow, longestPractice}
 use Rattle.model.specs.Catalogue.{catalogueEntry, catalogueBytes}
 use Rattle.model.specs.Calls.{Call, checkCard, runningCost, planShow, makeSheet, markSheet, roundCount, practiceCard, catalogueTable}
@@ -297,7 +297,7 @@ unfolding sameLists sameList every allOf sum tabulate rows keep littleEndian byt
     workBytes plannedBy xorLeft xorRight draw drawn practiceDifference practiceEntry practiceShow rightLength entriesInRange loadsServed
     startsAtZero buffersOf anyShort requestOf applies refusals firstRefusal successCost answer atExit buffersAtExit planAtExit
     cardAtExit tableAtExit outcome flatMap headD digits decimal costLine planLine stepText slotLine listing refusedLine printedFor printed
-    catalogueEntry catalogueBytes numberLine catalogueLines
+    catalogueEntry catalogueBytes catalogueLines
 agrees e = sameLists (e .found) (e .expected)
 
 -- A type that nothing proves: where a row does not hold, the check's error shows it with the row's name.

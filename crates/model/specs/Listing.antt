@@ -76,9 +76,10 @@ printedFor card (Refused x) = refusedLine (refusalNumber x)
 unfoldable pub printed : (card : List ℕ) → List ℕ
 printed card = printedFor card (answer (planShow exact card (replicate 1024 0) (replicate 65536 0)))
 
--- What the generator of the catalogue's table prints: 'A small generator prints the 201 numbers, one a line' (02 §5).
-unfoldable pub numberLine : ℕ → List ℕ
-numberLine n = decimal n ++ newline
+-- The line of F(k) of the catalogue module.
+abbrev pub entryLine : ℕ → List ℕ
+entryLine k = decimal (catalogueEntry k) ++ newline
 
+-- What the generator prints: 'A small generator prints the 201 numbers, one a line' (02 §5).
 unfoldable pub catalogueLines : List ℕ
-catalogueLines = rows catalogueSize (λ k. numberLine (catalogueEntry k))
+catalogueLines = rows catalogueSize entryLine
