@@ -72,10 +72,10 @@ pub fn put_numbers(out: &mut [u8], at: usize, numbers: &[u16]) -> usize
     ensures { λ r. ⌜ Written (elementBytes 4 (now (numbers .entry))) at (now (out .entry)) (now (out .exit)) r ⌝ }
 {
     let mut place = at;
-    let mut k = 0;
-    while k < numbers.len() {
-        place = put_four(out, place, numbers[k] as u32);
-        k += 1;
+    let mut j = 0;
+    while j < numbers.len() {
+        place = put_four(out, place, numbers[j] as u32);
+        j += 1;
     }
     place
 }

@@ -5,12 +5,12 @@ use mathlib.Core.Bool.{true, false}
 use mathlib.Core.List.{List, [], _∷_}
 use native.Mathlib.Omega.{arith}
 use lib.ListN.{length, take}
-use lib.Seq.{take-at}
+use lib.Seq.{take-at, length-take-le}
 use borrow.Author.Tests.{lt-ltb, le-ltb}
 use Rattle.lists.specs.Tests.{allOf}
 use Rattle.lists.specs.Lists.{writtenOver}
 use Rattle.lists.specs.Rows.{elementBytes, length-numbers, taken-bytes}
-use Rattle.lists.specs.Writing.{Room, Written, written-start}
+use Rattle.lists.specs.Writing.{Room}
 use Rattle.model.specs.declared.Refusal.the-variants.{RackSize, BufferTooShort}
 use Rattle.model.specs.declared.Answer.{Answer}
 use Rattle.model.specs.declared.Answer.the-variants.{Cost, Refused}
@@ -23,6 +23,13 @@ use Rattle.model.specs.Promises.{WritesTable}
 use Rattle.laws.specs.Acceptance.{rack-range}
 use Rattle.laws.specs.CardTables.{head-top, table-behind}
 use Rattle.laws.specs.CatalogueTables.{entry-is, catalogue-card}
+use Rattle.catalogue.specs.Entries.{EntriesRoom}
+
+-- Room for so many entries of four bytes each is room for their bytes.
+pub entries-room : {n : ℕ} {table out : List ℕ} → EntriesRoom n table out → Room (elementBytes 4 (take n table)) 0 out
+entries-room {n} {table} r =
+    let size = length-numbers 4 (length (take n table)) (entryOf (take n table)) in
+    record { room = omega (arith, size, length-take-le n table (r .some), r .room) }
 
 -- The constant, as its contract gives it.
 pub record Tested (whole : List ℕ) : Type 0 where
@@ -80,10 +87,6 @@ module _ (top : ℕ) (table : List ℕ) where
       unfolding catalogueBytes
       bytes-size = omega (arith, length-numbers 4 (top + 1) catalogueEntry)
 
-      -- There is room for them in an area that is long enough.
-      pub table-room : Room (elementBytes 4 (take (top + 1) whole)) 0 table
-      table-room = rw bytes-are (record { room = omega (arith, bytes-size) })
-
       -- Every card that has them as its table has the catalogue's table.
       writes-table : {new : List ℕ} → take (tableSize top) new ≡ catalogueBytes top → WritesTable top new 0
       writes-table front =
@@ -99,11 +102,11 @@ module _ (top : ℕ) (table : List ℕ) where
 
       -- An area that is long enough holds them at exit, and behind them what it held before.
       pub table-given :
-          {new : List ℕ} {r : ℕ} → Written (elementBytes 4 (take (top + 1) whole)) 0 table new r →
+          {new : List ℕ} → new ≡ writtenOver (elementBytes 4 (take (top + 1) whole)) table →
           (Cost 0 ≡ answer (catalogueTable top table)) × ((new ≡ tableAtExit (catalogueTable top table)) × WritesTable top new 0)
       unfolding answer refusals firstRefusal applies requestOf allOf buffersOf anyShort successCost atExit
-      table-given {new} w =
+      table-given {new} written =
           let given : answer (catalogueTable top table) ≡ Cost 0 = rw (ranged, le-ltb _ _ long) refl in
-          let over : new ≡ writtenOver (catalogueBytes top) table = rw bytes-are at (written-start w .1) in
+          let over : new ≡ writtenOver (catalogueBytes top) table = rw bytes-are at written in
           let front : take (tableSize top) new ≡ catalogueBytes top = rw over (take-at (catalogueBytes top) _ (tableSize top) bytes-size) in
           (sym given, (over ∙ exit-by given, writes-table front))

@@ -3,12 +3,15 @@ use model::Answer;
 use model::Refusal;
 ghost use mathlib.Core.Path.{_≡_};
 ghost use mathlib.Core.Bool.{true};
-ghost use lib.ListN.{length};
+ghost use lib.ListN.{length, take};
+ghost use Rattle.lists.specs.Lists.{writtenOver};
+ghost use Rattle.lists.specs.Rows.{elementBytes};
 ghost use Rattle.model.specs.Answers.{numberOf};
 ghost use Rattle.model.specs.Instance.{convex, neverFalls};
 ghost use Rattle.model.specs.Catalogue.{catalogueTop, catalogueSize, entryOf, followsRule};
 ghost use Rattle.model.specs.Calls.{answer, catalogueTable, tableAtExit};
 ghost use Rattle.model.specs.Promises.{WritesTable};
+ghost use Rattle.catalogue.specs.Entries.{EntriesRoom};
 
 mod table;
 
@@ -21,6 +24,14 @@ fn whole_table() -> [u16; 201]
     ensures rise { λ r. ⌜ neverFalls catalogueTop (entryOf r) ≡ true ⌝ }
 {
     table::CATALOGUE
+}
+
+// Writes the first entries of a table, four bytes each, at the front of the area.
+fn put_entries(out: &mut [u8], entries: usize, table: [u16; 201])
+    requires { ⌜ EntriesRoom entries table (now out) ⌝ }
+    ensures { λ _. ⌜ now (out .exit) ≡ writtenOver (elementBytes 4 (take entries table)) (now (out .entry)) ⌝ }
+{
+    buffers::put_numbers(out, 0, &table[..entries]);
 }
 
 // F(0) to F(top) as a card's fields: refusals 3 and 10, else cost 0.
@@ -37,7 +48,6 @@ pub fn catalogue_table(top: u64, table: &mut [u8]) -> Answer
     if table.len() < 4 * entries {
         return Answer::Refused(Refusal::BufferTooShort);
     }
-    let whole = whole_table();
-    buffers::put_numbers(table, 0, &whole[..entries]);
+    put_entries(table, entries, whole_table());
     Answer::Cost(0)
 }

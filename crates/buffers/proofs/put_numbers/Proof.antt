@@ -8,16 +8,16 @@ use Rattle.buffers.proofs.put_numbers.Statement.{statement}
 use Rattle.buffers.proofs.put_numbers.Tie as tie
 
 abbrev Inv-loop : tie.InvT-loop
-Inv-loop out₀ at numbers place₀ k₀ out place k = RowsWritten (λ j. bytesOf 4 (getD numbers j 0)) (length numbers) at out₀ k out place
+Inv-loop out₀ at numbers place₀ j₀ out place j = RowsWritten (λ k. bytesOf 4 (getD numbers k 0)) (length numbers) at out₀ j out place
 
 abbrev μ-loop : tie.MeasureT-loop
-μ-loop out₀ at numbers place₀ k₀ out place k = length numbers - k
+μ-loop out₀ at numbers place₀ j₀ out place j = length numbers - j
 
 loop-holds : tie.Need-loop-holds Inv-loop μ-loop
 loop-holds c = search rows-none
 
 cast-put-four : tie.Need-cast-put-four Inv-loop μ-loop
-cast-put-four c = omega (arith, c .shared-slice-known2 .given (c .before .before .before .loop .k))
+cast-put-four c = omega (arith, c .shared-slice-known2 .given (c .before .before .before .loop .j))
 
 put-four-requires : tie.Need-put-four-requires Inv-loop μ-loop
 put-four-requires c κs =

@@ -1,10 +1,8 @@
-use mathlib.Core.Path.{sym}
 use native.Mathlib.Omega.{arith}
-use lib.Seq.{length-take-le}
 use Rattle.lists.specs.Tests.{test-failed, test-passed}
 use Rattle.laws.specs.Acceptance.{rack-range}
 use borrow.Author.Needs.{needs}
-use Rattle.catalogue.proofs.CatalogueAnswers.{tested, top-refused, short-refused, table-room, table-given}
+use Rattle.catalogue.proofs.CatalogueAnswers.{tested, top-refused, short-refused, table-given}
 use Rattle.catalogue.proofs.catalogue_table.Statement.{statement}
 use Rattle.catalogue.proofs.catalogue_table.Tie as tie
 
@@ -24,35 +22,24 @@ mul-if2 c =
 returns-2 : tie.Need-returns-2
 returns-2 c = short-refused _ _ (test-passed (c .before .before .rack-number .ensures) (c .before .if1 .left)) (c .if2 .taken)
 
-array-share-prefix-whole : tie.Need-array-share-prefix-whole
-array-share-prefix-whole c =
-    let tests = c .before .before .before in
-    let few = rack-range (tests .before .before .before .args .top) (test-passed (tests .before .rack-number .ensures) (tests .if1 .left)) in
-    omega (arith, few, tested (c .before .whole-table .ensures) .size)
-
-slice-aggregate-put-numbers : tie.Need-slice-aggregate-put-numbers
-slice-aggregate-put-numbers c =
-    let tests = c .before .before .before .before in
-    let few = rack-range (tests .before .before .before .args .top) (test-passed (tests .before .rack-number .ensures) (tests .if1 .left)) in
-    sym (length-take-le _ _ (omega (arith, few, tested (c .before .before .whole-table .ensures) .size)))
-
-put-numbers-requires : tie.Need-put-numbers-requires
-put-numbers-requires c κs =
-    let room = c .before .before .before in
+put-entries-requires : tie.Need-put-entries-requires
+put-entries-requires c κs =
+    let room = c .before .before in
     let tests = room .before in
-    table-room _ _ (test-passed (tests .before .rack-number .ensures) (tests .if1 .left)) (tested (c .before .before .whole-table .ensures))
-    (room .if2 .left)
+    let few = rack-range (tests .before .before .before .args .top) (test-passed (tests .before .rack-number .ensures) (tests .if1 .left)) in
+    let size = tested (c .whole-table .ensures) .size in
+    record { some = omega (arith, few, size); room = omega (arith, room .if2 .left) }
 
 returns-3 : tie.Need-returns-3
 returns-3 c =
     let wrote = c .before .before in
-    let room = wrote .before .before .before .before in
+    let room = wrote .before .before .before in
     let tests = room .before in
-    table-given _ _ (test-passed (tests .before .rack-number .ensures) (tests .if1 .left))
-    (tested (wrote .before .before .before .whole-table .ensures)) (room .if2 .left) (wrote .put-numbers .ensures)
+    table-given _ _ (test-passed (tests .before .rack-number .ensures) (tests .if1 .left)) (tested (wrote .before .whole-table .ensures))
+    (room .if2 .left) (wrote .put-entries .ensures)
 
 pub catalogue-table-spec : {M : Type 1} → statement M
 catalogue-table-spec =
     tie.close
-    (tie.spec (λ c κs. search needs) returns add-entries mul-if2 returns-2 (λ c κs. search needs) array-share-prefix-whole
-    slice-aggregate-put-numbers put-numbers-requires (λ c. search needs) returns-3)
+    (tie.spec (λ c κs. search needs) returns add-entries mul-if2 returns-2 (λ c κs. search needs) put-entries-requires (λ c. search needs)
+    returns-3)
