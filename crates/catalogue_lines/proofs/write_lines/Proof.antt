@@ -20,13 +20,13 @@ put-entry-requires : tie.Need-put-entry-requires Inv-loop μ-loop
 unfolding catalogueLines
 put-entry-requires c κs =
     let loop = c .before .before in
-    (omega arith, rows-room (loop .before .before .pre) (loop .loop .inv) (c .before .loop-test .taken))
+    (omega arith, rows-room (loop .before .before .pre) (loop .loop .inv) (omega arith))
 
 loop-less : tie.Need-loop-less Inv-loop μ-loop
 loop-less c = omega arith
 
 loop-again : tie.Need-loop-again Inv-loop μ-loop
-loop-again c = search rows-more
+loop-again c = search (rows-more, arith)
 
 same-length : tie.Need-same-length Inv-loop μ-loop
 same-length c = search
