@@ -26,7 +26,9 @@ loop-less : tie.Need-loop-less Inv-loop μ-loop
 loop-less c = omega arith
 
 loop-again : tie.Need-loop-again Inv-loop μ-loop
-loop-again c = search (rows-more, arith)
+loop-again c =
+    let wrote = c .before .before in
+    rows-more (wrote .before .before .before .loop .inv) (omega arith) (wrote .put-entry .ensures)
 
 same-length : tie.Need-same-length Inv-loop μ-loop
 same-length c = search
