@@ -180,6 +180,7 @@ def readme(folder):
         sys.exit(f"README's day is not six lines with {DAY}")
     run_day("README", lines, folder, None)
     run_lines("README", commands("README.md", "## Practice shows"), folder, None)
+    run_lines("README", commands("README.md", "## The catalogue module's table"), folder, None)
     expect_cards(folder, [1950])
     expect_cards(folder / "cards", range(1, 31))
     expect("README's first command", run(["sh", "-c", commands("README.md", "# Lamp planner")[0]], folder), 0, A)
