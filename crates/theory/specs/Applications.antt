@@ -1,18 +1,19 @@
--- The hypotheses of the theorems can be met: they hold of document 01's example E, of a show whose table falls, and of the whole sitting of
--- the examples.
+-- The hypotheses of the theorems can be met: they hold of document 01's example E, of a show whose table falls, of the whole sitting of
+-- the examples, and of card A with the catalogue's table.
 use Prim.Native.Nat.{ℕ, _+_, _*_, _≤_}
 use mathlib.Core.Path.{_≡_, refl}
 use mathlib.Core.Bool.{true}
-use mathlib.Core.List.{List, [], _∷_, flatMap}
+use mathlib.Core.List.{List, [], _∷_, _++_, flatMap}
 use native.Mathlib.Omega.{arith}
 use lib.Dec.{leb, ltb}
-use lib.ListN.{getD}
+use lib.ListN.{getD, take, drop, replicate}
 use borrow.Author.Tests.{leb-true, ltb-true}
-use Rattle.lists.specs.Tests.{every, every-at}
+use Rattle.lists.specs.Tests.{every, every-at, allOf}
 use Rattle.lists.specs.Sums.{sum}
 use Rattle.lists.specs.Ranges.{leastOver, firstOver}
-use Rattle.lists.specs.Lists.{tabulate, rows, keep}
-use Rattle.model.specs.Instance.{Instance, instanceOf}
+use Rattle.lists.specs.Lists.{tabulate, rows, keep, sameList}
+use Rattle.lists.specs.Bytes.{littleEndian, bytesOf}
+use Rattle.model.specs.Instance.{Instance, instanceOf, headLength, loadPlace, tableSize, tableOf, cardLength, loadsInRange}
 use Rattle.model.specs.MoreLight.{leastFrom, activeStep}
 use Rattle.model.specs.Counts.{canServe, operatingCost, allCounts, powerOfTwo, coarseCounts}
 use Rattle.model.specs.Sheets.{off, stateAt, sheetLength, sheetEntries, lightAt, sheetLight, serves, stepCost, changeCost}
@@ -28,6 +29,10 @@ use Rattle.model.specs.Planners.{exact, plannedCost}
 use Rattle.model.specs.Acts.{readLowest}
 use Rattle.model.specs.SittingState.{phaseOf}
 use Rattle.model.specs.Sittings.{replyOf, toldInTurn, leftBy, StartsAfresh, from-unopened, LentCard, EachAct, toldFrom}
+use Rattle.model.specs.Catalogue.{catalogueEntry, catalogueBytes}
+use Rattle.model.specs.Calls.{catalogueTable, requestOf, applies, firstRefusal, refusals, successCost, answer, buffersOf, anyShort, atExit}
+use Rattle.model.specs.Calls.{buffersAtExit, tableAtExit}
+use Rattle.model.specs.Promises.{OthersInOrder}
 use Rattle.model.specs.Examples.{cardA}
 use Rattle.model.specs.SittingExamples.{sittingOf, odd, wholeSitting}
 use Rattle.theory.specs.SittingRuns.{any-sequence}
@@ -157,3 +162,15 @@ pub lowest-applied :
     let reply = replyOf (left .0) (left .1) (readLowest 0 5) in
     reply .marked ≡ 1 → plannedCost exact (instanceOf cardA) ≤ reply .cost
 lowest-applied = lowest-at-least cardA whole-starts whole-lent 0 5
+
+-- Card A with the catalogue's table: what the catalogue call wrote for top step 2 stands where its table stands.
+abbrev catalogueA : List ℕ
+catalogueA = take headLength cardA ++ (catalogueBytes 2 ++ drop (loadPlace 2 0) cardA)
+
+-- It meets what the call's contract asks of a card, and its other fields are in order.
+pub catalogue-applied :
+    (instanceOf catalogueA .topStep ≡ 2) ×
+    (tableOf catalogueA ≡ take (tableSize 2) (tableAtExit (catalogueTable 2 (replicate 12 7)))) × OthersInOrder catalogueA
+unfolding every allOf rows sameList littleEndian bytesOf instanceOf catalogueEntry catalogueBytes requestOf applies firstRefusal refusals
+    successCost answer buffersOf anyShort atExit buffersAtExit tableAtExit cardLength loadsInRange
+catalogue-applied = (refl, refl, record { others = refl; power-up = omega arith; power-down = omega arith })
