@@ -1,8 +1,8 @@
 -- The answer of the catalogue call, by the top step and the length of its area, the area at exit, and what its bytes are in a card.
-use Prim.Native.Nat.{ℕ, _+_, _*_, _≤_, _<_}
+use Prim.Native.Nat.{ℕ, _+_, _≤_, _<_}
 use mathlib.Core.Path.{_≡_, refl, sym, ap, _∙_}
 use mathlib.Core.Bool.{true, false}
-use mathlib.Core.List.{List, [], _∷_}
+use mathlib.Core.List.{List}
 use native.Mathlib.Omega.{arith}
 use lib.ListN.{length, take}
 use lib.Seq.{take-at, length-take-le}
@@ -15,7 +15,7 @@ use Rattle.model.specs.declared.Refusal.the-variants.{RackSize, BufferTooShort}
 use Rattle.model.specs.declared.Answer.{Answer}
 use Rattle.model.specs.declared.Answer.the-variants.{Cost, Refused}
 use Rattle.model.specs.Answers.{numberOf}
-use Rattle.model.specs.Instance.{instanceOf, tableSize, rackNumber, convex, neverFalls}
+use Rattle.model.specs.Instance.{tableSize, rackNumber, convex, neverFalls}
 use Rattle.model.specs.Catalogue.{catalogueTop, catalogueSize, catalogueEntry, entryOf, followsRule, catalogueBytes}
 use Rattle.model.specs.Calls.{catalogueTable, buffersOf, anyShort, requestOf, applies, refusals, firstRefusal, answer, successCost}
 use Rattle.model.specs.Calls.{tableBuffer, atExit, buffersAtExit, tableAtExit}

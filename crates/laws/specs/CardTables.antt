@@ -1,18 +1,16 @@
 -- Cards whose table is known as bytes: what is read from it, when the card is accepted, and how such a card is made.
 use Prim.Native.Nat.{ℕ, _+_, _*_, _^_, _≤_, _<_}
-use mathlib.Core.Path.{_≡_, refl, sym, _∙_}
-use mathlib.Core.Bool.{true, false}
+use mathlib.Core.Path.{_≡_, sym, _∙_}
+use mathlib.Core.Bool.{true}
 use mathlib.Core.List.{List, [], _++_, append-nil}
 use mathlib.Core.Logic.{_↔_}
-use native.Mathlib.Nat.{zero-add}
 use native.Mathlib.Omega.{arith}
-use lib.ListN.{length, getD, take, drop, List·getD-append}
+use lib.ListN.{length, getD, drop, List·getD-append}
 use lib.Seq.{getD-take, getD-drop, take-at, drop-at}
 use borrow.Author.Tests.{le-leb}
 use Rattle.lists.specs.Tests.{and-both}
-use Rattle.lists.specs.Bytes.{littleEndian, little-same}
+use Rattle.lists.specs.Bytes.{little-same}
 use Rattle.lists.specs.Rows.{little-numbers}
-use Rattle.model.specs.declared.Refusal.the-variants.{PriceRange, NotConvex}
 use Rattle.model.specs.declared.Answer.{Answer}
 use Rattle.model.specs.Instance.{instanceOf, headLength, entryPlace, tableSize, tableFields, tableOf, tableInRange, convex, pricesInRange}
 use Rattle.model.specs.Calls.{Accepted, checkCard, answer, requestOf, refusals, cardRefusals, successCost, applies, firstRefusal}

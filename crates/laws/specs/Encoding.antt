@@ -15,7 +15,7 @@ use Rattle.lists.specs.Lists.{sameList}
 use Rattle.lists.specs.Bytes.{littleEndian, bytesOf, little-bytes, little-after}
 use Rattle.lists.specs.Rows.{length-numbers, little-numbers}
 use Rattle.model.specs.Instance.{Instance, instanceOf, headLength, entryPlace, loadPlace, cardMark, cardVersion, markOf, versionOf}
-use Rattle.model.specs.Instance.{cardLength, tableBytes, loadBytes, cardBytes, inOrder, rackNumber, pricesInRange, tableInRange, convex, convexAt, loadsInRange}
+use Rattle.model.specs.Instance.{cardLength, tableBytes, loadBytes, cardBytes, inOrder, rackNumber, pricesInRange, tableInRange, convex, loadsInRange}
 use Rattle.model.specs.Calls.{Accepted, answer, requestOf, refusals, successCost, applies, firstRefusal}
 use Rattle.model.specs.Promises.{frontCard}
 use Rattle.model.specs.RelatedShows.{Agree}
