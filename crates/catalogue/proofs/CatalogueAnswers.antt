@@ -1,5 +1,5 @@
 -- The answer of the catalogue call, by the top step and the length of its area, the area at exit, and what its bytes are in a card.
-use Prim.Native.Nat.{ℕ, _+_, _≤_, _<_}
+use Prim.Native.Nat.{ℕ, suc, _+_, _≤_, _<_}
 use mathlib.Core.Path.{_≡_, refl, sym, ap, _∙_}
 use mathlib.Core.Bool.{true, false}
 use mathlib.Core.List.{List}
@@ -51,6 +51,10 @@ module _ (top : ℕ) (table : List ℕ) where
   unfolding tableAtExit buffersAtExit buffersOf
   exit-by e = rw e
 
+  -- After a refusal nothing is promised of the area's bytes in a card.
+  refused-writes : {number : ℕ} → WritesTable top table (suc number)
+  refused-writes = record { in-card = λ n. absurd (omega arith); behind-head = λ n. absurd (omega arith) }
+
   -- A top step outside 1 to 200 is refused, and the area is as it was.
   pub top-refused :
       rackNumber top ≡ false →
@@ -59,7 +63,7 @@ module _ (top : ℕ) (table : List ℕ) where
   unfolding answer refusals firstRefusal applies requestOf allOf atExit
   top-refused e =
       let given : answer (catalogueTable top table) ≡ Refused RackSize = rw e refl in
-      (sym given, (exit-by given, record { in-card = λ n. absurd (omega arith); behind-head = λ n. absurd (omega arith) }))
+      (sym given, (exit-by given, refused-writes))
 
   module _ (ranged : rackNumber top ≡ true) where
     -- An area that is too short is refused, and is as it was.
@@ -70,7 +74,7 @@ module _ (top : ℕ) (table : List ℕ) where
     unfolding answer refusals firstRefusal applies requestOf allOf buffersOf anyShort atExit
     short-refused h =
         let given : answer (catalogueTable top table) ≡ Refused BufferTooShort = rw (ranged, lt-ltb _ _ h) refl in
-        (sym given, (exit-by given, record { in-card = λ n. absurd (omega arith); behind-head = λ n. absurd (omega arith) }))
+        (sym given, (exit-by given, refused-writes))
 
     most : top ≤ catalogueTop
     most = rack-range top ranged .1

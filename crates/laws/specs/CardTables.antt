@@ -36,7 +36,7 @@ module _ (card : List ℕ) where
       little-same 4 card (tableOf card) (entryPlace k) (k * 4) (λ j g. table-byte k j h g) ∙
       rw has (rw append-nil at (little-numbers 4 (top + 1) f [] (omega arith) (fits k h)))
 
-  module _ (ranged : tableInRange top (instanceOf card .table) ≡ true) (bent : convex top (instanceOf card .table) ≡ true) where
+  module _ (ranged : tableInRange top (instanceOf card .table) ≡ true) (convexity : convex top (instanceOf card .table) ≡ true) where
     -- Where the two prices keep their bound too, refusals 6 and 7 do not apply, and the card's answer is that of the others.
     by-others :
         instanceOf card .powerUp ≤ 500000000 → instanceOf card .powerDown ≤ 500000000 → (a : Answer) →
@@ -44,7 +44,7 @@ module _ (card : List ℕ) where
     unfolding firstRefusal applies requestOf pricesInRange
     by-others up down a =
         let prices = and-both (le-leb (instanceOf card .powerUp) 500000000 up) (and-both (le-leb (instanceOf card .powerDown) 500000000 down) ranged) in
-        rw (prices, bent)
+        rw (prices, convexity)
 
     -- A card with a table in range and convex is accepted exactly if its other fields are in order.
     pub accepted-by-others : OthersInOrder card ↔ Accepted card

@@ -72,15 +72,15 @@ module _ (table : List ℕ) (rule : followsRule table ≡ true) where
       convex catalogueTop (entryOf table) ≡ true → neverFalls catalogueTop (entryOf table) ≡ true → (card : List ℕ) →
       instanceOf card .topStep ≤ catalogueTop → tableOf card ≡ catalogueBytes (instanceOf card .topStep) → CatalogueCard card
   unfolding catalogueBytes applies requestOf
-  catalogue-card bent rising card h has =
+  catalogue-card is-convex rises card h has =
       let q = instanceOf card .topStep in
       let read = table-read card catalogueEntry (λ k g. catalogue-fits k (omega arith)) has in
       let ranged = same-range q read ∙ catalogue-in-range q h in
-      let convexity = same-convex q read ∙ rule-convex bent q h in
+      let convexity = same-convex q read ∙ rule-convex is-convex q h in
       record {
         entries = read;
         in-range = ranged;
         convexity = rw convexity refl;
-        never-falls = same-rise q read ∙ rule-rises rising q h;
+        never-falls = same-rise q read ∙ rule-rises rises q h;
         accepted = accepted-by-others card ranged convexity;
       }
