@@ -11,7 +11,7 @@ use Rattle.model.specs.Instance.{instanceOf, tableOf, tableInRange, convex, nev
 use Rattle.model.specs.Catalogue.{catalogueEntry, catalogueTop, catalogueSize, entryOf, followsRule, catalogueBytes}
 use Rattle.model.specs.Calls.{applies, requestOf}
 use Rattle.model.specs.Promises.{CatalogueCard}
-use Rattle.laws.specs.Tables.{same-range, same-convex, same-rise, convex-less, never-falls-less}
+use Rattle.laws.specs.Tables.{Convex, NeverFalls, convex-test, never-falls-test, same-range, same-convex, same-rise}
 use Rattle.laws.specs.CardTables.{table-read, accepted-by-others}
 
 -- Halving the product of a number and the one before it leaves no rest.
@@ -59,15 +59,15 @@ module _ (table : List ℕ) (rule : followsRule table ≡ true) where
   unfolding followsRule
   entry-is k h = eqb-true _ _ (every-at catalogueSize _ rule k (omega arith))
 
-  -- If it is convex too, so is the rule's table up to each top step.
-  pub rule-convex : convex catalogueTop (entryOf table) ≡ true → (top : ℕ) → top ≤ catalogueTop → convex top catalogueEntry ≡ true
-  rule-convex e top h = convex-less catalogueTop catalogueEntry h (sym (same-convex catalogueTop entry-is) ∙ e)
+  -- If it passes the test of convexity, the rule is convex at each entry.
+  pub entry-convex : convex catalogueTop (entryOf table) ≡ true → Convex catalogueTop catalogueEntry
+  entry-convex e = convex-test catalogueTop catalogueEntry .0 (sym (same-convex catalogueTop entry-is) ∙ e)
 
-  -- If it never falls, neither does the rule's table up to each top step.
-  pub rule-rises : neverFalls catalogueTop (entryOf table) ≡ true → (top : ℕ) → top ≤ catalogueTop → neverFalls top catalogueEntry ≡ true
-  rule-rises e top h = never-falls-less catalogueTop catalogueEntry h (sym (same-rise catalogueTop entry-is) ∙ e)
+  -- If it passes the test of never falling, the rule falls at no entry.
+  pub entry-rises : neverFalls catalogueTop (entryOf table) ≡ true → NeverFalls catalogueTop catalogueEntry
+  entry-rises e = never-falls-test catalogueTop catalogueEntry .0 (sym (same-rise catalogueTop entry-is) ∙ e)
 
-  -- A table that passes all three tests: every card that has the rule's entries as its table has the catalogue's table.
+  -- If it passes all three tests, every card that has the rule's entries as its table has the catalogue's table.
   pub catalogue-card :
       convex catalogueTop (entryOf table) ≡ true → neverFalls catalogueTop (entryOf table) ≡ true → (card : List ℕ) →
       instanceOf card .topStep ≤ catalogueTop → tableOf card ≡ catalogueBytes (instanceOf card .topStep) → CatalogueCard card
@@ -76,11 +76,11 @@ module _ (table : List ℕ) (rule : followsRule table ≡ true) where
       let q = instanceOf card .topStep in
       let read = table-read card catalogueEntry (λ k g. catalogue-fits k (omega arith)) has in
       let ranged = same-range q read ∙ catalogue-in-range q h in
-      let convexity = same-convex q read ∙ rule-convex is-convex q h in
+      let convexity = same-convex q read ∙ convex-test q catalogueEntry .1 (λ k g. entry-convex is-convex k (omega arith)) in
       record {
         entries = read;
         in-range = ranged;
         convexity = rw convexity refl;
-        never-falls = same-rise q read ∙ rule-rises rises q h;
+        never-falls = same-rise q read ∙ never-falls-test q catalogueEntry .1 (λ k g. entry-rises rises k (omega arith));
         accepted = accepted-by-others card ranged convexity;
       }

@@ -1,5 +1,5 @@
--- Tables: what convex means, what follows from a step at which a convex table no longer falls, and the line that supports it. Tables that
--- agree pass the same tests, and a table that passes up to a top step passes up to a lower one.
+-- Tables: what convex and never falling mean, that tables which agree pass the same tests, what follows from a step at which a convex table no
+-- longer falls, and the line that supports it.
 use Prim.Native.Nat.{ℕ, zero, suc, _+_, _-_, _*_, _≤_, _<_}
 use mathlib.Core.Path.{_≡_, ap}
 use mathlib.Core.Bool.{true}
@@ -9,7 +9,7 @@ use native.Mathlib.Nat.{add-zero, le-dest, le-of-lt, mul-le-mul-left}
 use native.Mathlib.Omega.{arith}
 use lib.Dec.{leb}
 use Rattle.lists.specs.Numbers.{le-or-lt}
-use Rattle.lists.specs.Tests.{every-at, every-all, every-less, every-same}
+use Rattle.lists.specs.Tests.{every-at, every-all, every-same}
 use Rattle.model.specs.Instance.{convexAt, convex, neverFalls, tableInRange}
 
 -- Of a table with the entries f 0 to f q no entry lies above the middle of its neighbours.
@@ -28,6 +28,14 @@ convex-test q f = (
   λ c. every-all (q - 1) (convexAt f) (λ k h. le-leb _ _ (c k (omega arith))),
 )
 
+-- A table passes the test exactly if it never falls.
+pub never-falls-test : (q : ℕ) (f : ℕ → ℕ) → neverFalls q f ≡ true ↔ NeverFalls q f
+unfolding neverFalls
+never-falls-test q f = (
+  λ e k h. leb-true _ _ (every-at q (λ j. leb (f j) (f (j + 1))) e k h),
+  λ rises. every-all q _ (λ k h. le-leb _ _ (rises k h)),
+)
+
 -- Of two tables with the same entries up to q, each of the three tests holds for both or for neither.
 module _ (q : ℕ) {f g : ℕ → ℕ} (same : (k : ℕ) → k ≤ q → g k ≡ f k) where
   pub same-range : tableInRange q g ≡ tableInRange q f
@@ -43,16 +51,6 @@ module _ (q : ℕ) {f g : ℕ → ℕ} (same : (k : ℕ) → k ≤ q → g k ≡
   pub same-rise : neverFalls q g ≡ neverFalls q f
   unfolding neverFalls
   same-rise = every-same q _ _ (λ k h. rw (same k (omega arith), same (k + 1) (omega arith)))
-
--- A table that is convex, or never falls, up to q is so up to every lower step.
-module _ (q : ℕ) (f : ℕ → ℕ) {p : ℕ} (h : p ≤ q) where
-  pub convex-less : convex q f ≡ true → convex p f ≡ true
-  unfolding convex
-  convex-less = every-less (q - 1) (convexAt f) (omega arith)
-
-  pub never-falls-less : neverFalls q f ≡ true → neverFalls p f ≡ true
-  unfolding neverFalls
-  never-falls-less = every-less q _ h
 
 module _ (q : ℕ) (f : ℕ → ℕ) (c : Convex q f) where
   -- The differences of a convex table rise.

@@ -63,10 +63,6 @@ unfolding every
 every-all zero f h = refl
 every-all (suc n) f h = and-both (every-all n f (λ k g. h k (omega arith))) (h n (omega arith))
 
--- A test that holds at every index below n holds at every index below a smaller bound.
-pub every-less : (n : ℕ) (f : ℕ → Bool) {m : ℕ} → m ≤ n → every n f ≡ true → every m f ≡ true
-every-less n f {m} h e = every-all m f (λ k g. every-at n f e k (omega arith))
-
 -- Two tests that agree at each index below n hold at all of these indices, or neither does.
 pub every-same : (n : ℕ) (f g : ℕ → Bool) → ((k : ℕ) → k < n → f k ≡ g k) → every n f ≡ every n g
 unfolding every
