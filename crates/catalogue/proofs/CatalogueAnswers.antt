@@ -15,8 +15,8 @@ use Rattle.model.specs.declared.Refusal.the-variants.{RackSize, BufferTooShort}
 use Rattle.model.specs.declared.Answer.{Answer}
 use Rattle.model.specs.declared.Answer.the-variants.{Cost, Refused}
 use Rattle.model.specs.Answers.{numberOf}
-use Rattle.model.specs.Instance.{tableSize, rackNumber, convex, neverFalls}
-use Rattle.model.specs.Catalogue.{catalogueTop, catalogueSize, catalogueEntry, entryOf, followsRule, catalogueBytes}
+use Rattle.model.specs.Instance.{tableSize, rackNumber}
+use Rattle.model.specs.Catalogue.{catalogueTop, catalogueEntry, entryOf, TestedTable, catalogueBytes}
 use Rattle.model.specs.Calls.{catalogueTable, buffersOf, anyShort, requestOf, applies, refusals, firstRefusal, answer, successCost}
 use Rattle.model.specs.Calls.{tableBuffer, atExit, buffersAtExit, tableAtExit}
 use Rattle.model.specs.Promises.{WritesTable}
@@ -29,21 +29,7 @@ use Rattle.catalogue.specs.Entries.{EntriesRoom}
 pub entries-room : {n : ℕ} {table out : List ℕ} → EntriesRoom n table out → Room (elementBytes 4 (take n table)) 0 out
 entries-room {n} {table} r =
     let size = length-numbers 4 (length (take n table)) (entryOf (take n table)) in
-    record { room = omega (arith, size, length-take-le n table (r .some), r .room) }
-
--- The constant, as its contract gives it.
-pub record Tested (whole : List ℕ) : Type 0 where
-  pub size : length whole ≡ catalogueSize
-  pub rule : followsRule whole ≡ true
-  pub convexity : convex catalogueTop (entryOf whole) ≡ true
-  pub rise : neverFalls catalogueTop (entryOf whole) ≡ true
-
-pub tested :
-    {whole : List ℕ} →
-    (length whole ≡ catalogueSize) ×
-    ((followsRule whole ≡ true) × ((convex catalogueTop (entryOf whole) ≡ true) × (neverFalls catalogueTop (entryOf whole) ≡ true))) →
-    Tested whole
-tested (size, (rule, (convexity, rise))) = record { size = size; rule = rule; convexity = convexity; rise = rise }
+    record { room = omega (arith, size, length-take-le n table (r .within), r .room) }
 
 module _ (top : ℕ) (table : List ℕ) where
   -- The area at exit, by the answer.
@@ -79,29 +65,28 @@ module _ (top : ℕ) (table : List ℕ) where
     most : top ≤ catalogueTop
     most = rack-range top ranged .1
 
-    module _ {whole : List ℕ} (tested : Tested whole) (long : tableSize top ≤ length table) where
+    module _ {whole : List ℕ} (tested : TestedTable whole) (long : tableSize top ≤ length table) where
       -- The first entries of the constant are the table's bytes.
       bytes-are : elementBytes 4 (take (top + 1) whole) ≡ catalogueBytes top
       unfolding catalogueBytes
       bytes-are =
           taken-bytes 4 (top + 1) catalogueEntry whole (omega (arith, tested .size, most))
-          (λ k h. entry-is whole (tested .rule) k (omega (arith, most)))
+          (λ k h. entry-is tested k (omega (arith, most)))
 
       bytes-size : length (catalogueBytes top) ≡ tableSize top
       unfolding catalogueBytes
       bytes-size = omega (arith, length-numbers 4 (top + 1) catalogueEntry)
 
-      -- Every card that has them as its table has the catalogue's table.
+      -- Every card that has them as its table has the catalogue module's table.
       writes-table : {new : List ℕ} → take (tableSize top) new ≡ catalogueBytes top → WritesTable top new 0
       writes-table front =
-          let card-has = catalogue-card whole (tested .rule) (tested .convexity) (tested .rise) in
           record {
-            in-card = λ n card e has. card-has card (omega (arith, most)) (has ∙ front ∙ ap catalogueBytes (sym e));
+            in-card = λ n card e has. catalogue-card tested card (omega (arith, most)) (has ∙ front ∙ ap catalogueBytes (sym e));
             behind-head =
                 λ n head loads sized e.
                 let same = head-top head (catalogueBytes top) loads sized ∙ e in
                 let behind = table-behind head (catalogueBytes top) loads sized (rw e bytes-size) in
-                rw front (card-has _ (omega (arith, same, most)) (behind ∙ ap catalogueBytes (sym same)));
+                rw front (catalogue-card tested _ (omega (arith, same, most)) (behind ∙ ap catalogueBytes (sym same)));
           }
 
       -- An area that is long enough holds them at exit, and behind them what it held before.

@@ -3,7 +3,7 @@ use Prim.Native.Nat.{ℕ, _*_, _≤_}
 use mathlib.Core.List.{List}
 use lib.ListN.{length}
 
--- A table has so many entries, and an area has room for them, four bytes each.
+-- A table has at least so many entries, and an area has room for them, four bytes each.
 pub record EntriesRoom (entries : ℕ) (table out : List ℕ) : Type 0 where
-  pub some : entries ≤ length table
+  pub within : entries ≤ length table
   pub room : 4 * entries ≤ length out

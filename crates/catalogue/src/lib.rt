@@ -2,13 +2,11 @@
 use model::Answer;
 use model::Refusal;
 ghost use mathlib.Core.Path.{_≡_};
-ghost use mathlib.Core.Bool.{true};
-ghost use lib.ListN.{length, take};
+ghost use lib.ListN.{take};
 ghost use Rattle.lists.specs.Lists.{writtenOver};
 ghost use Rattle.lists.specs.Rows.{elementBytes};
 ghost use Rattle.model.specs.Answers.{numberOf};
-ghost use Rattle.model.specs.Instance.{convex, neverFalls};
-ghost use Rattle.model.specs.Catalogue.{catalogueTop, catalogueSize, entryOf, followsRule};
+ghost use Rattle.model.specs.Catalogue.{TestedTable};
 ghost use Rattle.model.specs.Calls.{answer, catalogueTable, tableAtExit};
 ghost use Rattle.model.specs.Promises.{WritesTable};
 ghost use Rattle.catalogue.specs.Entries.{EntriesRoom};
@@ -18,10 +16,7 @@ mod table;
 // The table F(0) to F(200). That it follows the rule, is convex and never falls are three tests of the constant, each computed once over the
 // whole of it.
 fn whole_table() -> [u16; 201]
-    ensures size { λ r. ⌜ length r ≡ catalogueSize ⌝ }
-    ensures rule { λ r. ⌜ followsRule r ≡ true ⌝ }
-    ensures convexity { λ r. ⌜ convex catalogueTop (entryOf r) ≡ true ⌝ }
-    ensures rise { λ r. ⌜ neverFalls catalogueTop (entryOf r) ≡ true ⌝ }
+    ensures { λ r. ⌜ TestedTable r ⌝ }
 {
     table::CATALOGUE
 }

@@ -116,7 +116,7 @@ pub extern "C" fn lamp_practice_card(start: u32, card: &mut [u8]) -> LampAnswer
 pub extern "C" fn lamp_catalogue_table(top: u64, table: &mut [u8]) -> LampAnswer
     ensures outcome { λ r. ⌜ Gives (catalogueTable top (now (table .entry))) (r .number) (r .cost) ⌝ }
     ensures table_bytes { λ r. ⌜ now (table .exit) ≡ tableAtExit (catalogueTable top (now (table .entry))) ⌝ }
-    ensures catalogue { λ r. ⌜ WritesTable top (now (table .exit)) (r .number) ⌝ }
+    ensures in_cards { λ r. ⌜ WritesTable top (now (table .exit)) (r .number) ⌝ }
 {
     to_c(catalogue::catalogue_table(top, table))
 }

@@ -5,14 +5,14 @@ use mathlib.Core.Bool.{true}
 use mathlib.Core.List.{List, [], _++_, append-nil}
 use mathlib.Core.Logic.{_↔_}
 use native.Mathlib.Omega.{arith}
-use lib.ListN.{length, getD, drop, List·getD-append}
-use lib.Seq.{getD-take, getD-drop, take-at, drop-at}
+use lib.ListN.{length, drop, List·getD-append}
+use lib.Seq.{take-at, drop-at}
 use borrow.Author.Tests.{le-leb}
 use Rattle.lists.specs.Tests.{and-both}
-use Rattle.lists.specs.Bytes.{little-same}
+use Rattle.lists.specs.Bytes.{little-same, little-drop, little-take}
 use Rattle.lists.specs.Rows.{little-numbers}
 use Rattle.model.specs.declared.Answer.{Answer}
-use Rattle.model.specs.Instance.{instanceOf, headLength, entryPlace, tableSize, tableFields, tableOf, tableInRange, convex, pricesInRange}
+use Rattle.model.specs.Instance.{instanceOf, headLength, entryPlace, tableSize, tableFields, tableOf, tableInRange, convex, priceBound, pricesInRange}
 use Rattle.model.specs.Calls.{Accepted, checkCard, answer, requestOf, refusals, cardRefusals, successCost, applies, firstRefusal}
 use Rattle.model.specs.Promises.{otherRefusals, OthersInOrder}
 use Rattle.laws.specs.Acceptance.{up-range, down-range}
@@ -21,29 +21,25 @@ module _ (card : List ℕ) where
   abbrev top : ℕ
   top = instanceOf card .topStep
 
-  -- An entry of a card is read from the bytes where its table stands.
-  table-byte : (k j : ℕ) → k ≤ top → j < 4 → getD card (entryPlace k + j) 0 ≡ getD (tableOf card) (k * 4 + j) 0
-  table-byte k j h g =
-      let place : entryPlace k + j ≡ headLength + (k * 4 + j) = omega arith in
-      rw place (sym (getD-drop headLength card (k * 4 + j) 0) ∙ sym (getD-take (tableSize top) (drop headLength card) (k * 4 + j) 0 (omega arith)))
-
   -- Where the entries of f stand as a card's table, they are what is read.
   pub table-read :
       (f : ℕ → ℕ) → ((k : ℕ) → k ≤ top → f k < 256 ^ 4) → tableOf card ≡ tableFields top f →
       (k : ℕ) → k ≤ top → instanceOf card .table k ≡ f k
   unfolding instanceOf
   table-read f fits has k h =
-      little-same 4 card (tableOf card) (entryPlace k) (k * 4) (λ j g. table-byte k j h g) ∙
+      let place : entryPlace k ≡ headLength + k * 4 = omega arith in
+      rw place (sym (little-drop 4 headLength card (k * 4))) ∙
+      sym (little-take 4 (tableSize top) (drop headLength card) (k * 4) (omega arith)) ∙
       rw has (rw append-nil at (little-numbers 4 (top + 1) f [] (omega arith) (fits k h)))
 
   module _ (ranged : tableInRange top (instanceOf card .table) ≡ true) (convexity : convex top (instanceOf card .table) ≡ true) where
     -- Where the two prices keep their bound too, refusals 6 and 7 do not apply, and the card's answer is that of the others.
     by-others :
-        instanceOf card .powerUp ≤ 500000000 → instanceOf card .powerDown ≤ 500000000 → (a : Answer) →
+        instanceOf card .powerUp ≤ priceBound → instanceOf card .powerDown ≤ priceBound → (a : Answer) →
         firstRefusal (applies (requestOf (checkCard card))) cardRefusals a ≡ firstRefusal (applies (requestOf (checkCard card))) otherRefusals a
     unfolding firstRefusal applies requestOf pricesInRange
     by-others up down a =
-        let prices = and-both (le-leb (instanceOf card .powerUp) 500000000 up) (and-both (le-leb (instanceOf card .powerDown) 500000000 down) ranged) in
+        let prices = and-both (le-leb (instanceOf card .powerUp) priceBound up) (and-both (le-leb (instanceOf card .powerDown) priceBound down) ranged) in
         rw (prices, convexity)
 
     -- A card with a table in range and convex is accepted exactly if its other fields are in order.

@@ -1,4 +1,4 @@
--- The catalogue's table (document 02, §5): each test of a whole table, turned into the fact at each entry, and what follows for cards.
+-- The catalogue module's table (document 02, §5): each test of a whole table, turned into the fact at each entry, and what follows for cards.
 use Prim.Native.Nat.{ℕ, zero, suc, _+_, _-_, _*_, _/_, _^_, _≤_, _<_}
 use mathlib.Core.Path.{_≡_, refl, sym, _∙_}
 use mathlib.Core.Bool.{true}
@@ -7,10 +7,10 @@ use native.Mathlib.Nat.{mul-le-mul}
 use native.Mathlib.Omega.{arith}
 use borrow.Author.Tests.{eqb-true, le-leb}
 use Rattle.lists.specs.Tests.{every-at, every-all}
-use Rattle.model.specs.Instance.{instanceOf, tableOf, tableInRange, convex, neverFalls}
-use Rattle.model.specs.Catalogue.{catalogueEntry, catalogueTop, catalogueSize, entryOf, followsRule, catalogueBytes}
+use Rattle.model.specs.Instance.{instanceOf, tableOf, tableInRange}
+use Rattle.model.specs.Catalogue.{catalogueEntry, catalogueTop, catalogueSize, entryOf, followsRule, TestedTable, catalogueBytes}
 use Rattle.model.specs.Calls.{applies, requestOf}
-use Rattle.model.specs.Promises.{CatalogueCard}
+use Rattle.model.specs.Promises.{HasCatalogueTable}
 use Rattle.laws.specs.Tables.{Convex, NeverFalls, convex-test, never-falls-test, same-range, same-convex, same-rise}
 use Rattle.laws.specs.CardTables.{table-read, accepted-by-others}
 
@@ -35,12 +35,16 @@ pub catalogue-doubled : (k : ℕ) → 2 * catalogueEntry k ≡ 800 + 6 * k + k *
 unfolding catalogueEntry
 catalogue-doubled k = omega (arith, halved k)
 
--- No entry is above 21,000.
-catalogue-most : (k : ℕ) → k ≤ catalogueTop → catalogueEntry k ≤ 21000
+-- The product of the rule is at most 200 × 199.
+pub product-most : (k : ℕ) → k ≤ catalogueTop → k * (k - 1) ≤ 39800
+product-most k h =
+    let less : k - 1 ≤ 199 = omega arith in
+    omega (arith, mul-le-mul h less)
+
+-- No entry is above the last one.
+catalogue-most : (k : ℕ) → k ≤ catalogueTop → catalogueEntry k ≤ 20900
 unfolding catalogueEntry
-catalogue-most k h =
-    let low : k - 1 ≤ 200 = omega arith in
-    omega (arith, mul-le-mul h low)
+catalogue-most k h = omega (arith, product-most k h)
 
 -- Every entry keeps the bound of a card's entries.
 pub catalogue-in-range : (top : ℕ) → top ≤ catalogueTop → tableInRange top catalogueEntry ≡ true
@@ -52,35 +56,35 @@ catalogue-in-range top h =
 pub catalogue-fits : (k : ℕ) → k ≤ catalogueTop → catalogueEntry k < 256 ^ 4
 catalogue-fits k h = omega (arith, catalogue-most k h)
 
--- A table that passes the test of the rule.
-module _ (table : List ℕ) (rule : followsRule table ≡ true) where
+-- A table that passes the three tests.
+module _ {table : List ℕ} (tested : TestedTable table) where
   -- Each of its entries is the rule's.
   pub entry-is : (k : ℕ) → k ≤ catalogueTop → entryOf table k ≡ catalogueEntry k
   unfolding followsRule
-  entry-is k h = eqb-true _ _ (every-at catalogueSize _ rule k (omega arith))
+  entry-is k h = eqb-true _ _ (every-at catalogueSize _ (tested .rule) k (omega arith))
 
-  -- If it passes the test of convexity, the rule is convex at each entry.
-  pub entry-convex : convex catalogueTop (entryOf table) ≡ true → Convex catalogueTop catalogueEntry
-  entry-convex e = convex-test catalogueTop catalogueEntry .0 (sym (same-convex catalogueTop entry-is) ∙ e)
+  -- The rule is convex at each entry.
+  pub entry-convex : Convex catalogueTop catalogueEntry
+  entry-convex = convex-test catalogueTop catalogueEntry .0 (sym (same-convex catalogueTop entry-is) ∙ tested .convexity)
 
-  -- If it passes the test of never falling, the rule falls at no entry.
-  pub entry-rises : neverFalls catalogueTop (entryOf table) ≡ true → NeverFalls catalogueTop catalogueEntry
-  entry-rises e = never-falls-test catalogueTop catalogueEntry .0 (sym (same-rise catalogueTop entry-is) ∙ e)
+  -- The rule falls at no entry.
+  pub entry-rises : NeverFalls catalogueTop catalogueEntry
+  entry-rises = never-falls-test catalogueTop catalogueEntry .0 (sym (same-rise catalogueTop entry-is) ∙ tested .rise)
 
-  -- If it passes all three tests, every card that has the rule's entries as its table has the catalogue's table.
+  -- Every card that has the rule's entries as its table has the catalogue module's table.
   pub catalogue-card :
-      convex catalogueTop (entryOf table) ≡ true → neverFalls catalogueTop (entryOf table) ≡ true → (card : List ℕ) →
-      instanceOf card .topStep ≤ catalogueTop → tableOf card ≡ catalogueBytes (instanceOf card .topStep) → CatalogueCard card
+      (card : List ℕ) → instanceOf card .topStep ≤ catalogueTop → tableOf card ≡ catalogueBytes (instanceOf card .topStep) →
+      HasCatalogueTable card
   unfolding catalogueBytes applies requestOf
-  catalogue-card is-convex rises card h has =
+  catalogue-card card h has =
       let q = instanceOf card .topStep in
       let read = table-read card catalogueEntry (λ k g. catalogue-fits k (omega arith)) has in
       let ranged = same-range q read ∙ catalogue-in-range q h in
-      let convexity = same-convex q read ∙ convex-test q catalogueEntry .1 (λ k g. entry-convex is-convex k (omega arith)) in
+      let convexity = same-convex q read ∙ convex-test q catalogueEntry .1 (λ k g. entry-convex k (omega arith)) in
       record {
         entries = read;
         in-range = ranged;
         convexity = rw convexity refl;
-        never-falls = same-rise q read ∙ never-falls-test q catalogueEntry .1 (λ k g. entry-rises rises k (omega arith));
+        never-falls = same-rise q read ∙ never-falls-test q catalogueEntry .1 (λ k g. entry-rises k (omega arith));
         accepted = accepted-by-others card ranged convexity;
       }

@@ -5,8 +5,8 @@ use mathlib.Core.List.{List, [], _∷_, _++_}
 use native.Mathlib.Nat.{zero-add, one-mul, suc-add, pow-zero, pow-suc, add-zero, add-assoc, mul-comm, div-one, div-add-mod}
 use native.Mathlib.Nat.{div-lt-iff-lt-mul, div-div-eq-div-mul}
 use native.Mathlib.Omega.{arith}
-use lib.ListN.{length, getD, take}
-use lib.Seq.{getD-take, getD-append-add}
+use lib.ListN.{length, getD, take, drop}
+use lib.Seq.{getD-take, getD-drop, getD-append-add}
 
 -- The number in the w bytes of s from place p on, least byte first.
 unfoldable pub littleEndian : ℕ → List ℕ → ℕ → ℕ
@@ -48,6 +48,10 @@ little-same (suc w) s r p q same =
     let right : q + 1 + j ≡ q + suc j = omega arith in
     rw (left, right) (same (suc j) (omega arith)) in
     omega (arith, rw (add-zero p, add-zero q) at first, little-same w s r (p + 1) (q + 1) next)
+
+-- A number behind the first n bytes is one of what follows them.
+pub little-drop : (w n : ℕ) (s : List ℕ) (p : ℕ) → littleEndian w (drop n s) p ≡ littleEndian w s (n + p)
+little-drop w n s p = little-same w (drop n s) s p (n + p) (λ j h. rw (add-assoc n p j) (getD-drop n s (p + j) 0))
 
 -- A number behind the front of a list is a number of the rest.
 pub little-after :

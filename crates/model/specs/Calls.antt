@@ -17,8 +17,7 @@ use Rattle.model.specs.declared.Answer.{Answer}
 use Rattle.model.specs.declared.Answer.the-variants.{Cost, Refused}
 use Rattle.model.specs.Answers.{numberOf, costOf}
 use Rattle.model.specs.Instance.{Instance, instanceOf, headLength, markOf, cardMark, versionOf, cardVersion, cardLength, cardBytes}
-use Rattle.model.specs.Instance.{tableSize}
-use Rattle.model.specs.Instance.{rackNumber, convex, neverFalls, pricesInRange, loadsInRange}
+use Rattle.model.specs.Instance.{tableSize, rackNumber, convex, neverFalls, pricesInRange, loadsInRange}
 use Rattle.model.specs.Counts.{canServe, operatingCost, roundedCount}
 use Rattle.model.specs.Sheets.{sheetLength, sheetEntries, sheetLight, sheetCost}
 use Rattle.model.specs.Plans.{planServes, planCost, sheetOf}
@@ -31,7 +30,7 @@ use Rattle.model.specs.Acts.{Act, openSitting, seatCandidate, closeSitti
 use Rattle.model.specs.Acts.{notPermitted, seatUnavailable, allowanceSpent}
 use Rattle.model.specs.SittingState.{factsOf, stateOf}
 
--- The calls, each with what it is handed: the bytes of card, plan, work and sheet at entry, and numbers. An act of a sitting is handed the
+-- The calls, each with what it is handed: the bytes of card, plan, work, sheet and table at entry, and numbers. An act of a sitting is handed the
 -- sitting and the list of seats besides.
 pub data Call : Type 0 where
   checkCard : (card : List ℕ) → Call
@@ -258,7 +257,7 @@ actRefusals (readUsed d) = NotPermitted ∷ []
 
 -- The refusals of each call, in the order in which they are tested: 'Running cost adds 12 and 13; the sheet adds 10 to 13; marking adds 11
 -- to 13; the two planners add 10'; 'the coarse planner takes every accepted table and 9 is never given' (02 §2); a practice card '14, before
--- 10' (02 §1); of the catalogue's table 'Q outside 1 to 200 gets 3, a short area 10' (02 §5).
+-- 10' (02 §1); of the catalogue module's table 'Q outside 1 to 200 gets 3, a short area 10' (02 §5).
 unfoldable pub refusals : Call → List Refusal
 refusals (checkCard c) = cardRefusals
 refusals (runningCost c n l) = cardRefusals ++ (EntryRange ∷ LoadNotServed ∷ [])

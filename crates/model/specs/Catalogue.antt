@@ -1,11 +1,12 @@
 -- The catalogue module's table (document 02, §5): 'Every customer buys the same module, so its table should come with the software'.
 use Prim.Native.Nat.{ℕ, _+_, _-_, _*_, _/_}
-use mathlib.Core.Bool.{Bool}
+use mathlib.Core.Path.{_≡_}
+use mathlib.Core.Bool.{Bool, true}
 use mathlib.Core.List.{List}
-use lib.ListN.{getD}
+use lib.ListN.{length, getD}
 use lib.Dec.{eqb}
 use Rattle.lists.specs.Tests.{every}
-use Rattle.model.specs.Instance.{tableFields}
+use Rattle.model.specs.Instance.{tableFields, convex, neverFalls}
 
 -- The rule: 'F(k) = 400 + 3k + k(k − 1)/2'. For k = 0 the product is 0, whatever stands for k − 1, and a product of neighbours is even, so
 -- that halving it leaves no rest.
@@ -23,9 +24,16 @@ catalogueSize = catalogueTop + 1
 abbrev pub entryOf : List ℕ → ℕ → ℕ
 entryOf table k = getD table k 0
 
--- 'That the table follows the rule': a test of all its entries.
+-- A table 'follows the rule': a test of all its entries.
 unfoldable pub followsRule : List ℕ → Bool
 followsRule table = every catalogueSize (λ k. eqb (entryOf table k) (catalogueEntry k))
+
+-- 'That the table follows the rule, is convex and never falls is proved over the whole of it': three tests, each of the whole table.
+pub record TestedTable (table : List ℕ) : Type 0 where
+  pub size : length table ≡ catalogueSize
+  pub rule : followsRule table ≡ true
+  pub convexity : convex catalogueTop (entryOf table) ≡ true
+  pub rise : neverFalls catalogueTop (entryOf table) ≡ true
 
 -- 'a call writes its F(0) to F(Q) as a card's fields'
 unfoldable pub catalogueBytes : (top : ℕ) → List ℕ

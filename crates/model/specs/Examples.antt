@@ -25,8 +25,8 @@ use Rattle.model.specs.Planners.{exact, coarse, allowedCounts, workBytes
 use Rattle.model.specs.Listing.{digits, decimal, costLine, planLine, stepText, slotLine, listing, refusedLine, printedFor, printed}
 use Rattle.model.specs.Listing.{catalogueLines}
 use Rattle.model.specs.Practice.{xorLeft, xorRight, draw, drawn, practiceDifference, practiceEntry, practiceShow, longestPractice}
-use Rattle.model.specs.Catalogue.{catalogueEntry, catalogueBytes}
-use Rattle.model.specs.Calls.{Call, checkCard, runningCost, planShow, makeSheet, markSheet, roundCount, practiceCard, catalogueTable}
+use Rattle.model.specs.Catalogue.{catalogueEntry, followsRule, catalogueBytes}
+use Rattle.model.specs.Calls.{Call, checkCard, runningCost, planShow, makeSheet, markSheet, roundCount, practiceCard}
 use Rattle.model.specs.Calls.{rightLength, entriesInRange, loadsServed, startsAtZero, buffersOf, anyShort, requestOf, applies, refusals, firstRefusal}
 use Rattle.model.specs.Calls.{successCost, answer, atExit, buffersAtExit, planAtExit, cardAtExit, tableAtExit, outcome}
 
@@ -130,7 +130,7 @@ pub record Example : Type 0 where
   pub expected : List (List ℕ)
 
 -- A row of a table: a call and its expected number, cost and buffers at exit.
-abbrev row : String → Call → ℕ → ℕ → List (List ℕ) → Example
+abbrev pub row : String → Call → ℕ → ℕ → List (List ℕ) → Example
 row n c number cost buffers = record { name = n; found = outcome c; expected = (number ∷ cost ∷ []) ∷ buffers }
 
 -- A row with one list of numbers: as it is found, and as it is expected.
@@ -255,39 +255,6 @@ practiceRows =
     one "start 6,548 has a longest card" (cardLength (practiceShow 6548) ∷ []) (longestPractice ∷ []) ∷
     []
 
--- F(0) to F(2) of the catalogue module as a card's fields: 400, 403 and 407.
-abbrev catalogueTo2 : List ℕ
-catalogueTo2 = 0x90 ∷ 0x01 ∷ 0x00 ∷ 0x00 ∷ 0x93 ∷ 0x01 ∷ 0x00 ∷ 0x00 ∷ 0x97 ∷ 0x01 ∷ 0x00 ∷ 0x00 ∷ []
-
--- The area of the catalogue call for top 200, and 3 bytes more, at exit.
-abbrev catalogueWhole : List ℕ
-catalogueWhole = tableAtExit (catalogueTable 200 (sevens 807))
-
--- The catalogue module's table: entries of the rule, the call for the lowest and the highest top and one above each, areas just long enough,
--- one byte longer and one byte too short, 3 before 10, a card with these bytes as its table, and what the generator prints.
-catalogueRows : List Example
-catalogueRows =
-    one "F(0) to F(4), F(199), F(200)"
-    (catalogueEntry 0 ∷ catalogueEntry 1 ∷ catalogueEntry 2 ∷ catalogueEntry 3 ∷ catalogueEntry 4 ∷ catalogueEntry 199 ∷ catalogueEntry 200 ∷ [])
-    (400 ∷ 403 ∷ 407 ∷ 412 ∷ 418 ∷ 20698 ∷ 20900 ∷ []) ∷
-    row "top 1" (catalogueTable 1 (sevens 8)) 0 0 (take 8 catalogueTo2 ∷ []) ∷
-    row "top 2" (catalogueTable 2 (sevens 12)) 0 0 (catalogueTo2 ∷ []) ∷
-    row "top 2, one byte longer" (catalogueTable 2 (sevens 13)) 0 0 (over 13 catalogueTo2 ∷ []) ∷
-    row "top 2, one byte too short" (catalogueTable 2 (sevens 11)) 10 0 (sevens 11 ∷ []) ∷
-    row "top 0" (catalogueTable 0 (sevens 4)) 3 0 (sevens 4 ∷ []) ∷
-    row "top 201" (catalogueTable 201 (sevens 808)) 3 0 (sevens 808 ∷ []) ∷
-    row "top 201 before no area" (catalogueTable 201 []) 3 0 ([] ∷ []) ∷
-    row "top 200, one byte too short" (catalogueTable 200 (sevens 803)) 10 0 (sevens 803 ∷ []) ∷
-    one "top 200: number and cost" (numberOf (answer (catalogueTable 200 (sevens 804))) ∷ costOf (answer (catalogueTable 200 (sevens 804))) ∷ [])
-    (0 ∷ 0 ∷ []) ∷
-    one "top 200: its first entries, its last one and the bytes behind it" (take 12 catalogueWhole ++ drop 800 catalogueWhole)
-    (catalogueTo2 ++ (0xA4 ∷ 0x51 ∷ 0x00 ∷ 0x00 ∷ 7 ∷ 7 ∷ 7 ∷ [])) ∷
-    row "a card with these bytes as its table" (checkCard (take 17 cardA ++ (catalogueTo2 ++ drop 29 cardA))) 0 0 [] ∷
-    one "the first lines of the generator" (take 12 catalogueLines) (text "400\n403\n407\n") ∷
-    one "its last lines, and how many characters" (drop 1024 catalogueLines ++ (length catalogueLines ∷ []))
-    (text "20698\n20900\n" ++ (1036 ∷ [])) ∷
-    []
-
 -- What is found is what is expected, computed through every definition.
 unfoldable pub agrees : Example → Bool
 unfolding sameLists sameList every allOf sum tabulate rows keep littleEndian bytesOf instanceOf cardBytes cardLength convexAt convex
@@ -297,7 +264,7 @@ unfolding sameLists sameList every allOf sum tabulate rows keep littleEndian byt
     workBytes plannedBy xorLeft xorRight draw drawn practiceDifference practiceEntry practiceShow rightLength entriesInRange loadsServed
     startsAtZero buffersOf anyShort requestOf applies refusals firstRefusal successCost answer atExit buffersAtExit planAtExit
     cardAtExit tableAtExit outcome flatMap headD digits decimal costLine planLine stepText slotLine listing refusedLine printedFor printed
-    catalogueEntry catalogueBytes catalogueLines
+    catalogueEntry followsRule catalogueBytes catalogueLines
 agrees e = sameLists (e .found) (e .expected)
 
 -- A type that nothing proves: where a row does not hold, the check's error shows it with the row's name.
@@ -321,7 +288,7 @@ holds-equal e v = same-lists-equal (e .found) (e .expected) (go (sameLists (e .f
     go true w = refl
     go false w = elim w [ ]
 
-abbrev numbers : Call → List ℕ
+abbrev pub numbers : Call → List ℕ
 numbers c = numberOf (answer c) ∷ []
 
 abbrev costs : Call → List ℕ
@@ -349,11 +316,6 @@ wrong =
     one "10 before 14" (numbers (practiceCard 0 [])) (10 ∷ []) ∷
     one "the cool-down drawn before the warm-up" (cardAtExit (practiceCard 1950 (sevens 33))) (exchanged 9 13 4 card1950) ∷
     one "what a draw gives is the old s" (drawn 1 1 ∷ []) (1 ∷ []) ∷
-    one "k(k + 1)/2 in the catalogue's rule" (catalogueEntry 2 ∷ []) (409 ∷ []) ∷
-    one "the catalogue's entries big end first" (tableAtExit (catalogueTable 1 (sevens 8))) (0 ∷ 0 ∷ 1 ∷ 0x90 ∷ 0 ∷ 0 ∷ 1 ∷ 0x93 ∷ []) ∷
-    one "F(top) of the catalogue not written" (tableAtExit (catalogueTable 2 (sevens 12))) (over 12 (take 8 catalogueTo2)) ∷
-    one "10 before 3" (numbers (catalogueTable 201 [])) (10 ∷ []) ∷
-    one "3 for top 200" (numbers (catalogueTable 200 (sevens 804))) (3 ∷ []) ∷
     []
 
 -- No row of a table holds.
@@ -398,10 +360,6 @@ round-rows-hold = omega arith
 practice-rows-hold : AllHold practiceRows
 unfolding practiceRows agrees
 practice-rows-hold = omega arith
-
-catalogue-rows-hold : AllHold catalogueRows
-unfolding catalogueRows agrees
-catalogue-rows-hold = omega arith
 
 wrong-differ : NoneHold wrong
 unfolding wrong agrees

@@ -134,9 +134,13 @@ neverFalls q f = every q (λ k. leb (f k) (f (k + 1)))
 unfoldable pub tableInRange : ℕ → (ℕ → ℕ) → Bool
 tableInRange q f = every (q + 1) (λ k. leb (f k) 1000000)
 
--- The prices and the table keep their bounds: 'warm-up price, at most 500,000,000', the cool-down price likewise, and each entry.
+-- The highest price: 'warm-up price, at most 500,000,000', the cool-down price likewise.
+abbrev pub priceBound : ℕ
+priceBound = 500000000
+
+-- The prices and the table keep their bounds.
 unfoldable pub pricesInRange : Instance → Bool
-pricesInRange i = leb (i .powerUp) 500000000 && (leb (i .powerDown) 500000000 && tableInRange (i .topStep) (i .table))
+pricesInRange i = leb (i .powerUp) priceBound && (leb (i .powerDown) priceBound && tableInRange (i .topStep) (i .table))
 
 -- The loads keep their bound: 'T loads, each at most m × Q'.
 unfoldable pub loadsInRange : Instance → Bool

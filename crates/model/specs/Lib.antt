@@ -20,3 +20,4 @@ pub mod Listing
 pub mod Examples
 pub mod RelatedExamples
 pub mod SittingExamples
+pub mod CatalogueExamples

@@ -1,6 +1,6 @@
 -- What the contracts of the calls promise beyond their outcome, about the call's own number and cost and its own bytes at exit: of the
 -- sheet call, marking and the planners conditions 2 and 3 of the tender, where the sheets are all lists that serve, of the practice call
--- what document 02, §1, says of its cards, of reading the least cost what §4 says of it, and of the catalogue's table what §5 says of it.
+-- what document 02, §1, says of its cards, of reading the least cost what §4 says of it, and of the catalogue module's table what §5 says of it.
 use Prim.Native.Nat.{ℕ, _*_, _≤_}
 use mathlib.Core.Path.{_≡_}
 use mathlib.Core.Bool.{true, false}
@@ -13,7 +13,7 @@ use Rattle.model.specs.declared.Answer.the-variants.{Cost}
 use Rattle.model.specs.declared.Sitting.{Sitting}
 use Rattle.model.specs.declared.Reply.{Reply}
 use Rattle.model.specs.Answers.{numberOf}
-use Rattle.model.specs.Instance.{instanceOf, headLength, cardLength, tableSize, tableOf, tableInRange, neverFalls}
+use Rattle.model.specs.Instance.{instanceOf, headLength, cardLength, tableSize, tableOf, tableInRange, neverFalls, priceBound}
 use Rattle.model.specs.Sheets.{serves, sheetCost}
 use Rattle.model.specs.Plans.{sheetOf}
 use Rattle.model.specs.Planners.{Planner, workBytes}
@@ -86,23 +86,23 @@ otherRefusals = NotACard ∷ Version ∷ RackSize ∷ SlotCount ∷ CardLength �
 -- The fields of a card other than its table are in order: none of refusals 1 to 5 and 8 applies, and the two prices keep their bound.
 pub record OthersInOrder (card : List ℕ) : Type 0 where
   pub others : firstRefusal (applies (requestOf (checkCard card))) otherRefusals (Cost 0) ≡ Cost 0
-  pub power-up : instanceOf card .powerUp ≤ 500000000
-  pub power-down : instanceOf card .powerDown ≤ 500000000
+  pub power-up : instanceOf card .powerUp ≤ priceBound
+  pub power-down : instanceOf card .powerDown ≤ priceBound
 
--- A card has the catalogue's table (02 §5): each entry that is read from it is the rule's, refusals 6 and 7 find nothing wrong with the table,
+-- A card has the catalogue module's table (02 §5): each entry that is read from it is the rule's, refusals 6 and 7 find nothing wrong with the table,
 -- it never falls, and the card is accepted exactly if its other fields are in order.
-pub record CatalogueCard (card : List ℕ) : Type 0 where
+pub record HasCatalogueTable (card : List ℕ) : Type 0 where
   pub entries : (k : ℕ) → k ≤ instanceOf card .topStep → instanceOf card .table k ≡ catalogueEntry k
   pub in-range : tableInRange (instanceOf card .topStep) (instanceOf card .table) ≡ true
   pub convexity : applies (requestOf (checkCard card)) NotConvex ≡ false
   pub never-falls : neverFalls (instanceOf card .topStep) (instanceOf card .table) ≡ true
   pub accepted : OthersInOrder card ↔ Accepted card
 
--- The bytes that the catalogue call writes for a top step are the catalogue's table in every card that has them where its table stands, and so
--- in every card that is made of a head with this top step, these bytes and what comes behind them.
+-- The bytes that the catalogue call writes for a top step are the catalogue module's table in every card that has this top step and these bytes
+-- where its table stands, and so in every card that is made of a head with this top step, these bytes and anything behind them.
 pub record WritesTable (top : ℕ) (area : List ℕ) (number : ℕ) : Type 0 where
   pub in-card :
-      number ≡ 0 → (card : List ℕ) → instanceOf card .topStep ≡ top → tableOf card ≡ take (tableSize top) area → CatalogueCard card
+      number ≡ 0 → (card : List ℕ) → instanceOf card .topStep ≡ top → tableOf card ≡ take (tableSize top) area → HasCatalogueTable card
   pub behind-head :
       number ≡ 0 → (head loads : List ℕ) → length head ≡ headLength → instanceOf head .topStep ≡ top →
-      CatalogueCard (head ++ (take (tableSize top) area ++ loads))
+      HasCatalogueTable (head ++ (take (tableSize top) area ++ loads))

@@ -2,7 +2,7 @@ use native.Mathlib.Omega.{arith}
 use Rattle.lists.specs.Tests.{test-failed, test-passed}
 use Rattle.laws.specs.Acceptance.{rack-range}
 use borrow.Author.Needs.{needs}
-use Rattle.catalogue.proofs.CatalogueAnswers.{tested, top-refused, short-refused, table-given}
+use Rattle.catalogue.proofs.CatalogueAnswers.{top-refused, short-refused, table-given}
 use Rattle.catalogue.proofs.catalogue_table.Statement.{statement}
 use Rattle.catalogue.proofs.catalogue_table.Tie as tie
 
@@ -27,15 +27,15 @@ put-entries-requires c κs =
     let room = c .before .before in
     let tests = room .before in
     let few = rack-range (tests .before .before .before .args .top) (test-passed (tests .before .rack-number .ensures) (tests .if1 .left)) in
-    let size = tested (c .whole-table .ensures) .size in
-    record { some = omega (arith, few, size); room = omega (arith, room .if2 .left) }
+    let size = c .whole-table .ensures .size in
+    record { within = omega (arith, few, size); room = omega (arith, room .if2 .left) }
 
 returns-3 : tie.Need-returns-3
 returns-3 c =
     let wrote = c .before .before in
     let room = wrote .before .before .before in
     let tests = room .before in
-    table-given _ _ (test-passed (tests .before .rack-number .ensures) (tests .if1 .left)) (tested (wrote .before .whole-table .ensures))
+    table-given _ _ (test-passed (tests .before .rack-number .ensures) (tests .if1 .left)) (wrote .before .whole-table .ensures)
     (room .if2 .left) (wrote .put-entries .ensures)
 
 pub catalogue-table-spec : {M : Type 1} → statement M

@@ -7,7 +7,7 @@ use Rattle.catalogue.proofs.put_entries.Statement.{statement}
 use Rattle.catalogue.proofs.put_entries.Tie as tie
 
 slice-aggregate-put-numbers : tie.Need-slice-aggregate-put-numbers
-slice-aggregate-put-numbers c = sym (length-take-le _ _ (c .before .before .before .pre .some))
+slice-aggregate-put-numbers c = sym (length-take-le _ _ (c .before .before .before .pre .within))
 
 put-numbers-requires : tie.Need-put-numbers-requires
 put-numbers-requires c κs = entries-room (c .before .before .before .pre)

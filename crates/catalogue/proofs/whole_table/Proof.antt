@@ -8,7 +8,7 @@ use Rattle.catalogue.proofs.whole_table.Tie as tie
 -- The three tests, each computed over the whole constant.
 returns : tie.Need-returns
 unfolding every followsRule catalogueEntry convex convexAt neverFalls
-returns c = (refl, (refl, (refl, refl)))
+returns c = record { size = refl; rule = refl; convexity = refl; rise = refl }
 
 pub whole-table-spec : {M : Type 1} → statement M
 whole-table-spec = tie.close (tie.spec returns)
