@@ -1,5 +1,5 @@
 -- The hypotheses of the theorems can be met: they hold of document 01's example E, of a show whose table falls, of the whole sitting of
--- the examples, and of card A with the catalogue's table.
+-- the examples, and of card A with the catalogue module's table.
 use Prim.Native.Nat.{ℕ, _+_, _*_, _≤_}
 use mathlib.Core.Path.{_≡_, refl}
 use mathlib.Core.Bool.{true}
@@ -163,7 +163,7 @@ pub lowest-applied :
     reply .marked ≡ 1 → plannedCost exact (instanceOf cardA) ≤ reply .cost
 lowest-applied = lowest-at-least cardA whole-starts whole-lent 0 5
 
--- Card A with the catalogue's table: what the catalogue call wrote for top step 2 stands where its table stands.
+-- Card A with the catalogue module's table: what the catalogue call wrote for top step 2 stands where its table stands.
 abbrev catalogueA : List ℕ
 catalogueA = take headLength cardA ++ (catalogueBytes 2 ++ drop (loadPlace 2 0) cardA)
 
