@@ -509,16 +509,32 @@ def catalogue_shows():
     expect("marks on a text with the word", lamp("mark", sample, "-", data=b"3 -\n- -\n4 4\n"), 0, b"cost 1338\nleast 924\nabove 414\n")
 
 
+WHOLE = "which stands for the whole table\n"
+TYPED_AS = "the catalogue module's table is typed as catalogue, in small letters, without quotes\n"
+OR_WORD = "a table has numbers, or the word catalogue alone\n"
+THE_FIELDS = "the fields are modules, top, warm-up, cool-down, table and loads"
 WRONG_CATALOGUE = {
-    b"table catalogue 5": "line 5, column 17: a number after 'catalogue', which stands for the whole table\n",
-    b"table catalogue\n5": "line 6, column 1: a number after 'catalogue', which stands for the whole table\n",
+    b"table catalogue 5": f"line 5, column 17: a number after 'catalogue', {WHOLE}",
+    b"table catalogue 08": f"line 5, column 17: a number after 'catalogue', {WHOLE}",
+    b"table catalogue 4294967296": f"line 5, column 17: a number after 'catalogue', {WHOLE}",
+    b"table catalogue\n5": f"line 6, column 1: a number after 'catalogue', {WHOLE}",
+    b"table catalogue module": f"line 5, column 17: a word after 'catalogue', {WHOLE}",
+    b"table catalogue\nmodule": f"line 6, column 1: 'module' is no field; {THE_FIELDS}\n",
+    b"table catalogue\nlodas 6": f"line 6, column 1: 'lodas' is no field; {THE_FIELDS}\n",
     b"table 5 catalogue": "line 5, column 9: 'catalogue' after a number; it stands for the whole table\n",
     b"table catalogue catalogue": "line 5, column 17: a second 'catalogue'; one stands for the whole table\n",
-    b"table Catalogue": "line 5, column 7: 'Catalogue' is not a number; the catalogue module's table is typed as catalogue, in small",
+    b"table Catalogue": f"line 5, column 7: 'Catalogue' is not a number; {TYPED_AS}",
+    b"table 'catalogue'": rf"line 5, column 7: '\'catalogue\'' is not a number; {TYPED_AS}",
+    b'table "catalogue"': rf'''line 5, column 7: '\"catalogue\"' is not a number; {TYPED_AS}''',
+    b"table catalouge": f"line 5, column 7: 'catalouge' is not a number; {OR_WORD}",
+    b"table the catalogue": f"line 5, column 7: 'the' is not a number; {OR_WORD}",
+    b"table 400 standard": f"line 5, column 11: 'standard' is not a number; {OR_WORD}",
+    b"table 400\nstandard": f"line 6, column 1: 'standard' is no field; {THE_FIELDS}\n",
     b"table catalogue loads 6": "line 5, column 17: 'loads' stands inside a line",
     b"table catalogue\nloads catalogue": "line 6, column 7: 'catalogue' stands for a table, and this is the field loads\n",
     b"table catalogue\ntop catalogue": "line 6, column 1: a second top; the first is in line 2",
-    b"catalogue": "line 5, column 1: 'catalogue' is no field",
+    b"table catalogue\nloads 3\ncatalogue": f"line 7, column 1: 'catalogue' is no field; {THE_FIELDS}; the line is 'table catalogue'\n",
+    b"catalogue": f"line 5, column 1: 'catalogue' is no field; {THE_FIELDS}; the line is 'table catalogue'\n",
 }
 
 

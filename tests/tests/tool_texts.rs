@@ -211,29 +211,84 @@ fn wrong_catalogues_are_told() {
     table("table catalogue catalogue", 5, 17, "a second 'catalogue'; one stands for the whole table");
     table("table catalogue\ntable 1 2 4", 6, 1, "a second table; the first is in line 5");
     table("table 1 2 4\ntable catalogue", 6, 1, "a second table; the first is in line 5");
-    for word in ["Catalogue", "CATALOGUE", "catalog", "catalogue,", "catalogues"] {
-        let words = "is not a number; the catalogue module's table is typed as catalogue, in small letters";
-        table(&format!("table {word}"), 5, 7, &format!("'{word}' {words}"));
-        table(&format!("table 1 {word}"), 5, 9, words);
+}
+
+/// What stands after the word in its field is told as that, whatever else is wrong with it. A line that begins with a word of letters is
+/// none of the field's, unless the word looks like `catalogue`.
+#[test]
+fn words_after_catalogue_are_told() {
+    let table = |to: &str, line: usize, column: usize, words: &str| wrong("table 1 2 4", to, line, column, words);
+    for number in ["5", "0", "08", "000", "4294967295", "4294967296", "99999999999999999999999"] {
+        let words = "a number after 'catalogue', which stands for the whole table";
+        table(&format!("table catalogue {number}"), 5, 17, words);
+        table(&format!("table\ncatalogue # so\n\n  {number} module"), 8, 3, words);
     }
-    table("table 'catalogue'", 5, 7, "is not a number: digits alone");
-    table("table catalogue 1,000", 5, 17, "'1,000' is not a number");
-    table("table catalogue module", 5, 17, "'module' is no field");
-    table("table catalogue loads 6", 5, 17, "'loads' stands inside a line");
+    for word in ["module", "1,000", "-5", "Catalogue", "catalogues", "\"catalogue\"", "Loads", "\u{e9}\u{e9}"] {
+        let words = "a word after 'catalogue', which stands for the whole table";
+        table(&format!("table catalogue {word}"), 5, 17, words);
+        table(&format!("table\ncatalogue {word} 5"), 6, 11, words);
+    }
+    for word in ["1,000", "-5", "Catalogue", "\"catalogue\""] {
+        table(&format!("table catalogue\n {word} 5"), 6, 2, "a word after 'catalogue', which stands for the whole table");
+    }
+    table("table catalogue loads 6", 5, 17, "'loads' stands inside a line; each field begins a line of its own");
     table("table catalogue\nlodas 6", 6, 1, "'lodas' is no field");
-    table("catalogue", 5, 1, "'catalogue' is no field");
+    table("table catalogue\nmodule", 6, 1, "'module' is no field");
+    table("table catalogue\ntop 5", 6, 1, "a second top; the first is in line 2");
+}
+
+/// A word in the place of a table's numbers is told how a table is typed.
+#[test]
+fn misspelt_catalogues_are_told() {
+    let table = |to: &str, line: usize, column: usize, words: &str| wrong("table 1 2 4", to, line, column, words);
+    for word in ["Catalogue", "CATALOGUE", "CaTaLoG", "catalog", "catalogue,", "catalogues", "the-catalogue", "(catalogue)"] {
+        let hint = "the catalogue module's table is typed as catalogue, in small letters, without quotes";
+        let words = format!("'{word}' is not a number; {hint}");
+        table(&format!("table {word}"), 5, 7, &words);
+        table(&format!("table 1 {word}"), 5, 9, &words);
+        table(&format!("table\n  {word} 5"), 6, 3, &words);
+    }
+    for word in ["'catalogue'", "\"catalogue\"", "'Catalogue", "\u{201c}catalogue\u{201d}"] {
+        table(&format!("table {word}"), 5, 7, "is not a number; the catalogue module's table is typed as catalogue");
+    }
+    for word in ["catalouge", "catlogue", "katalog", "standard", "module", "lodas", "x", "\u{e9}\u{e9}"] {
+        let words = format!("'{word}' is not a number; a table has numbers, or the word catalogue alone");
+        table(&format!("table {word}"), 5, 7, &words);
+        table(&format!("table 1 2\n4 {word} 6"), 6, 3, &words);
+        table(&format!("table 1 2 4\n{word} 6"), 6, 1, &format!("'{word}' is no field; the fields are"));
+    }
+    table("table the catalogue", 5, 7, "'the' is not a number; a table has numbers, or the word catalogue alone");
+    table("table 1,000", 5, 7, "'1,000' is not a number: digits alone");
+}
+
+/// A line that begins with the word where no table is open is told the whole line.
+#[test]
+fn catalogue_without_table_is_told() {
+    let words = |word: &str| {
+        let fields = "the fields are modules, top, warm-up, cool-down, table and loads";
+        format!("'{word}' is no field; {fields}; the line is 'table catalogue'")
+    };
+    for word in ["catalogue", "Catalogue", "catalogues"] {
+        wrong("table 1 2 4", word, 5, 1, &words(word));
+        wrong("top 2", &format!("top 2\n  {word}"), 3, 3, &words(word));
+        wrong("modules 3", &format!("{word}\nmodules 3"), 1, 1, &words(word));
+        wrong("loads 6 0 2", &format!("loads 6 0\n{word}"), 7, 1, &words(word));
+        wrong("table 1 2 4\nloads 6 0 2", &format!("loads 6 0 2\n{word} 8"), 6, 1, &words(word));
+    }
+    wrong("table 1 2 4", "\"catalogue\"", 5, 1, "; the line is 'table catalogue'");
+    let error = show_text::read(&A.replace("loads", "lodas")).unwrap_err();
+    assert!(!error.message.contains("catalogue"), "{error}");
 }
 
 /// So are those in other fields, and what is wrong beside the word.
 #[test]
 fn wrong_fields_beside_catalogue_are_told() {
     wrong("loads 6 0 2", "loads catalogue", 6, 7, "'catalogue' stands for a table, and this is the field loads");
-    wrong("loads 6 0 2", "loads 6 0\ncatalogue", 7, 1, "this is the field loads");
+    wrong("loads 6 0 2", "loads 6 0 catalogue", 6, 11, "this is the field loads");
     wrong("loads 6 0 2", "loads Catalogue", 6, 7, "'Catalogue' is no field");
+    wrong("loads 6 0 2", "loads standard", 6, 7, "'standard' is no field");
     wrong("top 2", "top catalogue", 2, 5, "this is the field top");
     wrong("top 2", "top 2 catalogue", 2, 7, "this is the field top");
-    wrong("top 2", "top 2\ncatalogue", 3, 1, "'catalogue' is no field");
-    wrong("modules 3", "catalogue\nmodules 3", 1, 1, "'catalogue' is no field");
     wrong("2\nwarm-up 3\ncool-down 2\ntable 1 2 4", "256\nwarm-up 3\ncool-down 2\ntable catalogue", 2, 5, "'256' is too large");
     wrong("top 2\nwarm-up 3\ncool-down 2\ntable 1 2 4", "table catalogue", 4, 1, "the text ends without top, warm-up, cool-down");
 }

@@ -101,12 +101,12 @@ pub fn read(text: &str) -> Result<ShowText, TextError> {
                 last = Some(field);
                 &words[1..]
             }
-            None => &words[..],
+            None => {
+                goes_on(last, &words[0])?;
+                &words[..]
+            }
         };
-        match last {
-            Some(field) if words.len() > numbers.len() || field.is_list() => add(&mut fields, field, numbers)?,
-            _ => return stray(&words[0], last),
-        }
+        add(&mut fields, last, numbers)?;
         one_number(&fields, last, &words[0])?;
     }
     whole(fields, typed::end(text))
@@ -121,25 +121,43 @@ fn begin(fields: &mut Fields, field: Field, word: &Word) -> Result<(), TextError
     Ok(())
 }
 
-/// A line that begins neither with a field's name nor goes on with a list.
-fn stray<T>(word: &Word, last: Option<Field>) -> Result<T, TextError> {
-    if !typed::is_digits(word.text) {
+/// Whether a line that begins with this word, no field's name, goes on with a list. A word of letters there is taken for a field's name,
+/// but in a table for the word that stands for it, if it looks like that.
+fn goes_on(last: Option<Field>, word: &Word) -> Result<(), TextError> {
+    let for_table = last == Some(Field::Table) && like_catalogue(word);
+    if begins_with_letter(word) && !for_table {
         return word.error(no_field(word));
     }
     match last {
+        Some(field) if field.is_list() => Ok(()),
+        _ if !typed::is_digits(word.text) => word.error(no_field(word)),
         Some(field) => word.error(format!("a second number for {}, which has one", field.name())),
         None => word.error("a number before the first field's name"),
     }
 }
 
+fn begins_with_letter(word: &Word) -> bool {
+    word.text.starts_with(char::is_alphabetic)
+}
+
+/// Whether a word is likely meant as the word for a table's numbers: it has `catalog` in it, in small or capital letters.
+fn like_catalogue(word: &Word) -> bool {
+    word.text.to_lowercase().contains("catalog")
+}
+
 fn no_field(word: &Word) -> String {
-    format!("{} is no field; the fields are modules, top, warm-up, cool-down, table and loads", word.quoted())
+    let line = if like_catalogue(word) { format!("; the line is '{} {CATALOGUE}'", Field::Table.name()) } else { String::new() };
+    format!("{} is no field; the fields are modules, top, warm-up, cool-down, table and loads{line}", word.quoted())
 }
 
 /// Adds numbers to a field, or the word for a table's numbers.
-fn add(fields: &mut Fields, field: Field, words: &[Word]) -> Result<(), TextError> {
+fn add(fields: &mut Fields, field: Option<Field>, words: &[Word]) -> Result<(), TextError> {
+    let Some(field) = field else { return Ok(()) };
     let Some(typed) = &mut fields[field as usize] else { return Ok(()) };
     for word in words {
+        if Field::named(word.text).is_some() {
+            return word.error(format!("{} stands inside a line; each field begins a line of its own", word.quoted()));
+        }
         if word.text == CATALOGUE {
             add_catalogue(typed, field, word)?;
         } else {
@@ -151,6 +169,10 @@ fn add(fields: &mut Fields, field: Field, words: &[Word]) -> Result<(), TextErro
 
 /// Adds a number. What the field's bytes cannot hold is an error here; what they hold is judged by the library.
 fn add_number(typed: &mut Typed, field: Field, word: &Word) -> Result<(), TextError> {
+    if typed.catalogue.is_some() {
+        let what = if typed::is_digits(word.text) { "number" } else { "word" };
+        return word.error(format!("a {what} after '{CATALOGUE}', which stands for the whole table"));
+    }
     let most = (1u64 << (8 * field.bytes())) - 1;
     let number = match typed::number(word.text, most) {
         Ok(number) => number,
@@ -158,9 +180,6 @@ fn add_number(typed: &mut Typed, field: Field, word: &Word) -> Result<(), TextEr
         Err(NoNumber::NeedlessZero) => return word.error(format!("{} {NEEDLESS_ZERO}", word.quoted())),
         Err(NoNumber::NotDigits) => return not_digits(field, word),
     };
-    if typed.catalogue.is_some() {
-        return word.error(format!("a number after '{CATALOGUE}', which stands for the whole table"));
-    }
     typed.numbers.push((number, word.place));
     Ok(())
 }
@@ -180,18 +199,17 @@ fn add_catalogue(typed: &mut Typed, field: Field, word: &Word) -> Result<(), Tex
     Ok(())
 }
 
+/// A word that is neither a number nor a field's name, where a number may stand.
 fn not_digits<T>(field: Field, word: &Word) -> Result<T, TextError> {
-    if Field::named(word.text).is_some() {
-        return word.error(format!("{} stands inside a line; each field begins a line of its own", word.quoted()));
-    }
-    if field == Field::Table && word.text.to_lowercase().starts_with("catalog") {
-        let hint = format!("the catalogue module's table is typed as {CATALOGUE}, in small letters");
-        return word.error(format!("{} is not a number; {hint}", word.quoted()));
-    }
-    if word.text.starts_with(|letter: char| letter.is_alphabetic()) {
-        return word.error(no_field(word));
-    }
-    word.error(format!("{} is not a number: digits alone, with blanks between numbers", word.quoted()))
+    let why = match field {
+        Field::Table if like_catalogue(word) => {
+            format!("; the catalogue module's table is typed as {CATALOGUE}, in small letters, without quotes")
+        }
+        Field::Table if begins_with_letter(word) => format!("; a table has numbers, or the word {CATALOGUE} alone"),
+        _ if begins_with_letter(word) => return word.error(no_field(word)),
+        _ => ": digits alone, with blanks between numbers".to_string(),
+    };
+    word.error(format!("{} is not a number{why}", word.quoted()))
 }
 
 /// A field that is no list has just one number.
