@@ -488,6 +488,9 @@ def tables():
     require("an example of table", b"\n    lamp table 8    # " + lamp("table", "8")[1] in lamp("table", "--help")[1])
     for command in ("card", "table"):
         require(f"the word in the help of {command}", b"'table catalogue'" in lamp(command, "--help")[1])
+    require("what the table is for", b" so that the lines can be copied into a show's text." in lamp("table", "--help")[1])
+    for words in (["--help"], ["check", "--help"], ["mark", "--help"]):
+        require(f"a show's text in {words}", b" a show's text, as 'lamp card --help' describes it;" in lamp(*words)[1])
 
 
 def catalogue_shows():

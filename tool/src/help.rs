@@ -26,7 +26,7 @@ pub const INTO: &str = "--into DIR";
 /// The word of a command that takes a card, and what it may be.
 const CARD: &str = "CARD";
 const A_CARD: &str = "\
-CARD is a card's bytes or a show's text, as 'lamp show' writes it; - is standard input.";
+CARD is a card's bytes or a show's text, as 'lamp card --help' describes it; - is standard input.";
 
 const COSTS: &str = "\
 The modules share LOAD as evenly as steps go. Each is at its share, or at a higher step if that costs less.";
@@ -57,8 +57,8 @@ practice card is accepted, and can be planned by either planner.
     run into DIR removes, or says why not.";
 
 const TABLE: &str = "\
-Prints F(0) to F(TOP) as a show's text has them, so that the lines can be put into one. The line 'table catalogue'
-in a show's text stands for the same numbers. TOP is the top step, 1 to 200, digits alone.
+Prints F(0) to F(TOP) as a show's text has them, so that the lines can be copied into a show's text. The line
+'table catalogue' in a show's text stands for the same numbers. TOP is the top step, 1 to 200, digits alone.
     lamp table 8    # table 400 403 407 412 418 425 433 442 452";
 
 const SHEET_TEXT: &str = "\
