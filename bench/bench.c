@@ -113,7 +113,7 @@ static void compare_table(uint64_t top, size_t length)
     }
 }
 
-/* Every top and one more, each with every length. */
+/* Every top, and 0 and 201, each with every length. */
 static void compare_tables(void)
 {
     for (uint64_t top = 0; top <= TOPS + 1; top++)

@@ -107,7 +107,7 @@ fn every_length() {
     classes.require_all();
 }
 
-/// An area of length 0 may come with any pointer, and 3 is given with every area.
+/// An area of length 0 gets 10, and 3 is given with every area.
 #[test]
 fn no_area() {
     assert_eq!(Answer::from(calls::catalogue_table(0, &mut [])), Answer::refused(3));
