@@ -389,8 +389,8 @@ static void write_tables(void)
     }
 }
 
-/* A card whose table the call writes behind its header is accepted, and its running costs are the entries. The other
- * fields decide: the same card with a price above its bound is refused by 6, and with a load above it by 8. */
+/* A card whose table the call writes behind its first 17 bytes is accepted, and its running costs are the entries. All
+ * else decides: the same card with a price above its bound is refused by 6, and with a load above it by 8. */
 static void check_catalogue_card(void)
 {
     uint8_t made[LAMP_MAX_CARD] = {0x44, 0x4C, 0x53, 1, 0, 1, 200, 1};
@@ -404,6 +404,20 @@ static void check_catalogue_card(void)
     expect("lamp_check_card", lamp_check_card(made, length), LAMP_LOAD_RANGE);
     made[12] = 0xFF;
     expect("lamp_check_card", lamp_check_card(made, length), LAMP_PRICE_RANGE);
+}
+
+/* A table of top 4 in a card with Q 3 and one slot. With the length that top makes the card is refused by 5. With the
+ * length that Q makes it is accepted, and its load is 418, the low half of F(4): 139 modules of top step 3 give 417. */
+static void check_other_top(void)
+{
+    uint8_t made[LAMP_MAX_CARD] = {0x44, 0x4C, 0x53, 1, 0, 140, 3, 1};
+    const size_t loads_at = 17 + 4 * (3 + 1);
+
+    expect("lamp_catalogue_table", lamp_catalogue_table(4, made + 17, LAMP_MAX_TABLE), 0);
+    expect("lamp_check_card", lamp_check_card(made, loads_at + 4 + 2), LAMP_CARD_LENGTH);
+    expect("lamp_check_card", lamp_check_card(made, loads_at + 2), 0);
+    made[5] = 139;
+    expect("lamp_check_card", lamp_check_card(made, loads_at + 2), LAMP_LOAD_RANGE);
 }
 
 int main(void)
@@ -427,6 +441,7 @@ int main(void)
     make_longest();
     write_tables();
     check_catalogue_card();
+    check_other_top();
     printf("refusals: %u answers and %u buffers compared with lamp.h, %u faults\n", compared, looked, faults);
     return faults != 0;
 }

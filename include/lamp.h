@@ -228,20 +228,23 @@
  * rule of the table, for k from 0 to 200, is
  *     F(k) = 400 + 3 * k + k * (k - 1) / 2
  * The division leaves no remainder, because k or k - 1 is even. So F(0) is 400, F(1) is 403, F(2) is 407,
- * and F(200) is 20,900. For a calculation by hand: F(0) is 400, and F(k + 1) is F(k) + 3 + k, so the first
- * difference is 3 and each later one is larger by 1 than the one before it. F(0) to F(8) are
+ * and F(200) is 20,900. For a calculation by hand: F(k + 1) is F(k) + 3 + k, so the first difference is 3
+ * and each later one is larger by 1 than the one before it. F(0) to F(8) are
  *     400 403 407 412 418 425 433 442 452
  *
  * lamp_catalogue_table writes F(0) to F(top) as a card has them: four bytes each, the lowest byte first,
  * 4(top + 1) bytes in all. In a card the table begins at offset 17, and the top step Q is the byte at
- * offset 6. So a host makes a header with Q = top, lets the call write behind it, at card + 17, and puts
- * the loads behind the table, at card + 17 + 4 * (top + 1):
+ * offset 6. So a host makes the first 17 bytes of the card, with Q = top, lets the call write behind them,
+ * at card + 17, and puts the loads behind the table, at card + 17 + 4 * (top + 1). Of the 17 bytes it
+ * leaves Q for last, and sets it after a success:
  *
- *     static uint8_t card[LAMP_MAX_CARD] = {0x44, 0x4C, 0x53, 1, 0, 3, 2, 3, 0, 3, 0, 0, 0, 2, 0, 0, 0};
+ *     static uint8_t card[LAMP_MAX_CARD] = {0x44, 0x4C, 0x53, 1, 0, 3, 0, 3, 0, 3, 0, 0, 0, 2, 0, 0, 0};
  *     static const uint8_t loads[] = {6, 0, 0, 0, 2, 0};
- *     struct lamp_answer answer = lamp_catalogue_table(card[6], card + 17, sizeof card - 17);
+ *     uint64_t top = 2;
+ *     struct lamp_answer answer = lamp_catalogue_table(top, card + 17, sizeof card - 17);
  *     if (answer.number == 0) {
- *         size_t loads_at = 17 + 4 * ((size_t)card[6] + 1);
+ *         size_t loads_at = 17 + 4 * ((size_t)top + 1);
+ *         card[6] = (uint8_t)top;
  *         memcpy(card + loads_at, loads, sizeof loads);
  *         answer = lamp_check_card(card, loads_at + sizeof loads);
  *     }
@@ -249,16 +252,19 @@
  * This makes the card of THE CARD above with the catalogue module's table, F = 400 403 407. It is
  * accepted. In hex:
  *     44 4C 53 01 00 03 02 03 00 03 00 00 00 02 00 00 00 90 01 00 00 93 01 00 00 97 01 00 00 06 00 00 00 02 00
- * lamp_plan_exact gives cost 1648 and the plan 3 0 1, because a module that stays active through slot 2
+ * lamp_plan_exact gives cost 1,648 and the plan 3 0 1, because a module that stays active through slot 2
  * costs 400 points there.
  *
  * It is proved of every card whose Q is top and whose table is these bytes that refusals 6 and 7 find
- * nothing wrong with its table, and that its table never falls. So the card is accepted exactly if its
- * other fields are in order: the mark, the version, m, T, the length, both prices and the loads. Q and top
- * must be the same number, because Q says where the table of a card ends. The call cannot see this: it
- * reads nothing of the card.
+ * nothing wrong with its table, and that its table never falls. So the card is accepted exactly if all
+ * else is in order: the mark, the version, m, T, the length, both prices and the loads. Q and top must be
+ * the same number, because Q says where the table of a card ends. The call cannot see this: it reads
+ * nothing of the card. lamp_check_card cannot see it either: with another Q, and with the length that this
+ * Q makes, the card may be accepted, as a show with other loads.
  *
- * A top outside 1 to 200 is refused by 3. top has 64 bits, so a host may hand on what it read: if it gives
+ * A top outside 1 to 200 is refused by 3. top has 64 bits, so a host hands on the number itself, as it
+ * read it, and not card[6], which is one byte: 258 put into card[6] becomes 2, and the call would write
+ * the table of top 2 without a refusal. So a host puts top into card[6] only after a success. If it gives
  * a negative number as top, C makes it a number far above 200.
  *
  *
@@ -388,7 +394,7 @@
  *   work of lamp_plan_coarse        10 * T, for every m
  *   sheet                           m * T
  *   card of lamp_practice_card      17 + 4(Q + 1) + 2T of the practice card, at most LAMP_MAX_PRACTICE
- *   table of lamp_catalogue_table   4(top + 1), at most LAMP_MAX_TABLE
+ *   table of lamp_catalogue_table   4(top + 1), at most LAMP_MAX_TABLE for a top from 1 to 200
  *
  * Once lamp_check_card has accepted a card, its m is card[5] and its T is card[7] + 256 * card[8], and a
  * host may make its buffers that long. Or it takes the sizes LAMP_MAX_.. below, enough for every card. Q
@@ -623,7 +629,7 @@ struct lamp_answer lamp_practice_card(uint32_t start, uint8_t *card, size_t card
  *
  * Reads:     nothing.
  * Writes:    table.
- * Asks for:  4(top + 1) bytes of table. This is at most LAMP_MAX_TABLE.
+ * Asks for:  4(top + 1) bytes of table. This is at most LAMP_MAX_TABLE for a top from 1 to 200.
  * Success:   cost 0. The first 4(top + 1) bytes of table hold F(0) to F(top), each four bytes, the lowest
  *            byte first, and all further bytes are as they were. A top from 1 to 200 with LAMP_MAX_TABLE
  *            bytes of table is never refused.
