@@ -36,7 +36,7 @@ static const char *words(enum lamp_refusal refusal)
     case LAMP_WRONG_VERSION:
         return "the card's version is not 1";
     case LAMP_RACK_SIZE:
-        return "m or Q outside 1 to 200";
+        return "m, Q or top outside 1 to 200";
     case LAMP_SLOT_COUNT:
         return "T above 1,024";
     case LAMP_CARD_LENGTH:

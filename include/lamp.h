@@ -515,7 +515,7 @@ LAMP_ASSERT_SIZE(struct lamp_reply, 56)
 enum lamp_refusal {
     LAMP_NOT_A_CARD = 1,        /* not a card: under 17 bytes, or wrong mark */
     LAMP_WRONG_VERSION = 2,     /* version: the card's version is not 1 */
-    LAMP_RACK_SIZE = 3,         /* rack: m or Q outside 1 to 200 */
+    LAMP_RACK_SIZE = 3,         /* rack: m, Q or top outside 1 to 200 */
     LAMP_SLOT_COUNT = 4,        /* reel: T above 1,024 */
     LAMP_CARD_LENGTH = 5,       /* length: the card's length is not 17 + 4(Q + 1) + 2T */
     LAMP_PRICE_RANGE = 6,       /* price: a price or F entry above its bound */
