@@ -2,8 +2,10 @@
 """The constant table of the catalogue module beside the stored output of its generator, digit for digit: catalogue.py [--write] [ROOT].
 
 The generator is the program crates/catalogue_lines. `rt ci` runs it and compares what it prints with its file stdout, and this script
-compares that file with the constant CATALOGUE of crates/catalogue. Then it tries itself: it changes a copy of both in many ways, and each
-change must be told. --write writes the constant anew from the stored output, in the form that `rt fmt` gives, and says so."""
+compares that file with the constant CATALOGUE of crates/catalogue, and sees that the function whole_table returns this constant. Then it
+tries itself: it changes a copy of both in many ways, and each change must be told. --write writes the constant anew from the stored output,
+in the form that `rt fmt` gives, if that changes the file, and says whether it did."""
+import os
 import pathlib
 import re
 import shutil
@@ -16,15 +18,34 @@ OUTPUT = pathlib.PurePath("crates", "catalogue_lines", "stdout")
 NAME = re.compile(r"\bconst\s+CATALOGUE\b")
 WHOLE = re.compile(r"\bconst\s+CATALOGUE\s*:\s*\[\s*u16\s*;\s*([^\s\];]+)\s*\]\s*=\s*\[([^\[\]]*)\]\s*;")
 NUMBER = re.compile(r"0|[1-9][0-9]*")
+LIBRARY = CRATE / "src" / "lib.rt"
+BODY = re.compile(r"\bfn\s+whole_table\b.*?^\{(.*?)^\}", re.DOTALL | re.MULTILINE)
+RETURNED = "table::CATALOGUE"
 
 
 class Fault(Exception):
     """What is wrong so far that nothing can be compared."""
 
 
+def comment_end(text, at):
+    """Where a block comment ends that begins here. It may hold others."""
+    depth = 0
+    for mark in re.compile(r"/\*|\*/").finditer(text, at):
+        depth += 1 if mark[0] == "/*" else -1
+        if depth == 0:
+            return mark.end()
+    return len(text)
+
+
 def without_comments(text):
     """The text with blanks for its comments, so that every other character keeps its place."""
-    return re.sub(r"//[^\n]*", lambda comment: " " * len(comment[0]), text)
+    end = 0
+    while found := re.compile(r"//[^\n]*|/\*").search(text, end):
+        start, end = found.span()
+        if found[0] == "/*":
+            end = comment_end(text, start)
+        text = text[:start] + re.sub(r"[^\n]", " ", text[start:end]) + text[end:]
+    return text
 
 
 def find(root):
@@ -61,43 +82,60 @@ def stored(root):
     return lines[:-1]
 
 
+def wrong_count(name, count):
+    """What is wrong with how many numbers there are."""
+    if count == ENTRIES:
+        return []
+    first = f"F({count}) is missing" if count < ENTRIES else f"F({ENTRIES}) is beyond the last"
+    return [f"{name} has {count} numbers, and not {ENTRIES}: {first}"]
+
+
+def wrong_output(lines):
+    """What is wrong with the lines of the output by themselves."""
+    named = [(f"{OUTPUT}: line {k + 1}, F({k}), is {line!r}", line) for k, line in enumerate(lines)]
+    out = [f"{name}, not a number in digits alone" for name, line in named if not NUMBER.fullmatch(line)]
+    return out + wrong_count(f"{OUTPUT}: the output", len(lines))
+
+
 def differences(where, length, numbers, lines):
-    """What is wrong with the constant and the lines, entry by entry, and with how many there are."""
-    out = []
-    for k, (number, line) in enumerate(zip(numbers, lines)):
-        if not NUMBER.fullmatch(line):
-            out.append(f"{OUTPUT}: line {k + 1}, F({k}), is {line!r}, not a number in digits alone")
-        if number != line:
-            out.append(f"{where}: F({k}) is {number!r}, and line {k + 1} of {OUTPUT} is {line!r}")
-    for name, count in ((f"{where}: the constant", len(numbers)), (f"{OUTPUT}: the output", len(lines))):
-        if count != ENTRIES:
-            first = f"F({count}) is missing" if count < ENTRIES else f"F({ENTRIES}) is beyond the last"
-            out.append(f"{name} has {count} numbers, and not {ENTRIES}: {first}")
+    """What is wrong with the constant beside the lines, entry by entry, and with how many there are."""
+    pairs = [(k, number, line) for k, (number, line) in enumerate(zip(numbers, lines)) if number != line]
+    out = [f"{where}: F({k}) is {number!r}, and line {k + 1} of {OUTPUT} is {line!r}" for k, number, line in pairs]
+    out += wrong_count(f"{where}: the constant", len(numbers)) + wrong_output(lines)
     if length != str(ENTRIES):
         out.append(f"{where}: the type of the constant has the length {length}, and not {ENTRIES}")
     return out
+
+
+def wrong_return(root):
+    """What is wrong with the body of the function that returns the constant."""
+    bodies = [body.strip() for body in BODY.findall(without_comments((root / LIBRARY).read_text(encoding="utf-8")))]
+    shown = " and ".join(map(repr, bodies)) or "not found"
+    return [] if bodies == [RETURNED] else [f"{LIBRARY}: the body of whole_table is {shown}, where {RETURNED} alone should stand"]
 
 
 def faults(root):
     """All that is wrong below a folder."""
     try:
         path, length, numbers = constant(root)
-        return differences(path.relative_to(root), length, numbers, stored(root))
+        return differences(path.relative_to(root), length, numbers, stored(root)) + wrong_return(root)
     except Fault as fault:
         return [str(fault)]
 
 
 def write(root):
-    """Writes the constant from the stored output, and gives its file and whether that changed it."""
+    """Writes the constant from the stored output if that changes its file, and gives the file and whether it did."""
     path, text, found = find(root)
     lines = stored(root)
-    wrong = differences(OUTPUT, str(ENTRIES), lines, lines)
+    wrong = wrong_output(lines)
     if wrong:
         raise Fault(wrong[0])
     body = "\n" + "".join(f"    {line},\n" for line in lines)
     made = text[: found.start(1)] + str(ENTRIES) + text[found.end(1) : found.start(2)] + body + text[found.end(2) :]
-    path.write_text(made, encoding="utf-8")
-    return path, made != text
+    changed = path.read_bytes() != made.encode()
+    if changed:
+        path.write_bytes(made.encode())
+    return path, changed
 
 
 def other_digits(number):
@@ -142,7 +180,18 @@ def changed_sources(text, found, numbers):
     yield None, text.replace(whole, whole.replace("u16", "u32", 1))
     yield None, text.replace(whole, whole.replace(str(ENTRIES), str(ENTRIES - 1), 1))
     yield None, text.replace(whole, "".join(f"// {line}\n" for line in whole.split("\n")))
+    for before, after in (("/*", "*/"), ("/* /* */", "*/"), ("/* // */ /*", "*/"), ("/*", "")):
+        yield None, text.replace(whole, f"{before}\n{whole}\n{after}")
     yield None, ""
+
+
+def changed_returns(text):
+    """Texts of the library in which whole_table returns something else than the constant, or is not there."""
+    other = RETURNED.replace("CATALOGUE", "OTHER")
+    for body in (other, "[400; 201]", f"// {RETURNED}\n{other}", f"/* {RETURNED} */ {other}", f"let a = {RETURNED};\n{other}", ""):
+        yield text.replace(RETURNED, body)
+    yield text.replace("fn whole_table", "fn whole_tables")
+    yield f"{text}\nfn whole_table() -> [u16; 201]\n{{\n    {other}\n}}\n"
 
 
 def must_fail(copy, path, content, entry):
@@ -162,14 +211,35 @@ def outside(root):
     return text[: found.start(2)] + text[found.end(2) :]
 
 
+def try_comments(copy, path, text):
+    """What stands in a comment is not taken for a constant."""
+    path.write_text(f"// {NAME.search(text)[0]}\n/* /* */ {text} // */\n{text}", encoding="utf-8")
+    if faults(copy):
+        sys.exit(f"catalogue: a comment was told: {faults(copy)[0]}")
+    path.write_text(text, encoding="utf-8")
+
+
+def try_short_output(copy):
+    """--write of an output that is too short says so and writes nothing."""
+    output, before = copy / OUTPUT, find(copy)[1]
+    whole = output.read_bytes()
+    output.write_bytes(whole[: whole.rindex(b"\n", 0, -1) + 1])
+    told = say_written(copy)
+    if told != wrong_count(f"{OUTPUT}: the output", ENTRIES - 1) or find(copy)[1] != before:
+        sys.exit(f"catalogue: --write of a short output wrote the constant, or told {told}")
+    output.write_bytes(whole)
+
+
 def try_writing(copy):
-    """--write gives the constant the numbers of the output, also after a change, and alters nothing else; written twice it is the same."""
-    lines, text = stored(copy), outside(copy)
+    """--write gives the constant the numbers of the output, also after a change, and alters nothing else; a file that has them already is
+    not written."""
+    lines, text, path = stored(copy), outside(copy), find(copy)[0]
     for numbers in ([*lines[:-1], lines[-1] + "0"], lines):
         (copy / OUTPUT).write_text("".join(f"{line}\n" for line in numbers), encoding="utf-8")
-        write(copy)
-        again = write(copy)[1]
-        if again or faults(copy) or constant(copy)[2] != numbers or outside(copy) != text:
+        changed = write(copy)[1]
+        os.utime(path, (0, 0))
+        again = write(copy)[1] or path.stat().st_mtime != 0
+        if not changed or again or faults(copy) or constant(copy)[2] != numbers or outside(copy) != text:
             sys.exit("catalogue: --write did not write the constant from the output, or wrote something else")
 
 
@@ -187,6 +257,11 @@ def try_changes(root):
         path.write_text(text, encoding="utf-8")
         tried += must_fail(copy, second, text.encode(), None)
         second.unlink()
+        library = (root / LIBRARY).read_text(encoding="utf-8")
+        tried += sum(must_fail(copy, copy / LIBRARY, content.encode(), None) for content in changed_returns(library))
+        (copy / LIBRARY).write_text(library, encoding="utf-8")
+        try_comments(copy, path, text)
+        try_short_output(copy)
         try_writing(copy)
         output.unlink()
         tried += must_fail(copy, path, text.encode(), None)
