@@ -1,22 +1,25 @@
--- Shows on which the conclusion of a theorem fails without one of its hypotheses, or with a stronger conclusion.
+-- Shows and cards on which the conclusion of a theorem or of a clause fails without one of its hypotheses, or with a stronger conclusion.
 use Prim.Native.Nat.{ℕ, zero, suc, _+_, _*_, _≤_, _<_, max}
 use mathlib.Core.Path.{_≡_, refl}
 use mathlib.Core.Bool.{true}
-use mathlib.Core.List.{List, [], _∷_, flatMap}
+use mathlib.Core.List.{List, [], _∷_, _++_, flatMap}
 use native.Mathlib.Omega.{arith}
-use lib.ListN.{length, getD}
+use lib.ListN.{length, getD, take, set}
 use lib.Dec.{lit<}
 use Rattle.lists.specs.Tests.{every}
 use Rattle.lists.specs.Sums.{sum}
 use Rattle.lists.specs.Ranges.{leastOver, firstOver}
 use Rattle.lists.specs.Lists.{tabulate, rows, keep}
-use Rattle.model.specs.Instance.{Instance}
+use Rattle.lists.specs.Bytes.{littleEndian, bytesOf}
+use Rattle.model.specs.Instance.{Instance, instanceOf, topStepPlace, headLength, tableOf}
 use Rattle.model.specs.MoreLight.{leastFrom, activeStep}
 use Rattle.model.specs.Counts.{canServe, operatingCost, allCounts, powerOfTwo, coarseCounts}
 use Rattle.model.specs.Sheets.{off, stateAt, sheetLength, sheetEntries, lightAt, sheetLight, serves, stepCost, changeCost}
 use Rattle.model.specs.Sheets.{sheetOperatingCost, sheetSwitchingCost, sheetCost}
 use Rattle.model.specs.Thesis.{countAt, slotCost, countsCost}
 use Rattle.model.specs.Plans.{moduleByte, slotRow, sheetOf, planCost, planServes, plansInOrder, cheapest, cheapestOf, leastPlan, leastCost}
+use Rattle.model.specs.Catalogue.{catalogueEntry, catalogueBytes}
+use Rattle.model.specs.Examples.{cardA}
 use Rattle.laws.specs.LeastSteps.{lowestStep}
 use Rattle.columns.specs.Column.{countAtPlace, Ascending, GrowsBy, servedOrAbove, rising, fromTop, downward, upward}
 use Rattle.columns.specs.Column.{column, searchedCost}
@@ -169,3 +172,14 @@ start-has-a-price = (
   all-off-before .0,
   lit< tt,
 )
+
+-- A head with top step 3, and behind it what the catalogue call writes for top step 2, and nothing more.
+abbrev cutBehindTable : List ℕ
+cutBehindTable = set (take headLength cardA) topStepPlace 3 ++ catalogueBytes 2
+
+-- A card with another top step than the call's may have the call's bytes where its table stands, and its entries are not all the rule's: F(3) is
+-- read as 0.
+pub other-top-step :
+    (tableOf cutBehindTable ≡ catalogueBytes 2) × (instanceOf cutBehindTable .topStep ≡ 3) × (instanceOf cutBehindTable .table 3 < catalogueEntry 3)
+unfolding rows littleEndian bytesOf instanceOf catalogueEntry catalogueBytes
+other-top-step = (refl, refl, lit< tt)
