@@ -38,11 +38,10 @@ catalogueList = tabulate catalogueSize catalogueEntry
 -- of the rule and of the rise, and what the generator prints.
 catalogueRows : List Example
 catalogueRows =
-    one "F(5), F(50), F(100), F(150)" (catalogueEntry 5 ∷ catalogueEntry 50 ∷ catalogueEntry 100 ∷ catalogueEntry 150 ∷ [])
-    (425 ∷ 1775 ∷ 5650 ∷ 12025 ∷ []) ∷
-    one "F(0) to F(4), F(199), F(200)"
-    (catalogueEntry 0 ∷ catalogueEntry 1 ∷ catalogueEntry 2 ∷ catalogueEntry 3 ∷ catalogueEntry 4 ∷ catalogueEntry 199 ∷ catalogueEntry 200 ∷ [])
-    (400 ∷ 403 ∷ 407 ∷ 412 ∷ 418 ∷ 20698 ∷ 20900 ∷ []) ∷
+    one "F(0) to F(5), F(50), F(100), F(150), F(199), F(200)"
+    (tabulate 6 catalogueEntry ++
+    (catalogueEntry 50 ∷ catalogueEntry 100 ∷ catalogueEntry 150 ∷ catalogueEntry 199 ∷ catalogueEntry 200 ∷ []))
+    (400 ∷ 403 ∷ 407 ∷ 412 ∷ 418 ∷ 425 ∷ 1775 ∷ 5650 ∷ 12025 ∷ 20698 ∷ 20900 ∷ []) ∷
     row "top 1" (catalogueTable 1 (sevens 8)) 0 0 (take 8 catalogueTo2 ∷ []) ∷
     row "top 2" (catalogueTable 2 (sevens 12)) 0 0 (catalogueTo2 ∷ []) ∷
     row "top 2, one byte longer" (catalogueTable 2 (sevens 13)) 0 0 (over 13 catalogueTo2 ∷ []) ∷

@@ -1,6 +1,6 @@
 -- What the contracts of the calls promise beyond their outcome, about the call's own number and cost and its own bytes at exit: of the
 -- sheet call, marking and the planners conditions 2 and 3 of the tender, where the sheets are all lists that serve, of the practice call
--- what document 02, §1, says of its cards, of reading the least cost what §4 says of it, and of the catalogue module's table what §5 says of it.
+-- what document 02, §1, says of its cards, of reading the least cost what §4 says of it, and of the catalogue call what its bytes are in a card.
 use Prim.Native.Nat.{ℕ, _*_, _≤_}
 use mathlib.Core.Path.{_≡_}
 use mathlib.Core.Bool.{true, false}
