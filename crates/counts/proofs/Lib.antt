@@ -1,5 +1,4 @@
 pub mod Shares
 pub mod Powers
 pub mod CountsWritten
-pub mod RoundedAmong
 pub mod Fronts

@@ -2,9 +2,7 @@
 use Prim.Native.Nat.{ℕ, _+_, _^_, _≤_}
 use mathlib.Core.List.{List}
 use lib.ListN.{length}
-use lib.Dec.{leb}
 use Rattle.lists.specs.Lists.{tabulate}
-use Rattle.lists.specs.Searching.{firstKept}
 use Rattle.model.specs.Planners.{Planner, exact, coarse}
 use Rattle.counts.specs.declared.PlannerKind.{PlannerKind}
 use Rattle.counts.specs.declared.PlannerKind.the-variants.{Exact, Coarse}
@@ -43,7 +41,3 @@ numbersBelow n = tabulate n (λ k. k)
 -- The first p powers of two: 1, 2, 4 and so on.
 unfoldable pub firstPowers : ℕ → List ℕ
 firstPowers p = tabulate p (λ k. 2 ^ k)
-
--- The first of the list that is not below n, and 0 where all are below.
-unfoldable pub firstNotBelow : List ℕ → ℕ → ℕ
-firstNotBelow l n = firstKept (λ a. leb n a) l

@@ -5,11 +5,11 @@ ghost use Prim.Native.Nat.{_^_, _≤_, _<_};
 ghost use lib.ListN.{length};
 ghost use Rattle.lists.specs.Lists.{writtenOver};
 ghost use Rattle.model.specs.Instance.{instanceOf};
-ghost use Rattle.model.specs.Counts.{operatingCost, allCounts, coarseCounts, roundedCount};
+ghost use Rattle.model.specs.Counts.{operatingCost, allCounts, coarseCounts, roundedCount, printedCases, caseValue};
 ghost use Rattle.counts.specs.Serving.{Served};
 ghost use Rattle.model.specs.Planners.{allowedCounts};
 ghost use Rattle.counts.specs.AllowedCounts.{AllRoom, CoarseRoom, CountsRoom, RackCount, plannerOf};
-ghost use Rattle.counts.specs.AllowedCounts.{numbersBelow, firstPowers, firstNotBelow};
+ghost use Rattle.counts.specs.AllowedCounts.{numbersBelow, firstPowers};
 
 // The two planners of document 01.
 pub enum PlannerKind {
@@ -91,29 +91,33 @@ pub fn fill_counts(kind: PlannerKind, counts: &mut [u64], m: u64) -> usize
     }
 }
 
-// The first of the counts that is not below the count given, and 0 where all are below.
-fn first_not_below(counts: &[u64], count: u64) -> u64
-    ensures { λ r. ⌜ r ≡ firstNotBelow (now (counts .entry)) count ⌝ }
+// The value of the count's case in the course book's list (02 §6): the case's last count. The list ends at 200, and above it there is none.
+fn case_value(count: u64) -> u64
+    ensures { λ r. ⌜ r ≡ caseValue printedCases count ⌝ }
 {
-    let mut k = 0;
-    while k < counts.len() {
-        let allowed = counts[k];
-        if allowed >= count {
-            return allowed;
-        }
-        k += 1;
+    match count {
+        0 => 0,
+        1 => 1,
+        2 => 2,
+        3..=4 => 4,
+        5..=8 => 8,
+        9..=16 => 16,
+        17..=32 => 32,
+        33..=64 => 64,
+        65..=128 => 128,
+        129..=200 => 200,
+        _ => 0,
     }
-    0
 }
 
-// Rounded count: the smallest coarse count of the rack that is not below the count.
+// Rounded count: the smallest coarse count of the rack that is not below the count. By the list it is the smaller of the case's value
+// and the rack.
 pub fn rounded(count: u64, modules: u64) -> u64
     requires { ⌜ RackCount count modules ⌝ }
     ensures { λ r. ⌜ r ≡ roundedCount modules count ⌝ }
 {
-    let mut counts = [0u64; 10];
-    let n = fill_coarse(&mut counts, modules);
-    first_not_below(&counts[..n], count)
+    let value = case_value(count);
+    if value < modules { value } else { modules }
 }
 
 // The operating cost of a count (01: 'running cost'): (n - r)G(q) + rG(q + 1) with q = l / n and r = l % n. Below the lowest step both

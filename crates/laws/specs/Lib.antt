@@ -12,3 +12,5 @@ pub mod CardTables
 pub mod CatalogueTables
 pub mod LeastSteps
 pub mod Operating
+pub mod CountMembers
+pub mod RoundedCounts

@@ -14,7 +14,6 @@ pub mod Bytes
 pub mod ExclusiveOr
 pub mod Filling
 pub mod Prefixes
-pub mod Searching
 pub mod FirstPlace
 pub mod Parts
 pub mod Rows

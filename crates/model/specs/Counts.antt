@@ -1,7 +1,7 @@
 -- Counts of active modules: their operating cost, and which counts are allowed (document 01, 'Running cost of a count', 'The plans'; 02 §2).
-use Prim.Native.Nat.{ℕ, _+_, _-_, _*_, _/_, _%_, _^_}
-use mathlib.Core.Bool.{Bool, cond, _||_}
-use mathlib.Core.List.{List, headD}
+use Prim.Native.Nat.{ℕ, _+_, _-_, _*_, _/_, _%_, _^_, min}
+use mathlib.Core.Bool.{Bool, cond, _&&_, _||_}
+use mathlib.Core.List.{List, [], _∷_, headD}
 use lib.Dec.{leb, eqb}
 use Rattle.lists.specs.Tests.{any}
 use Rattle.lists.specs.Lists.{tabulate, keep}
@@ -39,3 +39,26 @@ coarseCounts m = keep (isCoarse m) (allCounts m)
 -- 'Rounded count of n in a rack of m: the smallest allowed count not below n.' For n above m it means nothing.
 unfoldable pub roundedCount : ℕ → ℕ → ℕ
 roundedCount m n = headD (keep (λ a. leb n a) (coarseCounts m)) 0
+
+-- A case of the course book's list of rounded counts (02 §6): all counts from the first to the last.
+pub record Case : Type 0 where
+  pub first : ℕ
+  pub last : ℕ
+
+infix 70 _to_
+abbrev pub _to_ : ℕ → ℕ → Case
+_to_ a b = record { first = a; last = b }
+
+-- The list as printed: '0, 1, 2, 3 to 4, 5 to 8, 9 to 16, 17 to 32, 33 to 64, 65 to 128, 129 to 200'.
+unfoldable pub printedCases : List Case
+printedCases =
+    0 to 0 ∷ 1 to 1 ∷ 2 to 2 ∷ 3 to 4 ∷ 5 to 8 ∷ 9 to 16 ∷ 17 to 32 ∷ 33 to 64 ∷ 65 to 128 ∷ 129 to 200 ∷ []
+
+-- The value of the case in which n stands: its last count. It is 0 where n stands in no case.
+unfoldable pub caseValue : List Case → ℕ → ℕ
+caseValue [] n = 0
+caseValue (c ∷ cs) n = cond (leb (c .first) n && leb n (c .last)) (c .last) (caseValue cs n)
+
+-- 'The rounded count is to be decided by cases as printed .., then held to m.' For n above m it means nothing.
+unfoldable pub roundedByCases : ℕ → ℕ → ℕ
+roundedByCases m n = min (caseValue printedCases n) m

@@ -4,7 +4,7 @@ use Prim.Native.Nat.{ℕ, _+_, _-_}
 use Prim.Native.String.{String}
 use mathlib.Core.Path.{_≡_, refl, ap, sym, _∙_}
 use mathlib.Core.Bool.{Bool, true, false, not, false≢true}
-use mathlib.Core.List.{List, [], _∷_, _++_, flatMap, headD}
+use mathlib.Core.List.{List, [], _∷_, _++_, map, flatMap, headD}
 use lib.ListN.{length, getD, take, drop, set, replicate}
 use native.Mathlib.Omega.{arith}
 use Rattle.lists.specs.Tests.{every, allOf}
@@ -17,7 +17,8 @@ use Rattle.model.specs.Answers.{numberOf, costOf}
 use Rattle.model.specs.Instance.{Instance, instanceOf, cardBytes, cardLength, convexAt, convex, neverFalls, tableInRange}
 use Rattle.model.specs.Instance.{pricesInRange, loadsInRange}
 use Rattle.model.specs.MoreLight.{leastFrom, activeStep}
-use Rattle.model.specs.Counts.{canServe, operatingCost, allCounts, powerOfTwo, coarseCounts, roundedCount}
+use Rattle.model.specs.Counts.{canServe, operatingCost, allCounts, powerOfTwo, coarseCounts, roundedCount, printedCases, caseValue}
+use Rattle.model.specs.Counts.{roundedByCases}
 use Rattle.model.specs.Sheets.{stateAt, sheetLength, sheetEntries, lightAt, sheetLight, stepCost, changeCost}
 use Rattle.model.specs.Sheets.{sheetOperatingCost, sheetSwitchingCost, sheetCost}
 use Rattle.model.specs.Plans.{moduleByte, slotRow, sheetOf, planCost, planServes, plansInOrder, cheapest, cheapestOf, leastPlan}
@@ -231,14 +232,27 @@ lightRows =
     row "flat, sheet" (makeSheet cardFlat (1 ∷ 2 ∷ []) (sevens 4)) 0 12 ((0 ∷ 255 ∷ 2 ∷ 1 ∷ []) ∷ []) ∷
     []
 
--- The rounded count: held to m, a power of two, and refusals 3 and 12.
+-- The counts n of a list as the cases round them in a rack of m.
+abbrev rounding : ℕ → List ℕ → List ℕ
+rounding m = map (roundedByCases m)
+
+-- The rounded count: a power of two, held to m, refusals 3 and 12; and by the course book's list of cases.
 roundRows : List Example
 roundRows =
     row "rounded 5 of 6" (roundCount 5 6) 0 6 [] ∷
     row "rounded 5 of 200" (roundCount 5 200) 0 8 [] ∷
+    row "rounded 128 of 200" (roundCount 128 200) 0 128 [] ∷
+    row "rounded 129 of 200" (roundCount 129 200) 0 200 [] ∷
+    row "rounded 0 of 1" (roundCount 0 1) 0 0 [] ∷
     row "rounded 7 of 6" (roundCount 7 6) 12 0 [] ∷
     row "rounded 0 of 0" (roundCount 0 0) 3 0 [] ∷
     row "rounded 202 of 201" (roundCount 202 201) 3 0 [] ∷
+    one "the first counts of the cases" (rounding 200 (0 ∷ 1 ∷ 2 ∷ 3 ∷ 5 ∷ 9 ∷ 17 ∷ 33 ∷ 65 ∷ 129 ∷ []))
+    (0 ∷ 1 ∷ 2 ∷ 4 ∷ 8 ∷ 16 ∷ 32 ∷ 64 ∷ 128 ∷ 200 ∷ []) ∷
+    one "the last counts of the cases" (rounding 200 (0 ∷ 1 ∷ 2 ∷ 4 ∷ 8 ∷ 16 ∷ 32 ∷ 64 ∷ 128 ∷ 200 ∷ []))
+    (0 ∷ 1 ∷ 2 ∷ 4 ∷ 8 ∷ 16 ∷ 32 ∷ 64 ∷ 128 ∷ 200 ∷ []) ∷
+    one "cases held to a rack of 100" (rounding 100 (2 ∷ 33 ∷ 64 ∷ 65 ∷ 100 ∷ [])) (2 ∷ 64 ∷ 64 ∷ 100 ∷ 100 ∷ []) ∷
+    one "no case after 200" (caseValue printedCases 201 ∷ []) (0 ∷ []) ∷
     []
 
 -- Practice cards: the first draws of a start, whole cards, the byte after a card, refusals 14 and 10, and 14 before 10.
@@ -258,7 +272,7 @@ practiceRows =
 -- What is found is what is expected, computed through every definition.
 unfoldable pub agrees : Example → Bool
 unfolding sameLists sameList every allOf sum tabulate rows keep littleEndian bytesOf instanceOf cardBytes cardLength convexAt convex
-    neverFalls tableInRange pricesInRange loadsInRange canServe operatingCost allCounts powerOfTwo coarseCounts roundedCount stateAt
+    neverFalls tableInRange pricesInRange loadsInRange canServe operatingCost allCounts powerOfTwo coarseCounts roundedCount printedCases caseValue roundedByCases stateAt
     sheetLength sheetEntries lightAt sheetLight stepCost changeCost sheetOperatingCost sheetSwitchingCost sheetCost leastOver firstOver
     leastFrom activeStep moduleByte slotRow sheetOf planCost planServes plansInOrder cheapest cheapestOf leastPlan allowedCounts
     workBytes plannedBy xorLeft xorRight draw drawn practiceDifference practiceEntry practiceShow rightLength entriesInRange loadsServed
@@ -316,6 +330,9 @@ wrong =
     one "10 before 14" (numbers (practiceCard 0 [])) (10 ∷ []) ∷
     one "the cool-down drawn before the warm-up" (cardAtExit (practiceCard 1950 (sevens 33))) (exchanged 9 13 4 card1950) ∷
     one "what a draw gives is the old s" (drawn 1 1 ∷ []) (1 ∷ []) ∷
+    one "65 to 127" (costs (roundCount 128 200)) (200 ∷ []) ∷
+    one "128 for the last case" (costs (roundCount 129 200)) (128 ∷ []) ∷
+    one "not held to m" (costs (roundCount 5 6)) (8 ∷ []) ∷
     []
 
 -- No row of a table holds.

@@ -14,6 +14,7 @@ use Rattle.model.specs.Plans.{Allowed, LeastPlan, sheetOf, planCost, leastPlan,
 use Rattle.model.specs.Planners.{Planner, exact, coarse, allowedCounts, ratioOf, plannedCost}
 use Rattle.model.specs.Calls.{Accepted}
 use Rattle.laws.specs.Acceptance.{modules-range, top-range, load-range, table-convex}
+use Rattle.laws.specs.CountMembers.{all-member}
 use Rattle.columns.specs.Column.{searchedPlan, searchedCost, Ascending, GrowsBy}
 use Rattle.laws.specs.Tables.{convex-test}
 use Rattle.theory.specs.Hypotheses.{PlanFits, Plannable, LeastByCounts}
@@ -22,7 +23,7 @@ use Rattle.columns.specs.Places.{count-fits}
 use Rattle.theory.specs.Least.{searched-least, searched-cost}
 use Rattle.theory.specs.Enumeration.{least-plan, least-plan-unique}
 use Rattle.theory.specs.Ratio.{ratio}
-use Rattle.theory.specs.CountLists.{all-member, all-ascending, coarse-ascending, coarse-doubling}
+use Rattle.theory.specs.CountLists.{all-ascending, coarse-ascending, coarse-doubling}
 
 module _ {i : Instance} (ready : Plannable i) where
   -- Plans over any list of allowed counts.

@@ -2,7 +2,7 @@
 use Prim.Native.Nat.{ℕ, zero, suc, _+_, _*_, _≤_, _<_, max}
 use mathlib.Core.Path.{_≡_, refl}
 use mathlib.Core.Bool.{true}
-use mathlib.Core.List.{List, [], _∷_, _++_, flatMap}
+use mathlib.Core.List.{List, [], _∷_, _++_, flatMap, headD}
 use native.Mathlib.Omega.{arith}
 use lib.ListN.{length, getD, take, set}
 use lib.Dec.{lit<}
@@ -13,7 +13,8 @@ use Rattle.lists.specs.Lists.{tabulate, rows, keep}
 use Rattle.lists.specs.Bytes.{littleEndian, bytesOf}
 use Rattle.model.specs.Instance.{Instance, instanceOf, topStepPlace, headLength, tableOf}
 use Rattle.model.specs.MoreLight.{leastFrom, activeStep}
-use Rattle.model.specs.Counts.{canServe, operatingCost, allCounts, powerOfTwo, coarseCounts}
+use Rattle.model.specs.Counts.{canServe, operatingCost, allCounts, powerOfTwo, coarseCounts, roundedCount}
+use Rattle.model.specs.Counts.{printedCases, caseValue, roundedByCases}
 use Rattle.model.specs.Sheets.{off, stateAt, sheetLength, sheetEntries, lightAt, sheetLight, serves, stepCost, changeCost}
 use Rattle.model.specs.Sheets.{sheetOperatingCost, sheetSwitchingCost, sheetCost}
 use Rattle.model.specs.Thesis.{countAt, slotCost, countsCost}
@@ -183,3 +184,9 @@ pub other-top-step :
     (tableOf cutBehindTable ≡ catalogueBytes 2) × (instanceOf cutBehindTable .topStep ≡ 3) × (instanceOf cutBehindTable .table 3 < catalogueEntry 3)
 unfolding rows littleEndian bytesOf instanceOf catalogueEntry catalogueBytes
 other-top-step = (refl, refl, lit< tt)
+
+-- The course book's list of cases ends at 200, and it is for the counts of a rack: for 129 modules of a rack of 201 it gives 200 and not 201,
+-- and for 2 modules of a rack of 1 it gives 1, where no allowed count is large enough.
+pub list-for-racks : (roundedByCases 201 129 < roundedCount 201 129) × (roundedCount 1 2 < roundedByCases 1 2)
+unfolding every tabulate keep headD allCounts powerOfTwo coarseCounts roundedCount printedCases caseValue roundedByCases
+list-for-racks = (lit< tt, lit< tt)

@@ -17,10 +17,11 @@ use Rattle.model.specs.Planners.{Planner, exact, allowedCounts, workBytes, plan
 use Rattle.model.specs.Calls.{Accepted}
 use Rattle.model.specs.Promises.{WithRoom}
 use Rattle.model.specs.RelatedShows.{Reversed, LargerRack, Concatenated, PlannedAt, PlannedAs}
+use Rattle.laws.specs.CountMembers.{all-member}
 use Rattle.columns.specs.Column.{Ascending}
 use Rattle.theory.specs.Hypotheses.{Plannable}
 use Rattle.theory.specs.Enumeration.{least-plan, least-plan-unique}
-use Rattle.theory.specs.CountLists.{all-member, planner-counts-ascending}
+use Rattle.theory.specs.CountLists.{planner-counts-ascending}
 use Rattle.theory.specs.Condition3.{allowed-cost, by-counts-least, least-by-counts, accepted-plannable}
 use Rattle.theory.specs.Outcomes.{planner-answer, always-planned, plan-written}
 use Rattle.theory.specs.SmallestPlans.{least-plan-smallest, least-sheet-smallest}

@@ -1,28 +1,28 @@
-use Rattle.model.specs.Counts.{coarseCounts}
-use Rattle.counts.proofs.Fronts.{front-is, front-within, front-length}
-use Rattle.counts.proofs.RoundedAmong.{rounded-among}
+use Prim.Native.Nat.{_≤_}
+use mathlib.Core.Path.{sym, _∙_}
+use native.Mathlib.Nat.{min-eq-left, min-eq-right}
+use native.Mathlib.Omega.{arith}
 use borrow.Author.Needs.{needs}
+use Rattle.model.specs.Counts.{printedCases, caseValue, roundedByCases}
+use Rattle.laws.specs.RoundedCounts.{rounded-by-cases}
 use Rattle.counts.proofs.rounded.Statement.{statement}
 use Rattle.counts.proofs.rounded.Tie as tie
 
-fill-coarse-requires : tie.Need-fill-coarse-requires
-fill-coarse-requires c κs = search needs
-
-array-share-prefix-counts : tie.Need-array-share-prefix-counts
-array-share-prefix-counts c = let e = c .before .fill-coarse .ensures in front-within coarseCounts _ _ (e .0) (e .1)
-
-slice-aggregate-first-not-below : tie.Need-slice-aggregate-first-not-below
-slice-aggregate-first-not-below c = let e = c .before .before .fill-coarse .ensures in front-length coarseCounts _ _ (e .0) (e .1)
-
-first-not-below-requires : tie.Need-first-not-below-requires
-first-not-below-requires c κs = search needs
-
 returns : tie.Need-returns
+unfolding roundedByCases
 returns c =
-    let e = c .before .before .before .fill-coarse .ensures in
-    rounded-among _ _ (front-is coarseCounts _ _ (e .0) (e .1)) (c .first-not-below .ensures)
+    let s = c .before .before in
+    let e = c .before .case-value .ensures in
+    let less : caseValue printedCases (s .args .count) ≤ s .args .modules = omega (arith, e, c .if1 .taken) in
+    e ∙ (sym (min-eq-left less) ∙ rounded-by-cases (s .args .modules) (s .args .count) (s .pre .most) (s .pre .in-rack))
+
+returns-2 : tie.Need-returns-2
+unfolding roundedByCases
+returns-2 c =
+    let s = c .before .before in
+    let e = c .before .case-value .ensures in
+    let full : s .args .modules ≤ caseValue printedCases (s .args .count) = omega (arith, e, c .if1 .left) in
+    sym (min-eq-right full) ∙ rounded-by-cases (s .args .modules) (s .args .count) (s .pre .most) (s .pre .in-rack)
 
 pub rounded-spec : {M : Type 1} → statement M
-rounded-spec =
-    tie.close (tie.spec (λ c. search needs) fill-coarse-requires array-share-prefix-counts slice-aggregate-first-not-below
-    first-not-below-requires returns)
+rounded-spec = tie.close (tie.spec (λ c κs. search needs) returns returns-2)
