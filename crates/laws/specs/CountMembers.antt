@@ -37,7 +37,7 @@ below-power zero = omega arith
 below-power (suc e) = omega (arith, below-power e)
 
 -- The test finds the powers of two.
-pub power-iff : (n : ℕ) → (powerOfTwo n ≡ true) ↔ ((e : ℕ) × (n ≡ 2 ^ e))
+power-iff : (n : ℕ) → (powerOfTwo n ≡ true) ↔ ((e : ℕ) × (n ≡ 2 ^ e))
 unfolding powerOfTwo
 power-iff n = (
   λ t. let (e, b, fails) = every-not n (λ j. not (eqb n (2 ^ j))) (not-true _ t) in (e, eqb-true n (2 ^ e) (not-false _ fails)),
@@ -46,26 +46,22 @@ power-iff n = (
       rw (every-fails n (λ j. not (eqb n (2 ^ j))) e (rw same (below-power e)) fails),
 )
 
--- The test finds 0, m and the powers of two.
-pub coarse-iff : (m n : ℕ) → (isCoarse m n ≡ true) ↔ ((n ≡ 0) ⊎ ((n ≡ m) ⊎ ((e : ℕ) × (n ≡ 2 ^ e))))
-coarse-iff m n = (
-  λ t. ⊎-map (eqb-true n 0) (λ u. ⊎-map (eqb-true n m) (power-iff n .0) (or-cases _ _ u)) (or-cases _ _ t),
-  from,
-)
-  where
-    from : (n ≡ 0) ⊎ ((n ≡ m) ⊎ ((e : ℕ) × (n ≡ 2 ^ e))) → isCoarse m n ≡ true
-    from (inl e) = rw (eq-eqb n 0 e)
-    from (inr (inl e)) = rw (eq-eqb n m e) (or-true (eqb n 0))
-    from (inr (inr p)) = rw (power-iff n .1 p, or-true) (or-true (eqb n 0))
-
 -- 'the allowed counts 0, each power of two up to m, and m': these and no others are in the list.
 pub coarse-member : (m n : ℕ) → Member n (coarseCounts m) ↔ ((n ≤ m) × ((n ≡ 0) ⊎ ((n ≡ m) ⊎ ((e : ℕ) × (n ≡ 2 ^ e)))))
 unfolding coarseCounts
 coarse-member m n =
     let kept = kept-member _ (allCounts m) n in (
-      λ h. let (stands, t) = kept .0 h in (all-member m n .1 stands, coarse-iff m n .0 t),
-      λ (h, c). kept .1 (all-member m n .0 h, coarse-iff m n .1 c),
+      λ h. let (stands, t) = kept .0 h in (all-member m n .1 stands, to t),
+      λ (h, c). kept .1 (all-member m n .0 h, from c),
     )
+  where
+    to : isCoarse m n ≡ true → (n ≡ 0) ⊎ ((n ≡ m) ⊎ ((e : ℕ) × (n ≡ 2 ^ e)))
+    to t = ⊎-map (eqb-true n 0) (λ u. ⊎-map (eqb-true n m) (power-iff n .0) (or-cases _ _ u)) (or-cases _ _ t)
+
+    from : (n ≡ 0) ⊎ ((n ≡ m) ⊎ ((e : ℕ) × (n ≡ 2 ^ e))) → isCoarse m n ≡ true
+    from (inl e) = rw (eq-eqb n 0 e)
+    from (inr (inl e)) = rw (eq-eqb n m e) (or-true (eqb n 0))
+    from (inr (inr p)) = rw (power-iff n .1 p, or-true) (or-true (eqb n 0))
 
 pub all-in-order : (m : ℕ) → InOrder _<_ (allCounts m)
 unfolding allCounts

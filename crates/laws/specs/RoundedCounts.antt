@@ -1,22 +1,22 @@
 -- The rounded count is the smallest allowed count not below a count (document 01, 'The plans'), and the course book's list of cases
 -- gives it too (02 §6).
-use Prim.Native.Nat.{ℕ, zero, suc, _+_, _-_, _*_, _^_, _≤_, _<_, min}
+use Prim.Native.Nat.{ℕ, zero, suc, _+_, _^_, _≤_, _<_, min}
 use mathlib.Core.Path.{_≡_, refl, sym, _∙_}
-use mathlib.Core.Bool.{Bool, true, cond, _&&_, _||_, and-false}
+use mathlib.Core.Bool.{and-false}
 use mathlib.Core.List.{List, [], _∷_}
-use mathlib.Core.Logic.{_⊎_, inl, inr, ⊎-elim, ⊎-map}
-use native.Mathlib.Nat.{le-refl, le-trans, le-antisymm, le-min, min-le-left, min-le-right, min-eq-left, min-eq-right, pow-le-pow-right, one-le-pow, two-pow-succ}
+use mathlib.Core.Logic.{_⊎_, inl, inr, ⊎-elim}
+use native.Mathlib.Nat.{le-refl, le-trans, le-of-lt, le-antisymm, eq-or-lt-of-le, one-le-pow, pow-le-pow-right}
+use native.Mathlib.Nat.{zero-min, le-min, min-le-left, min-le-right, min-eq-left, min-eq-right}
 use native.Mathlib.Omega.{arith}
-use lib.ListN.{length, getD}
-use lib.Dec.{eqb, leb}
-use borrow.Author.Tests.{eqb-true, leb-true, le-leb, lt-leb}
+use lib.ListN.{getD}
+use lib.Dec.{leb}
+use borrow.Author.Tests.{leb-true, le-leb, lt-leb}
 use Rattle.lists.specs.Numbers.{le-or-lt}
-use Rattle.lists.specs.Tests.{every, and-left, and-right, or-cases}
 use Rattle.lists.specs.Lists.{keep, head-is-first}
 use Rattle.lists.specs.Members.{in-order-le, in-order-keep}
-use Rattle.model.specs.Counts.{powerOfTwo, isCoarse, coarseCounts, roundedCount, Case, _to_, printedCases, caseValue, roundedByCases}
+use Rattle.model.specs.Counts.{coarseCounts, roundedCount, Case, _to_, printedCases, caseValue, roundedByCases}
 use Rattle.model.specs.Plans.{Member}
-use Rattle.laws.specs.CountMembers.{kept-member, power-iff, coarse-iff, coarse-member, coarse-in-order}
+use Rattle.laws.specs.CountMembers.{kept-member, coarse-member, coarse-in-order}
 
 -- 'the smallest allowed count not below n': the rounded count is that one.
 pub rounded-least :
@@ -45,74 +45,47 @@ rounded-is {m} {n} {v} h stands above least =
     let (found, not-below, first) = rounded-least m n h in
     le-antisymm (least (roundedCount m n) found not-below) (first v stands above)
 
--- The next power of two after a power is twice that power.
-next-power : (e k : ℕ) → 2 ^ e < 2 ^ k → 2 * 2 ^ e ≤ 2 ^ k
+-- The first power of two not below n, held to m, is the rounded count.
+first-power :
+    {m n : ℕ} (e : ℕ) → 1 ≤ n → n ≤ m → n ≤ 2 ^ e → ((k : ℕ) → n ≤ 2 ^ k → 2 ^ e ≤ 2 ^ k) → min (2 ^ e) m ≡ roundedCount m n
+first-power {m} {n} e some fits above first = rounded-is fits stands (le-min above fits) least
+  where
+    stands : Member (min (2 ^ e) m) (coarseCounts m)
+    stands =
+        ⊎-elim
+        (λ (full : m ≤ 2 ^ e). rw (min-eq-right full) (coarse-member m m .1 (le-refl m, inr (inl refl))))
+        (λ (less : 2 ^ e < m). rw (min-eq-left (le-of-lt less)) (coarse-member m (2 ^ e) .1 (le-of-lt less, inr (inr (e, refl)))))
+        (le-or-lt m (2 ^ e))
+
+    least : (a : ℕ) → Member a (coarseCounts m) → n ≤ a → min (2 ^ e) m ≤ a
+    least a found h = go (coarse-member m a .0 found .1)
+      where
+        go : (a ≡ 0) ⊎ ((a ≡ m) ⊎ ((k : ℕ) × (a ≡ 2 ^ k))) → min (2 ^ e) m ≤ a
+        go (inl z) = absurd (omega arith)
+        go (inr (inl full)) = rw full (min-le-right (2 ^ e) m)
+        go (inr (inr (k, power))) = le-trans (min-le-left (2 ^ e) m) (rw power (first k (rw power at h)))
+
+-- Between a power of two and the next there is none.
+next-power : (e k : ℕ) → 2 ^ e < 2 ^ k → 2 ^ suc e ≤ 2 ^ k
 next-power e k h =
     ⊎-elim
     (λ (low : k ≤ e). absurd (omega (arith, pow-le-pow-right {n = 2} (omega arith) low)))
-    (λ (high : e < k). omega (arith, two-pow-succ e, pow-le-pow-right {n = 2} (omega arith) high))
+    (λ (high : e < k). pow-le-pow-right (omega arith) high)
     (le-or-lt k e)
 
--- A case is a single count, or it begins behind a power of two and ends at the next one at the latest.
-abbrev betweenPowers : Case → Bool
-betweenPowers c = eqb (c .first) (c .last) || (powerOfTwo (c .first - 1) && leb (c .last) (2 * (c .first - 1)))
+-- A case of a rack of top: it begins behind a power of two and ends at the next one, held to top.
+abbrev powerCase : ℕ → ℕ → Case
+powerCase top e = suc (2 ^ e) to min (2 ^ suc e) top
 
--- Such a case has no power of two before its last count, and 0 only as its last count.
-none-before : (c : Case) → betweenPowers c ≡ true → (a : ℕ) → (a ≡ 0) ⊎ ((e : ℕ) × (a ≡ 2 ^ e)) → c .first ≤ a → c .last ≤ a
-none-before c t a kind h = ⊎-elim single behind (or-cases _ _ t)
-  where
-    single : eqb (c .first) (c .last) ≡ true → c .last ≤ a
-    single u = omega (arith, eqb-true (c .first) (c .last) u)
+-- The j cases from that of e on.
+unfoldable powerCases : ℕ → ℕ → ℕ → List Case
+powerCases top e zero = []
+powerCases top e (suc j) = powerCase top e ∷ powerCases top (suc e) j
 
-    behind : (powerOfTwo (c .first - 1) && leb (c .last) (2 * (c .first - 1))) ≡ true → c .last ≤ a
-    behind u =
-        let (e, same) = power-iff (c .first - 1) .0 (and-left (powerOfTwo (c .first - 1)) _ u) in
-        let most = leb-true (c .last) (2 * (c .first - 1)) (and-right (powerOfTwo (c .first - 1)) _ u) in
-        let some = one-le-pow e 2 (omega arith) in
-        ⊎-elim
-        (λ (z : a ≡ 0). absurd (omega (arith, some)))
-        (λ ((k, power) : (k : ℕ) × (a ≡ 2 ^ k)). omega (arith, next-power e k (omega (arith, some))))
-        kind
-
--- A case that begins at k, stands between powers of two and ends at a count that is allowed in a rack of top.
-record Follows (top k : ℕ) (c : Case) : Type 0 where
-  begins : c .first ≡ k
-  ends : k ≤ c .last
-  between : betweenPowers c ≡ true
-  allowed : isCoarse top (c .last) ≡ true
-
--- Such cases follow one another from k to top.
-abbrev Consecutive : ℕ → ℕ → List Case → Type 0
-Consecutive top k [] = k ≡ top + 1
-Consecutive top k (c ∷ cs) = Follows top k c × Consecutive top (c .last + 1) cs
-
-unfoldable consecutive : ℕ → ℕ → List Case → Bool
-consecutive top k [] = eqb k (top + 1)
-consecutive top k (c ∷ cs) =
-    ((eqb (c .first) k && leb k (c .last)) && (betweenPowers c && isCoarse top (c .last))) && consecutive top (c .last + 1) cs
-
-consecutive-true : (top k : ℕ) (cs : List Case) → consecutive top k cs ≡ true → Consecutive top k cs
-unfolding consecutive
-consecutive-true top k [] t = eqb-true k (top + 1) t
-consecutive-true top k (c ∷ cs) t =
-    let ends = eqb (c .first) k && leb k (c .last) in
-    let kind = betweenPowers c && isCoarse top (c .last) in
-    let later = consecutive top (c .last + 1) cs in
-    let p = and-left ends kind (and-left (ends && kind) later t) in
-    let q = and-right ends kind (and-left (ends && kind) later t) in (
-      record {
-        begins = eqb-true (c .first) k (and-left (eqb (c .first) k) _ p);
-        ends = leb-true k (c .last) (and-right (eqb (c .first) k) _ p);
-        between = and-left (betweenPowers c) _ q;
-        allowed = and-right (betweenPowers c) _ q;
-      },
-      consecutive-true top (c .last + 1) cs (and-right (ends && kind) later t),
-    )
-
--- The printed cases follow one another from 0 to the largest rack.
-printed-consecutive : Consecutive 200 0 printedCases
-unfolding consecutive printedCases powerOfTwo every
-printed-consecutive = consecutive-true 200 0 printedCases refl
+-- The printed cases are 0, 1 and eight such cases of the largest rack.
+printed-are : printedCases ≡ 0 to 0 ∷ 1 to 1 ∷ powerCases 200 0 8
+unfolding printedCases powerCases
+printed-are = refl
 
 module _ {n : ℕ} (c : Case) (cs : List Case) where
   -- A count in the first case has its last count for value.
@@ -125,72 +98,74 @@ module _ {n : ℕ} (c : Case) (cs : List Case) where
   unfolding caseValue
   in-later-case above = rw (lt-leb n (c .last) above, and-false (leb (c .first) n))
 
-module _ {top m n : ℕ} (fits : n ≤ m) (within : m ≤ top) where
-  -- The last count of the case that n is in, held to m, is the rounded count.
-  case-held :
-      (c : Case) → betweenPowers c ≡ true → isCoarse top (c .last) ≡ true → c .first ≤ n → n ≤ c .last →
-      min (c .last) m ≡ roundedCount m n
-  case-held c between allowed low high = rounded-is fits stands (le-min high fits) least
-    where
-      stands : Member (min (c .last) m) (coarseCounts m)
-      stands =
-          ⊎-elim
-          (λ (full : m ≤ c .last). rw (min-eq-right full) (coarse-member m m .1 (le-refl m, inr (inl refl))))
-          (λ (less : c .last < m).
-          rw (min-eq-left {n = c .last} {m = m} (omega arith)) (coarse-member m (c .last) .1
-          (omega arith, ⊎-map (λ e. e) (⊎-map (λ (e : c .last ≡ top). absurd (omega arith)) (λ p. p)) (coarse-iff top (c .last) .0 allowed))))
-          (le-or-lt m (c .last))
+-- The values of 0 and 1 by the printed cases, and of a count above 1.
+pub printed-zero : 0 ≡ caseValue printedCases 0
+unfolding caseValue printedCases
+printed-zero = refl
 
-      least : (a : ℕ) → Member a (coarseCounts m) → n ≤ a → min (c .last) m ≤ a
-      least a found above = go (coarse-member m a .0 found .1)
-        where
-          other : (a ≡ 0) ⊎ ((e : ℕ) × (a ≡ 2 ^ e)) → min (c .last) m ≤ a
-          other kind = le-trans (min-le-left (c .last) m) (none-before c between a kind (omega arith))
+pub printed-one : 1 ≡ caseValue printedCases 1
+unfolding caseValue printedCases
+printed-one = refl
 
-          go : (a ≡ 0) ⊎ ((a ≡ m) ⊎ ((e : ℕ) × (a ≡ 2 ^ e))) → min (c .last) m ≤ a
-          go (inl e) = other (inl e)
-          go (inr (inl e)) = rw e (min-le-right (c .last) m)
-          go (inr (inr p)) = other (inr p)
+printed-later : {n : ℕ} → 1 < n → caseValue printedCases n ≡ caseValue (powerCases 200 0 8) n
+printed-later {n} h =
+    rw (printed-are, in-later-case {n = n} (0 to 0) (1 to 1 ∷ powerCases 200 0 8) (omega arith))
+    (in-later-case {n = n} (1 to 1) (powerCases 200 0 8) h)
 
-  -- The value that consecutive cases give to n, held to m, is the rounded count.
-  cases-held : (cs : List Case) (k : ℕ) → Consecutive top k cs → k ≤ n → min (caseValue cs n) m ≡ roundedCount m n
-  cases-held [] k end low = absurd (omega arith)
-  cases-held (c ∷ cs) k (here, later) low =
-      ⊎-elim
-      (λ (h : n ≤ c .last).
-      let in-case : c .first ≤ n = omega (arith, here .begins) in
-      rw (in-first-case c cs in-case h) (case-held c (here .between) (here .allowed) in-case h))
-      (λ (h : c .last < n). rw (in-later-case c cs h) (cases-held cs (c .last + 1) later (omega arith)))
-      (le-or-lt n (c .last))
+-- A number held to top and then to m, which is not above top, is held to m.
+held-twice : (a : ℕ) {m top : ℕ} → m ≤ top → min (min a top) m ≡ min a m
+held-twice a h = omega arith
+
+-- The value that j power cases give to n, which is above their first power and not above their last one, held to m, is the rounded count.
+power-cases-held :
+    {top m n : ℕ} → n ≤ m → m ≤ top → (j e f : ℕ) → e + j ≡ f → 2 ^ e < n → n ≤ 2 ^ f →
+    min (caseValue (powerCases top e j) n) m ≡ roundedCount m n
+unfolding powerCases
+power-cases-held fits within zero e f size low high = let same : e ≡ f = omega arith in absurd (omega (arith, rw same at low))
+power-cases-held {top} {m} {n} fits within (suc j) e f size low high =
+    ⊎-elim
+    (λ (h : n ≤ 2 ^ suc e).
+    rw (in-first-case {n = n} (powerCase top e) (powerCases top (suc e) j) low (le-min h (le-trans fits within)), held-twice (2 ^ suc e) within)
+    (first-power (suc e) (omega arith) fits h (λ k g. next-power e k (omega arith))))
+    (λ (h : 2 ^ suc e < n).
+    rw (in-later-case {n = n} (powerCase top e) (powerCases top (suc e) j) (omega arith))
+    (power-cases-held fits within j (suc e) f (omega arith) h high))
+    (le-or-lt n (2 ^ suc e))
 
 -- 'decided by cases as printed .., then held to m. Answers are the same for all n and m.'
 pub rounded-by-cases : (m n : ℕ) → m ≤ 200 → n ≤ m → roundedByCases m n ≡ roundedCount m n
 unfolding roundedByCases
-rounded-by-cases m n most fits = cases-held fits most printedCases 0 printed-consecutive (omega arith)
+rounded-by-cases m zero most fits =
+    rw (sym printed-zero, zero-min m) (rounded-is fits (coarse-member m 0 .1 (fits, inl refl)) (le-refl 0) (λ a found h. h))
+rounded-by-cases m (suc zero) most fits = rw (sym printed-one) (first-power 0 (omega arith) fits (omega arith) (λ k h. h))
+rounded-by-cases m (suc (suc n)) most fits =
+    rw (printed-later {n = suc (suc n)} (omega arith)) (power-cases-held fits most 8 0 8 refl (omega arith) (omega arith))
 
--- A count in case j of consecutive cases has that case's last count for value, and one above them all has 0. It is not below the first.
+-- A count in the case of i has that case's last count for value, and a count above top has 0.
 module _ (top : ℕ) {n : ℕ} where
-  in-case :
-      (cs : List Case) (k j : ℕ) → Consecutive top k cs → j < length cs → getD cs j (0 to 0) .first ≤ n → n ≤ getD cs j (0 to 0) .last →
-      (k ≤ n) × (getD cs j (0 to 0) .last ≡ caseValue cs n)
-  in-case [] k j end h low high = absurd (omega arith)
-  in-case (c ∷ cs) k zero (here, later) h low high = (omega (arith, here .begins), sym (in-first-case c cs low high))
-  in-case (c ∷ cs) k (suc j) (here, later) h low high =
-      let (above, found) = in-case cs (c .last + 1) j later (omega arith) low high in
-      (omega (arith, here .ends), found ∙ sym (in-later-case c cs (omega arith)))
+  in-power-case :
+      (j e i : ℕ) → e ≤ i → i < e + j → 2 ^ i < n → n ≤ min (2 ^ suc i) top → min (2 ^ suc i) top ≡ caseValue (powerCases top e j) n
+  unfolding powerCases
+  in-power-case zero e i from below low high = absurd (omega arith)
+  in-power-case (suc j) e i from below low high =
+      ⊎-elim
+      (λ (same : e ≡ i). rw same (sym (in-first-case {n = n} (powerCase top i) (powerCases top (suc i) j) low high)))
+      (λ (later : e < i).
+      let above = pow-le-pow-right {n = 2} (omega arith) later in
+      in-power-case j (suc e) i later (omega arith) low high ∙
+      sym (in-later-case {n = n} (powerCase top e) (powerCases top (suc e) j) (omega arith)))
+      (eq-or-lt-of-le from)
 
-  above-cases : (cs : List Case) (k : ℕ) → Consecutive top k cs → top < n → (k ≤ n) × (0 ≡ caseValue cs n)
-  unfolding caseValue
-  above-cases [] k end h = (omega arith, refl)
-  above-cases (c ∷ cs) k (here, later) h =
-      let (above, found) = above-cases cs (c .last + 1) later h in
-      (omega (arith, here .ends), found ∙ sym (in-later-case c cs (omega arith)))
+  above-power-cases : (j e : ℕ) → top < n → 0 ≡ caseValue (powerCases top e j) n
+  unfolding powerCases caseValue
+  above-power-cases zero e h = refl
+  above-power-cases (suc j) e h =
+      above-power-cases j (suc e) h ∙ sym (in-later-case {n = n} (powerCase top e) (powerCases top (suc e) j) (omega arith))
 
-pub printed-value :
-    {n : ℕ} (j : ℕ) → j < 10 → getD printedCases j (0 to 0) .first ≤ n → n ≤ getD printedCases j (0 to 0) .last →
-    getD printedCases j (0 to 0) .last ≡ caseValue printedCases n
-unfolding printedCases
-printed-value j h low high = in-case 200 printedCases 0 j printed-consecutive h low high .1
+-- The same of the printed cases, which end at 200.
+pub printed-value : {n : ℕ} (i : ℕ) → i < 8 → 2 ^ i < n → n ≤ min (2 ^ suc i) 200 → min (2 ^ suc i) 200 ≡ caseValue printedCases n
+printed-value i h low high =
+    in-power-case 200 8 0 i (omega arith) (omega arith) low high ∙ sym (printed-later (omega (arith, one-le-pow i 2 (omega arith))))
 
 pub above-printed : {n : ℕ} → 200 < n → 0 ≡ caseValue printedCases n
-above-printed h = above-cases 200 printedCases 0 printed-consecutive h .1
+above-printed h = above-power-cases 200 8 0 h ∙ sym (printed-later (omega arith))
