@@ -11,11 +11,12 @@
 #include "plain.h"
 
 enum { ROUNDS = 60, STARTS = 10000, LOWEST = 80, TIMES = 10000, LAST = LAMP_MAX_SEATS, TOPS = 200, TABLES = 100 };
+enum { RACKS = 201, COUNTS = 202, PAIRS = (RACKS + 1) * (COUNTS + 1) };
 
 /* What is measured. The acts after SUBMIT are so short that a round makes each of them TIMES times. */
-enum { EXACT, COARSE, SHEET, MARKING, PRACTICE, TABLE, OPEN, SUBMIT, SEAT, CLOSE, LEAST, LOWEST_COST, USED, ALL };
-static const char *names[ALL] = {"exact", "coarse", "sheet", "marking", "practice", "table", "open",
-                                 "submit", "seat", "close", "least", "lowest", "used"};
+enum { EXACT, COARSE, SHEET, MARKING, PRACTICE, TABLE, ROUNDED, OPEN, SUBMIT, SEAT, CLOSE, LEAST, LOWEST_COST, USED, ALL };
+static const char *names[ALL] = {"exact", "coarse", "sheet", "marking", "practice", "table", "rounded",
+                                 "open", "submit", "seat", "close", "least", "lowest", "used"};
 
 static uint8_t card[LAMP_MAX_CARD], plan[LAMP_MAX_PLAN], work[LAMP_MAX_EXACT_WORK], sheet[LAMP_MAX_SHEET];
 static uint8_t practice[LAMP_MAX_PRACTICE], practice_of_c[LAMP_MAX_PRACTICE];
@@ -121,6 +122,46 @@ static void compare_tables(void)
             compare_table(top, length);
 }
 
+typedef struct lamp_answer (*rounder)(uint64_t, uint64_t);
+
+/* Rounds the counts 0 to COUNTS in the racks of 0 to RACKS modules. Half of the pairs are refused, so the cost is the sum of
+ * all numbers and costs. */
+static inline __attribute__((always_inline)) struct lamp_answer round_counts(rounder rounded)
+{
+    struct lamp_answer all = {0, 0};
+    for (uint64_t m = 0; m <= RACKS; m++)
+        for (uint64_t n = 0; n <= COUNTS; n++) {
+            struct lamp_answer one = rounded(n, m);
+            all.cost += one.number + one.cost;
+        }
+    return all;
+}
+
+/* A call takes some two nanoseconds, to which a call through a pointer or another place of the loop adds up to a third. So
+ * each function is called by its name, from a loop of its own, and the two loops lie alike. */
+static __attribute__((noinline, aligned(64))) struct lamp_answer round_by_library(void)
+{
+    return round_counts(lamp_rounded_count);
+}
+
+static __attribute__((noinline, aligned(64))) struct lamp_answer round_by_c(void)
+{
+    return round_counts(plain_rounded);
+}
+
+/* The library and C answer the same for each count and rack. */
+static void compare_counts(void)
+{
+    for (uint64_t m = 0; m <= RACKS; m++)
+        for (uint64_t n = 0; n <= COUNTS; n++) {
+            struct lamp_answer first = lamp_rounded_count(n, m), second = plain_rounded(n, m);
+            if (first.number != second.number || first.cost != second.cost) {
+                printf("the two disagree: count %" PRIu64 ", modules %" PRIu64 "\n", n, m);
+                exit(1);
+            }
+        }
+}
+
 /* The candidates 1 to LAST are seated. The acts are those of the last one, so that every seat is looked at. */
 static void seat_all(void)
 {
@@ -189,6 +230,8 @@ static struct lamp_answer run(int which, int plain)
         return make_practice(plain ? plain_practice : lamp_practice_card);
     case TABLE:
         return write_tables(plain ? plain_table : lamp_catalogue_table);
+    case ROUNDED:
+        return plain ? round_by_c() : round_by_library();
     case OPEN:
     case SUBMIT:
         return run_on_card(which, plain);
@@ -312,6 +355,11 @@ int main(void)
     printf("the catalogue module's tables of tops 1 to %d, %d times each\n", TOPS, TABLES);
     print_line(names[TABLE], best);
     printf("table: %.1f nanoseconds a call, in C %.1f\n", best[0] * 1e3 / (TOPS * TABLES), best[1] * 1e3 / (TOPS * TABLES));
+    compare_counts();
+    measure(ROUNDED, best);
+    printf("the rounded counts of 0 to %d in racks of 0 to %d\n", COUNTS, RACKS);
+    print_line(names[ROUNDED], best);
+    printf("rounded: %.2f nanoseconds a call, in C %.2f\n", best[0] * 1e3 / PAIRS, best[1] * 1e3 / PAIRS);
     make_card(modules, 200, slots = 512);
     measure(EXACT, best);
     printf("exact, T 512 to 1,024: %.2f times the time\n", whole / best[0]);

@@ -298,6 +298,36 @@ struct lamp_answer plain_table(uint64_t top, uint8_t *table, size_t table_len)
     return (struct lamp_answer){0, 0};
 }
 
+/* The value of the rounded count's case. The last cases come first, since they have the most counts. */
+static uint64_t case_value(uint64_t count)
+{
+    if (count > 128)
+        return 200;
+    if (count > 64)
+        return 128;
+    if (count > 32)
+        return 64;
+    if (count > 16)
+        return 32;
+    if (count > 8)
+        return 16;
+    if (count > 4)
+        return 8;
+    if (count > 2)
+        return 4;
+    return count;
+}
+
+struct lamp_answer plain_rounded(uint64_t count, uint64_t modules)
+{
+    if (modules < 1 || modules > 200)
+        return refused(3);
+    if (count > modules)
+        return refused(12);
+    uint64_t value = case_value(count);
+    return (struct lamp_answer){0, value < modules ? value : modules};
+}
+
 enum { OPEN = 1, CLOSED = 2, SEATS = 32, ALLOWANCE = 1000 };
 
 /* The acts of a sitting. Two of them read the card, and then plan or mark it as above, which reads it once more; that takes

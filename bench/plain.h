@@ -9,6 +9,7 @@ struct lamp_answer plain_sheet(const uint8_t *, size_t, const uint8_t *, size_t,
 struct lamp_answer plain_mark(const uint8_t *, size_t, const uint8_t *, size_t);
 struct lamp_answer plain_practice(uint32_t, uint8_t *, size_t);
 struct lamp_answer plain_table(uint64_t, uint8_t *, size_t);
+struct lamp_answer plain_rounded(uint64_t, uint64_t);
 
 struct lamp_reply plain_open(struct lamp_sitting, uint16_t, uint64_t, const uint8_t *, size_t, uint8_t *, size_t, uint8_t *, size_t,
                              struct lamp_seat *, size_t);
