@@ -174,6 +174,32 @@ def course_book():
         expect(f"the course book's several-least, {sheet}", marked, 0, b"cost %d\nleast 4\nabove %d\n" % (cost, cost - 4))
 
 
+def course_book_list():
+    """The commands of the course book's list print the rounded counts beside them. Its cases have every count up to 200, each with its value in a
+    rack of 200, and they stand in the page's sentence and in the help of `round` too."""
+    page = (ROOT / "docs" / "COURSE-BOOK.md").read_text(encoding="utf-8")
+    cases = re.findall(r"^\| ((\d+)(?: to (\d+))?) \| `bin/lamp round (\d+) 200` \| (\d+) \|$", page, re.MULTILINE)
+    held = re.findall(r"^\| (\d+) \| `bin/lamp round \d+ \1` \| \d+ \|$", page, re.MULTILINE)
+    rows = re.findall(r"`(bin/lamp round \d+ \d+)` \| (\d+) \|", page)
+    require("each command of the list is in a row", len(cases) + len(held) == len(rows) == page.count("`bin/lamp round "))
+    for command, rounded in rows:
+        printed = subprocess.run(command.split(), cwd=ROOT, capture_output=True, check=True).stdout
+        require(f"the course book's {command}", printed == f"{rounded}\n".encode())
+    counts = []
+    for case, first, last, shown, value in cases:
+        numbers = range(int(first), int(last or first) + 1)
+        require(f"the command of the case {case}", int(shown) in numbers)
+        for count in numbers:
+            expect(f"the case {case}, count {count}", lamp("round", str(count), "200"), 0, f"{value}\n".encode())
+        counts += numbers
+    require("the list has every count up to 200", counts == list(range(201)))
+    told = lamp("round", "--help")[1].decode()
+    for name, text in (("page", page), ("help", told)):
+        require(f"the list in the {name}", f" {', '.join(case for case, *_ in cases)}" in " ".join(text.split()))
+    for modules in ("200", "100"):
+        require(f"an example of round, {modules}", f"\n    lamp round 70 {modules}    # {lamp('round', '70', modules)[1].decode()}" in told)
+
+
 D_BYTES = bytes([2, 2, 2, 255, 0, 255, 2, 255, 255])
 
 
@@ -1168,6 +1194,7 @@ with tempfile.TemporaryDirectory() as place:
     checks()
     keys()
     course_book()
+    course_book_list()
     marks()
     refused_sheets()
     no_sheets()

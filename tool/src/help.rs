@@ -31,7 +31,12 @@ CARD is a card's bytes or a show's text, as 'lamp card --help' describes it; - i
 const COSTS: &str = "\
 The modules share LOAD as evenly as steps go. Each is at its share, or at a higher step if that costs less.";
 
-const ALLOWED: &str = "The allowed counts are 0, the powers of two up to MODULES, and MODULES.";
+const ALLOWED: &str = "\
+The allowed counts are 0, the powers of two up to MODULES, and MODULES. So COUNT is rounded to the last number of
+its case: 0, 1, 2, 3 to 4, 5 to 8, 9 to 16, 17 to 32, 33 to 64, 65 to 128, 129 to 200; or to MODULES, if that
+number is above MODULES.
+    lamp round 70 200    # 128
+    lamp round 70 100    # 100";
 
 const SHOW_TEXT: &str = "\
 SHOW is a text with one field a line, in any order; - is standard input:
