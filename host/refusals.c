@@ -223,6 +223,7 @@ static void refuse_handed_in(void)
     expect("lamp_mark", lamp_mark(card, LENGTH_A, sheet, 9), LAMP_ENTRY_RANGE);
     expect("lamp_rounded_count", lamp_rounded_count(7, 6), LAMP_ENTRY_RANGE);
     expect("lamp_rounded_count", lamp_rounded_count(0, 201), LAMP_RACK_SIZE);
+    expect("lamp_rounded_count", lamp_rounded_count(1, 0), LAMP_RACK_SIZE); /* 3 is tested before 12 */
 
     expect("lamp_running_cost", lamp_running_cost(card, LENGTH_A, 2, 5), LAMP_LOAD_NOT_SERVED);
     expect("lamp_sheet", lamp_sheet(card, LENGTH_A, darker, 3, area, 9), LAMP_LOAD_NOT_SERVED);
