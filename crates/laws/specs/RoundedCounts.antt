@@ -112,35 +112,6 @@ printed-later {n} h =
     rw (printed-are, in-later-case {n = n} (0 to 0) (1 to 1 ∷ powerCases 200 0 8) (omega arith))
     (in-later-case {n = n} (1 to 1) (powerCases 200 0 8) h)
 
--- A number held to top and then to m, which is not above top, is held to m.
-held-twice : (a : ℕ) {m top : ℕ} → m ≤ top → min (min a top) m ≡ min a m
-held-twice a h = omega arith
-
--- The value that j power cases give to n, which is above their first power and not above their last one, held to m, is the rounded count.
-power-cases-held :
-    {top m n : ℕ} → n ≤ m → m ≤ top → (j e f : ℕ) → e + j ≡ f → 2 ^ e < n → n ≤ 2 ^ f →
-    min (caseValue (powerCases top e j) n) m ≡ roundedCount m n
-unfolding powerCases
-power-cases-held fits within zero e f size low high = let same : e ≡ f = omega arith in absurd (omega (arith, rw same at low))
-power-cases-held {top} {m} {n} fits within (suc j) e f size low high =
-    ⊎-elim
-    (λ (h : n ≤ 2 ^ suc e).
-    rw (in-first-case {n = n} (powerCase top e) (powerCases top (suc e) j) low (le-min h (le-trans fits within)), held-twice (2 ^ suc e) within)
-    (first-power (suc e) (omega arith) fits h (λ k g. next-power e k (omega arith))))
-    (λ (h : 2 ^ suc e < n).
-    rw (in-later-case {n = n} (powerCase top e) (powerCases top (suc e) j) (omega arith))
-    (power-cases-held fits within j (suc e) f (omega arith) h high))
-    (le-or-lt n (2 ^ suc e))
-
--- 'decided by cases as printed .., then held to m. Answers are the same for all n and m.'
-pub rounded-by-cases : (m n : ℕ) → m ≤ 200 → n ≤ m → roundedByCases m n ≡ roundedCount m n
-unfolding roundedByCases
-rounded-by-cases m zero most fits =
-    rw (sym printed-zero, zero-min m) (rounded-is fits (coarse-member m 0 .1 (fits, inl refl)) (le-refl 0) (λ a found h. h))
-rounded-by-cases m (suc zero) most fits = rw (sym printed-one) (first-power 0 (omega arith) fits (omega arith) (λ k h. h))
-rounded-by-cases m (suc (suc n)) most fits =
-    rw (printed-later {n = suc (suc n)} (omega arith)) (power-cases-held fits most 8 0 8 refl (omega arith) (omega arith))
-
 -- A count in the case of i has that case's last count for value, and a count above top has 0.
 module _ (top : ℕ) {n : ℕ} where
   in-power-case :
@@ -169,3 +140,27 @@ printed-value i h low high =
 
 pub above-printed : {n : ℕ} → 200 < n → 0 ≡ caseValue printedCases n
 above-printed h = above-power-cases 200 8 0 h ∙ sym (printed-later (omega arith))
+
+-- A count above 1 and not above 2 to the f stands between a power of two and the next.
+between-powers : (f : ℕ) {n : ℕ} → 1 < n → n ≤ 2 ^ f → (i : ℕ) × (i < f) × (2 ^ i < n) × (n ≤ 2 ^ suc i)
+between-powers zero some most = absurd (omega arith)
+between-powers (suc f) {n} some most =
+    ⊎-elim
+    (λ (low : n ≤ 2 ^ f). let (i, within, above, upTo) = between-powers f some low in (i, omega arith, above, upTo))
+    (λ (high : 2 ^ f < n). (f, le-refl (suc f), high, most))
+    (le-or-lt n (2 ^ f))
+
+-- A number held to top and then to m, which is not above top, is held to m.
+held-twice : (a : ℕ) {m top : ℕ} → m ≤ top → min (min a top) m ≡ min a m
+held-twice a h = omega arith
+
+-- 'decided by cases as printed .., then held to m. Answers are the same for all n and m.'
+pub rounded-by-cases : (m n : ℕ) → m ≤ 200 → n ≤ m → roundedByCases m n ≡ roundedCount m n
+unfolding roundedByCases
+rounded-by-cases m zero most fits =
+    rw (sym printed-zero, zero-min m) (rounded-is fits (coarse-member m 0 .1 (fits, inl refl)) (le-refl 0) (λ a found h. h))
+rounded-by-cases m (suc zero) most fits = rw (sym printed-one) (first-power 0 (omega arith) fits (omega arith) (λ k h. h))
+rounded-by-cases m (suc (suc n)) most fits =
+    let (i, inside, above, upTo) = between-powers 8 {n = suc (suc n)} (omega arith) (omega arith) in
+    rw (sym (printed-value i inside above (le-min upTo (le-trans fits most))), held-twice (2 ^ suc i) most)
+    (first-power (suc i) (omega arith) fits upTo (λ k g. next-power i k (le-trans above g)))
