@@ -18,7 +18,7 @@ use Rattle.model.specs.Instance.{Instance, instanceOf, cardBytes, cardLe
 use Rattle.model.specs.Instance.{pricesInRange, loadsInRange}
 use Rattle.model.specs.MoreLight.{leastFrom, activeStep}
 use Rattle.model.specs.Counts.{canServe, operatingCost, allCounts, powerOfTwo, coarseCounts, roundedCount, printedCases, caseValue}
-use Rattle.model.specs.Counts.{roundedByCases}
+use Rattle.model.specs.Counts.{Case, _to_, roundedByCases}
 use Rattle.model.specs.Sheets.{stateAt, sheetLength, sheetEntries, lightAt, sheetLight, stepCost, changeCost}
 use Rattle.model.specs.Sheets.{sheetOperatingCost, sheetSwitchingCost, sheetCost}
 use Rattle.model.specs.Plans.{moduleByte, slotRow, sheetOf, planCost, planServes, plansInOrder, cheapest, cheapestOf, leastPlan}
@@ -232,6 +232,13 @@ lightRows =
     row "flat, sheet" (makeSheet cardFlat (1 ∷ 2 ∷ []) (sevens 4)) 0 12 ((0 ∷ 255 ∷ 2 ∷ 1 ∷ []) ∷ []) ∷
     []
 
+-- Where the printed cases begin and where they end.
+abbrev firstCounts : List ℕ
+firstCounts = 0 ∷ 1 ∷ 2 ∷ 3 ∷ 5 ∷ 9 ∷ 17 ∷ 33 ∷ 65 ∷ 129 ∷ []
+
+abbrev lastCounts : List ℕ
+lastCounts = 0 ∷ 1 ∷ 2 ∷ 4 ∷ 8 ∷ 16 ∷ 32 ∷ 64 ∷ 128 ∷ 200 ∷ []
+
 -- The counts n of a list as the cases round them in a rack of m.
 abbrev rounding : ℕ → List ℕ → List ℕ
 rounding m = map (roundedByCases m)
@@ -247,12 +254,12 @@ roundRows =
     row "rounded 7 of 6" (roundCount 7 6) 12 0 [] ∷
     row "rounded 0 of 0" (roundCount 0 0) 3 0 [] ∷
     row "rounded 202 of 201" (roundCount 202 201) 3 0 [] ∷
-    one "the first counts of the cases" (rounding 200 (0 ∷ 1 ∷ 2 ∷ 3 ∷ 5 ∷ 9 ∷ 17 ∷ 33 ∷ 65 ∷ 129 ∷ []))
-    (0 ∷ 1 ∷ 2 ∷ 4 ∷ 8 ∷ 16 ∷ 32 ∷ 64 ∷ 128 ∷ 200 ∷ []) ∷
-    one "the last counts of the cases" (rounding 200 (0 ∷ 1 ∷ 2 ∷ 4 ∷ 8 ∷ 16 ∷ 32 ∷ 64 ∷ 128 ∷ 200 ∷ []))
-    (0 ∷ 1 ∷ 2 ∷ 4 ∷ 8 ∷ 16 ∷ 32 ∷ 64 ∷ 128 ∷ 200 ∷ []) ∷
+    one "the first counts of the cases" (rounding 200 firstCounts) lastCounts ∷
+    one "the last counts of the cases" (rounding 200 lastCounts) lastCounts ∷
+    one "where the cases begin" (map (λ (c : Case). c .first) printedCases) firstCounts ∷
     one "cases held to a rack of 100" (rounding 100 (2 ∷ 33 ∷ 64 ∷ 65 ∷ 100 ∷ [])) (2 ∷ 64 ∷ 64 ∷ 100 ∷ 100 ∷ []) ∷
     one "no case after 200" (caseValue printedCases 201 ∷ []) (0 ∷ []) ∷
+    one "two cases, 5 in both" (map (caseValue (3 to 5 ∷ 5 to 8 ∷ [])) (2 ∷ 3 ∷ 5 ∷ 6 ∷ 9 ∷ [])) (0 ∷ 5 ∷ 5 ∷ 8 ∷ 0 ∷ []) ∷
     []
 
 -- Practice cards: the first draws of a start, whole cards, the byte after a card, refusals 14 and 10, and 14 before 10.
@@ -272,7 +279,8 @@ practiceRows =
 -- What is found is what is expected, computed through every definition.
 unfoldable pub agrees : Example → Bool
 unfolding sameLists sameList every allOf sum tabulate rows keep littleEndian bytesOf instanceOf cardBytes cardLength convexAt convex
-    neverFalls tableInRange pricesInRange loadsInRange canServe operatingCost allCounts powerOfTwo coarseCounts roundedCount printedCases caseValue roundedByCases stateAt
+    neverFalls tableInRange pricesInRange loadsInRange canServe operatingCost allCounts powerOfTwo coarseCounts roundedCount
+    printedCases caseValue roundedByCases stateAt
     sheetLength sheetEntries lightAt sheetLight stepCost changeCost sheetOperatingCost sheetSwitchingCost sheetCost leastOver firstOver
     leastFrom activeStep moduleByte slotRow sheetOf planCost planServes plansInOrder cheapest cheapestOf leastPlan allowedCounts
     workBytes plannedBy xorLeft xorRight draw drawn practiceDifference practiceEntry practiceShow rightLength entriesInRange loadsServed
