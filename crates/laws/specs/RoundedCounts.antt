@@ -73,16 +73,16 @@ next-power e k h =
     (λ (high : e < k). pow-le-pow-right (omega arith) high)
     (le-or-lt k e)
 
--- A case of a rack of top: it begins behind a power of two and ends at the next one, held to top.
+-- The case after a power of two: it begins just above it and ends at the next power, held to the largest rack.
 abbrev powerCase : ℕ → ℕ → Case
-powerCase top e = suc (2 ^ e) to min (2 ^ suc e) top
+powerCase largest e = suc (2 ^ e) to min (2 ^ suc e) largest
 
--- The j cases from that of e on.
+-- The j cases after the powers from 2 ^ e on.
 unfoldable powerCases : ℕ → ℕ → ℕ → List Case
-powerCases top e zero = []
-powerCases top e (suc j) = powerCase top e ∷ powerCases top (suc e) j
+powerCases largest e zero = []
+powerCases largest e (suc j) = powerCase largest e ∷ powerCases largest (suc e) j
 
--- The printed cases are 0, 1 and eight such cases of the largest rack.
+-- The printed cases are 0, 1 and eight such cases, of which the last is held to 200.
 printed-are : printedCases ≡ 0 to 0 ∷ 1 to 1 ∷ powerCases 200 0 8
 unfolding printedCases powerCases
 printed-are = refl
@@ -112,26 +112,27 @@ printed-later {n} h =
     rw (printed-are, in-later-case {n = n} (0 to 0) (1 to 1 ∷ powerCases 200 0 8) (omega arith))
     (in-later-case {n = n} (1 to 1) (powerCases 200 0 8) h)
 
--- A count in the case of i has that case's last count for value, and a count above top has 0.
-module _ (top : ℕ) {n : ℕ} where
+-- A count in the case after 2 ^ i has that case's last count for value, and a count above the largest rack has 0.
+module _ (largest : ℕ) {n : ℕ} where
   in-power-case :
-      (j e i : ℕ) → e ≤ i → i < e + j → 2 ^ i < n → n ≤ min (2 ^ suc i) top → min (2 ^ suc i) top ≡ caseValue (powerCases top e j) n
+      (j e i : ℕ) → e ≤ i → i < e + j → 2 ^ i < n → n ≤ min (2 ^ suc i) largest →
+      min (2 ^ suc i) largest ≡ caseValue (powerCases largest e j) n
   unfolding powerCases
   in-power-case zero e i from below low high = absurd (omega arith)
   in-power-case (suc j) e i from below low high =
       ⊎-elim
-      (λ (same : e ≡ i). rw same (sym (in-first-case {n = n} (powerCase top i) (powerCases top (suc i) j) low high)))
+      (λ (same : e ≡ i). rw same (sym (in-first-case {n = n} (powerCase largest i) (powerCases largest (suc i) j) low high)))
       (λ (later : e < i).
       let above = pow-le-pow-right {n = 2} (omega arith) later in
       in-power-case j (suc e) i later (omega arith) low high ∙
-      sym (in-later-case {n = n} (powerCase top e) (powerCases top (suc e) j) (omega arith)))
+      sym (in-later-case {n = n} (powerCase largest e) (powerCases largest (suc e) j) (omega arith)))
       (eq-or-lt-of-le from)
 
-  above-power-cases : (j e : ℕ) → top < n → 0 ≡ caseValue (powerCases top e j) n
+  above-power-cases : (j e : ℕ) → largest < n → 0 ≡ caseValue (powerCases largest e j) n
   unfolding powerCases caseValue
   above-power-cases zero e h = refl
   above-power-cases (suc j) e h =
-      above-power-cases j (suc e) h ∙ sym (in-later-case {n = n} (powerCase top e) (powerCases top (suc e) j) (omega arith))
+      above-power-cases j (suc e) h ∙ sym (in-later-case {n = n} (powerCase largest e) (powerCases largest (suc e) j) (omega arith))
 
 -- The same of the printed cases, which end at 200.
 pub printed-value : {n : ℕ} (i : ℕ) → i < 8 → 2 ^ i < n → n ≤ min (2 ^ suc i) 200 → min (2 ^ suc i) 200 ≡ caseValue printedCases n
@@ -141,26 +142,24 @@ printed-value i h low high =
 pub above-printed : {n : ℕ} → 200 < n → 0 ≡ caseValue printedCases n
 above-printed h = above-power-cases 200 8 0 h ∙ sym (printed-later (omega arith))
 
--- A count above 1 and not above 2 to the f stands between a power of two and the next.
-between-powers : (f : ℕ) {n : ℕ} → 1 < n → n ≤ 2 ^ f → (i : ℕ) × (i < f) × (2 ^ i < n) × (n ≤ 2 ^ suc i)
-between-powers zero some most = absurd (omega arith)
-between-powers (suc f) {n} some most =
+-- A number above 1 that is not above 2 ^ f is above one of the lower powers of two and not above the next.
+between-powers : {n : ℕ} (f : ℕ) → 1 < n → n ≤ 2 ^ f → (i : ℕ) × (i < f) × (2 ^ i < n) × (n ≤ 2 ^ suc i)
+between-powers zero some high = absurd (omega arith)
+between-powers {n} (suc f) some high =
     ⊎-elim
-    (λ (low : n ≤ 2 ^ f). let (i, within, above, upTo) = between-powers f some low in (i, omega arith, above, upTo))
-    (λ (high : 2 ^ f < n). (f, le-refl (suc f), high, most))
+    (λ (low : n ≤ 2 ^ f). let (i, below, above, most) = between-powers f some low in (i, omega arith, above, most))
+    (λ (above : 2 ^ f < n). (f, omega arith, above, high))
     (le-or-lt n (2 ^ f))
 
--- A number held to top and then to m, which is not above top, is held to m.
-held-twice : (a : ℕ) {m top : ℕ} → m ≤ top → min (min a top) m ≡ min a m
-held-twice a h = omega arith
-
--- 'decided by cases as printed .., then held to m. Answers are the same for all n and m.'
+-- 'decided by cases as printed .., then held to m. Answers are the same for all n and m': for a rack of at most 200 and a count of the
+-- rack the list gives the rounded count.
 pub rounded-by-cases : (m n : ℕ) → m ≤ 200 → n ≤ m → roundedByCases m n ≡ roundedCount m n
 unfolding roundedByCases
 rounded-by-cases m zero most fits =
     rw (sym printed-zero, zero-min m) (rounded-is fits (coarse-member m 0 .1 (fits, inl refl)) (le-refl 0) (λ a found h. h))
 rounded-by-cases m (suc zero) most fits = rw (sym printed-one) (first-power 0 (omega arith) fits (omega arith) (λ k h. h))
 rounded-by-cases m (suc (suc n)) most fits =
-    let (i, inside, above, upTo) = between-powers 8 {n = suc (suc n)} (omega arith) (omega arith) in
-    rw (sym (printed-value i inside above (le-min upTo (le-trans fits most))), held-twice (2 ^ suc i) most)
-    (first-power (suc i) (omega arith) fits upTo (λ k g. next-power i k (le-trans above g)))
+    let (i, below, low, high) = between-powers {n = suc (suc n)} 8 (omega arith) (omega arith) in
+    let held : min (min (2 ^ suc i) 200) m ≡ min (2 ^ suc i) m = omega arith in
+    rw (sym (printed-value {n = suc (suc n)} i below low (le-min high (le-trans fits most))), held)
+    (first-power (suc i) (omega arith) fits high (λ k h. next-power i k (omega arith)))
