@@ -1,28 +1,23 @@
-use Prim.Native.Nat.{_≤_}
-use mathlib.Core.Path.{sym, _∙_}
-use native.Mathlib.Nat.{min-eq-left, min-eq-right}
+use Prim.Native.Nat.{ℕ, min}
+use mathlib.Core.Path.{_≡_}
 use native.Mathlib.Omega.{arith}
 use borrow.Author.Needs.{needs}
-use Rattle.model.specs.Counts.{printedCases, caseValue, roundedByCases}
+use Rattle.model.specs.Counts.{roundedCount, printedCases, caseValue, roundedByCases}
 use Rattle.laws.specs.RoundedCounts.{rounded-by-cases}
+use Rattle.counts.specs.AllowedCounts.{RackCount}
 use Rattle.counts.proofs.rounded.Statement.{statement}
 use Rattle.counts.proofs.rounded.Tie as tie
 
-returns : tie.Need-returns
+-- The smaller of the case's value and the rack is the rounded count.
+held : {n m value : ℕ} → RackCount n m → value ≡ caseValue printedCases n → min value m ≡ roundedCount m n
 unfolding roundedByCases
-returns c =
-    let s = c .before .before in
-    let e = c .before .case-value .ensures in
-    let less : caseValue printedCases (s .args .count) ≤ s .args .modules = omega (arith, e, c .if1 .taken) in
-    e ∙ (sym (min-eq-left less) ∙ rounded-by-cases (s .args .modules) (s .args .count) (s .pre .most) (s .pre .in-rack))
+held {n} {m} pre e = rw e (rounded-by-cases m n (pre .most) (pre .in-rack))
+
+returns : tie.Need-returns
+returns c = omega (arith, held (c .before .before .pre) (c .before .case-value .ensures), c .if1 .taken)
 
 returns-2 : tie.Need-returns-2
-unfolding roundedByCases
-returns-2 c =
-    let s = c .before .before in
-    let e = c .before .case-value .ensures in
-    let full : s .args .modules ≤ caseValue printedCases (s .args .count) = omega (arith, e, c .if1 .left) in
-    sym (min-eq-right full) ∙ rounded-by-cases (s .args .modules) (s .args .count) (s .pre .most) (s .pre .in-rack)
+returns-2 c = omega (arith, held (c .before .before .pre) (c .before .case-value .ensures), c .if1 .left)
 
 pub rounded-spec : {M : Type 1} → statement M
 rounded-spec = tie.close (tie.spec (λ c κs. search needs) returns returns-2)
