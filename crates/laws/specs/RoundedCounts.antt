@@ -143,7 +143,7 @@ pub above-printed : {n : ℕ} → 200 < n → 0 ≡ caseValue printedCases n
 above-printed h = above-power-cases 200 8 0 h ∙ sym (printed-later (omega arith))
 
 -- A number above 1 that is not above 2 ^ f is above one of the lower powers of two and not above the next.
-between-powers : {n : ℕ} (f : ℕ) → 1 < n → n ≤ 2 ^ f → (i : ℕ) × (i < f) × (2 ^ i < n) × (n ≤ 2 ^ suc i)
+pub between-powers : {n : ℕ} (f : ℕ) → 1 < n → n ≤ 2 ^ f → (i : ℕ) × (i < f) × (2 ^ i < n) × (n ≤ 2 ^ suc i)
 between-powers zero some high = absurd (omega arith)
 between-powers {n} (suc f) some high =
     ⊎-elim

@@ -3,7 +3,7 @@ use Prim.Native.Nat.{ℕ, zero, suc, _+_, _*_, _^_, _≤_, _<_}
 use mathlib.Core.Path.{refl}
 use mathlib.Core.List.{List}
 use mathlib.Core.Logic.{inl, inr, ⊎-elim}
-use native.Mathlib.Nat.{le-refl, le-trans}
+use native.Mathlib.Nat.{le-refl, le-trans, le-of-lt}
 use native.Mathlib.Omega.{arith}
 use lib.ListN.{length, getD}
 use Rattle.lists.specs.Numbers.{le-or-lt}
@@ -11,7 +11,8 @@ use Rattle.lists.specs.Members.{InOrder, in-order-at, in-order-le}
 use Rattle.model.specs.Counts.{allCounts, coarseCounts}
 use Rattle.model.specs.Plans.{Member}
 use Rattle.model.specs.Planners.{Planner, exact, coarse, allowedCounts}
-use Rattle.laws.specs.CountMembers.{all-member, coarse-member, all-in-order, coarse-in-order}
+use Rattle.laws.specs.CountMembers.{below-power, all-member, coarse-member, all-in-order, coarse-in-order}
+use Rattle.laws.specs.RoundedCounts.{between-powers}
 use Rattle.columns.specs.Column.{countAtPlace, lastPlace, Ascending, GrowsBy}
 
 -- A list in order with 0 and m, and nothing above m, ascends from 0 to m.
@@ -56,11 +57,8 @@ next-least l order j n h (k, c, e) above =
 power-above : (c : ℕ) → (e : ℕ) × (c < 2 ^ e) × (2 ^ e ≤ 2 * (c + 1))
 power-above zero = (0, omega arith, omega arith)
 power-above (suc c) =
-    let (e, above, most) = power-above c in
-    ⊎-elim
-    (λ (low : 2 ^ e ≤ suc c). (suc e, omega arith, omega arith))
-    (λ (high : suc c < 2 ^ e). (e, high, omega arith))
-    (le-or-lt (2 ^ e) (suc c))
+    let (i, below, low, high) = between-powers (suc (suc c)) (omega arith) (le-of-lt (below-power (suc (suc c)))) in
+    (suc i, omega arith, omega arith)
 
 -- Each coarse count is at most twice one more than the one before.
 pub coarse-doubling : (m : ℕ) → 1 ≤ m → GrowsBy 2 (coarseCounts m)
