@@ -1,4 +1,3 @@
 pub mod Shares
 pub mod Powers
 pub mod CountsWritten
-pub mod Fronts

@@ -1,2 +1,3 @@
+mod Fronts
 mod Planned
 pub mod Planning

@@ -17,10 +17,10 @@ use Rattle.theory.specs.Condition3.{accepted-plannable, searched-plan}
 use Rattle.card.specs.declared.Header.{Header}
 use Rattle.card.specs.Checking.{Ready}
 use Rattle.counts.specs.AllowedCounts.{CountsRoom}
-use Rattle.counts.proofs.Fronts.{front-is}
 use Rattle.counts.proofs.CountsWritten.{coarse-ten}
 use Rattle.search.specs.SearchRequires.{Searchable}
 use Rattle.planners.specs.PlannerRequires.{Buffers, PlanOver, NumberRoom}
+use Rattle.planners.proofs.Fronts.{front-is}
 
 -- A cost and a plan are those of the least plan over counts, and the work bytes are cleared.
 abbrev pub LeastFound : Instance → (counts : List ℕ) → (cost : ℕ) → (plan work cleared : List ℕ) → Type 0
@@ -59,7 +59,7 @@ module _
     (k : Planner) {s : List ℕ} {h : Header} {plan work : List ℕ} (b : Buffers k s h plan work) (old : List ℕ) {new : List ℕ} {n : ℕ}
     (size : n ≡ length (allowedCounts k (h .modules))) (filled : new ≡ writtenOver (allowedCounts k (h .modules)) old) where
   front-planner : take n new ≡ allowedCounts k (instanceOf s .modules)
-  front-planner = front-is (allowedCounts k) _ old size filled ∙ ap (allowedCounts k) (b .ready .header .modules-is)
+  front-planner = front-is _ old size filled ∙ ap (allowedCounts k) (b .ready .header .modules-is)
 
   pub over-front : PlanOver s h (take n new) plan work
   over-front =

@@ -1,5 +1,5 @@
 use Rattle.model.specs.Planners.{allowedCounts}
-use Rattle.counts.proofs.Fronts.{front-within, front-length}
+use Rattle.planners.proofs.Fronts.{front-within, front-length}
 use Rattle.planners.proofs.Planned.{rack-fits, over-front, planned-front}
 use borrow.Author.Needs.{needs}
 use Rattle.planners.proofs.plan_with_counts.Statement.{statement}
@@ -9,10 +9,10 @@ fill-counts-requires : tie.Need-fill-counts-requires
 fill-counts-requires c κs = let start = c .before .before .before .before .before in rack-fits _ (start .pre .0 .ready) (start .pre .1)
 
 slice-reshare-prefix-least-over : tie.Need-slice-reshare-prefix-least-over
-slice-reshare-prefix-least-over c = let e = c .before .before .fill-counts .ensures in front-within (allowedCounts _) _ _ (e .0) (e .1)
+slice-reshare-prefix-least-over c = let e = c .before .before .fill-counts .ensures in front-within (allowedCounts _ _) _ (e .0) (e .1)
 
 slice-aggregate-least-over : tie.Need-slice-aggregate-least-over
-slice-aggregate-least-over c = let e = c .before .before .before .fill-counts .ensures in front-length (allowedCounts _) _ _ (e .0) (e .1)
+slice-aggregate-least-over c = let e = c .before .before .before .fill-counts .ensures in front-length (allowedCounts _ _) _ (e .0) (e .1)
 
 least-over-requires : tie.Need-least-over-requires
 least-over-requires c κs =

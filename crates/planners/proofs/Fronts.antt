@@ -1,0 +1,18 @@
+-- A list at the front of a longer one, where a filling function has left it.
+use Prim.Native.Nat.{ℕ, _≤_}
+use mathlib.Core.Path.{_≡_, sym, _∙_, ap}
+use mathlib.Core.List.{List}
+use native.Mathlib.Omega.{arith}
+use lib.ListN.{length, take, drop, length-append}
+use lib.Seq.{take-at}
+use Rattle.lists.specs.Lists.{writtenOver}
+
+module _ (l old : List ℕ) {new : List ℕ} {r : ℕ} (size : r ≡ length l) (filled : new ≡ writtenOver l old) where
+  pub front-is : take r new ≡ l
+  front-is = rw filled (take-at l (drop (length l) old) r (sym size))
+
+  pub front-within : r ≤ length new
+  front-within = omega (arith, ap length filled, length-append l (drop (length l) old))
+
+  pub front-length : r ≡ length (take r new)
+  front-length = size ∙ sym (ap length front-is)
