@@ -91,7 +91,7 @@ pub fn fill_counts(kind: PlannerKind, counts: &mut [u64], m: u64) -> usize
     }
 }
 
-// The value of the count's case in the course book's list (02 §6): the case's last count. The list ends at 200, and above it there is none.
+// The value of the count's case in the course book's list (02 §6): the case's last count. A count above 200 is in no case and gets 0.
 fn case_value(count: u64) -> u64
     ensures { λ r. ⌜ r ≡ caseValue printedCases count ⌝ }
 {
@@ -110,8 +110,8 @@ fn case_value(count: u64) -> u64
     }
 }
 
-// Rounded count: the smallest coarse count of the rack that is not below the count. By the list it is the smaller of the case's value
-// and the rack.
+// Rounded count: the smallest coarse count of the rack that is not below the count. The list decides it: it is the smaller of the case's
+// value and the rack.
 pub fn rounded(count: u64, modules: u64) -> u64
     requires { ⌜ RackCount count modules ⌝ }
     ensures { λ r. ⌜ r ≡ roundedCount modules count ⌝ }

@@ -1,4 +1,5 @@
--- Counts of active modules: their operating cost, and which counts are allowed (document 01, 'Running cost of a count', 'The plans'; 02 §2).
+-- Counts of active modules: their operating cost, which counts are allowed, and the rounded count, also by the course book's list (document
+-- 01, 'Running cost of a count', 'The plans'; 02 §2, §6).
 use Prim.Native.Nat.{ℕ, _+_, _-_, _*_, _/_, _%_, _^_, min}
 use mathlib.Core.Bool.{Bool, cond, _&&_, _||_}
 use mathlib.Core.List.{List, [], _∷_, headD}
@@ -45,6 +46,7 @@ pub record Case : Type 0 where
   pub first : ℕ
   pub last : ℕ
 
+-- A case as it is printed. A count printed alone is the case from it to itself.
 infix 70 _to_
 abbrev pub _to_ : ℕ → ℕ → Case
 _to_ a b = record { first = a; last = b }
@@ -54,11 +56,11 @@ unfoldable pub printedCases : List Case
 printedCases =
     0 to 0 ∷ 1 to 1 ∷ 2 to 2 ∷ 3 to 4 ∷ 5 to 8 ∷ 9 to 16 ∷ 17 to 32 ∷ 33 to 64 ∷ 65 to 128 ∷ 129 to 200 ∷ []
 
--- The value of the case in which n stands: its last count. It is 0 where n stands in no case.
+-- The value of the first case in which n stands: its last count. It is 0 where n stands in no case.
 unfoldable pub caseValue : List Case → ℕ → ℕ
 caseValue [] n = 0
 caseValue (c ∷ cs) n = cond (leb (c .first) n && leb n (c .last)) (c .last) (caseValue cs n)
 
--- 'The rounded count is to be decided by cases as printed .., then held to m.' For n above m it means nothing.
+-- 'The rounded count is to be decided by cases as printed .., then held to m.' For n above m, and for m above 200, it means nothing.
 unfoldable pub roundedByCases : ℕ → ℕ → ℕ
 roundedByCases m n = min (caseValue printedCases n) m
