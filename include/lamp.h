@@ -605,7 +605,7 @@ struct lamp_answer lamp_mark(const uint8_t *card, size_t card_len, const uint8_t
 /* The rounded count: the smallest count not below `count` that lamp_plan_coarse may use in a rack of
  * `modules` modules, which is 0, a power of two, or `modules` itself. It takes no card.
  *
- * The course book has it as a list of cases. The value of a case is its last number:
+ * The operators' course book prints it as a list of cases. The value of a case is its last number:
  *
  *   count        value
  *   0            0
@@ -619,9 +619,9 @@ struct lamp_answer lamp_mark(const uint8_t *card, size_t card_len, const uint8_t
  *   65 to 128    128
  *   129 to 200   200
  *
- * The rounded count is the smaller of the case's value and `modules`. So count 70 gives 128 in a rack of
- * 200 modules and 100 in a rack of 100 modules, and a count above 128 always gives `modules`. It is proved
- * that this is the smallest count described above, wherever the call does not refuse.
+ * Where the call does not refuse, the rounded count is the smaller of the case's value and `modules`. So
+ * count 70 gives 128 in a rack of 200 modules and 100 in a rack of 100 modules, and a count above 128 gives
+ * `modules`. It is proved that this is the smallest count described above.
  *
  * Reads:     nothing.
  * Writes:    nothing.

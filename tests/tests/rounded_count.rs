@@ -69,8 +69,7 @@ fn every_pair_by_the_list() {
     for modules in 0..=201 {
         for count in 0..=202 {
             let found = rounded_count(count, modules);
-            assert_eq!(found, plain::rounded_count(count, modules), "by search: count {count}, modules {modules}");
-            assert_eq!(found, by_the_list(count, modules), "by the list: count {count}, modules {modules}");
+            assert_eq!(found, by_the_list(count, modules), "count {count}, modules {modules}");
             classes.see_number(found.number);
             if found.number == 0 {
                 let case = case_of(count);

@@ -33,8 +33,8 @@ The modules share LOAD as evenly as steps go. Each is at its share, or at a high
 
 const ALLOWED: &str = "\
 The allowed counts are 0, the powers of two up to MODULES, and MODULES. So COUNT is rounded to the last number of
-its case: 0, 1, 2, 3 to 4, 5 to 8, 9 to 16, 17 to 32, 33 to 64, 65 to 128, 129 to 200; or to MODULES, if that
-number is above MODULES.
+its case in the course book's list: 0, 1, 2, 3 to 4, 5 to 8, 9 to 16, 17 to 32, 33 to 64, 65 to 128, 129 to 200;
+or to MODULES, if that number is above MODULES. MODULES is 1 to 200 and COUNT is 0 to MODULES, digits alone.
     lamp round 70 200    # 128
     lamp round 70 100    # 100";
 

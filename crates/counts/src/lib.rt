@@ -110,8 +110,8 @@ fn case_value(count: u64) -> u64
     }
 }
 
-// Rounded count: the smallest coarse count of the rack that is not below the count. The list decides it: it is the smaller of the case's
-// value and the rack.
+// Rounded count: the smallest coarse count of the rack that is not below the count. It is decided by the list, as the smaller of the case's
+// value and the number of modules.
 pub fn rounded(count: u64, modules: u64) -> u64
     requires { ⌜ RackCount count modules ⌝ }
     ensures { λ r. ⌜ r ≡ roundedCount modules count ⌝ }
