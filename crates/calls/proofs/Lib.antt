@@ -1,4 +1,3 @@
 mod RunningCost
-mod RoundedCount
 mod Marking
 mod Making

@@ -14,3 +14,4 @@ pub mod LeastSteps
 pub mod Operating
 pub mod CountMembers
 pub mod RoundedCounts
+pub mod RoundedAnswers

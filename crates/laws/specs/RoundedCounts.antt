@@ -5,8 +5,7 @@ use mathlib.Core.Path.{_≡_, refl, sym, _∙_}
 use mathlib.Core.Bool.{and-false}
 use mathlib.Core.List.{List, [], _∷_}
 use mathlib.Core.Logic.{_⊎_, inl, inr, ⊎-elim}
-use native.Mathlib.Nat.{le-refl, le-trans, le-of-lt, le-antisymm, eq-or-lt-of-le, one-le-pow, pow-le-pow-right}
-use native.Mathlib.Nat.{zero-min, le-min, min-le-left, min-le-right, min-eq-left, min-eq-right}
+use native.Mathlib.Nat.{le-refl, le-of-lt, le-antisymm, eq-or-lt-of-le, one-le-pow, pow-le-pow-right, zero-min, min-eq-left, min-eq-right}
 use native.Mathlib.Omega.{arith}
 use lib.ListN.{getD}
 use lib.Dec.{leb}
@@ -48,7 +47,7 @@ rounded-is {m} {n} {v} h stands above least =
 -- The first power of two not below n, held to m, is the rounded count.
 first-power :
     {m n : ℕ} (e : ℕ) → 1 ≤ n → n ≤ m → n ≤ 2 ^ e → ((k : ℕ) → n ≤ 2 ^ k → 2 ^ e ≤ 2 ^ k) → min (2 ^ e) m ≡ roundedCount m n
-first-power {m} {n} e some fits above first = rounded-is fits stands (le-min above fits) least
+first-power {m} {n} e some fits above first = rounded-is fits stands (omega arith) least
   where
     stands : Member (min (2 ^ e) m) (coarseCounts m)
     stands =
@@ -62,8 +61,8 @@ first-power {m} {n} e some fits above first = rounded-is fits stands (le-min abo
       where
         go : (a ≡ 0) ⊎ ((a ≡ m) ⊎ ((k : ℕ) × (a ≡ 2 ^ k))) → min (2 ^ e) m ≤ a
         go (inl z) = absurd (omega arith)
-        go (inr (inl full)) = rw full (min-le-right (2 ^ e) m)
-        go (inr (inr (k, power))) = le-trans (min-le-left (2 ^ e) m) (rw power (first k (rw power at h)))
+        go (inr (inl full)) = omega arith
+        go (inr (inr (k, power))) = omega (arith, first k (omega arith))
 
 -- Between a power of two and the next there is none.
 next-power : (e k : ℕ) → 2 ^ e < 2 ^ k → 2 ^ suc e ≤ 2 ^ k
@@ -161,5 +160,5 @@ rounded-by-cases m (suc zero) most fits = rw (sym printed-one) (first-power 0 (o
 rounded-by-cases m (suc (suc n)) most fits =
     let (i, below, low, high) = between-powers {n = suc (suc n)} 8 (omega arith) (omega arith) in
     let held : min (min (2 ^ suc i) 200) m ≡ min (2 ^ suc i) m = omega arith in
-    rw (sym (printed-value {n = suc (suc n)} i below low (le-min high (le-trans fits most))), held)
+    rw (sym (printed-value {n = suc (suc n)} i below low (omega arith)), held)
     (first-power (suc i) (omega arith) fits high (λ k h. next-power i k (omega arith)))

@@ -1,8 +1,18 @@
-use Rattle.lists.specs.Tests.{test-failed, test-passed}
-use Rattle.calls.proofs.RoundedCount.{round-rack, round-entry, rack-count, round-cost}
+use Prim.Native.Nat.{ℕ, _≤_}
+use mathlib.Core.Path.{_≡_}
+use mathlib.Core.Bool.{true}
 use borrow.Author.Needs.{needs}
+use Rattle.lists.specs.Tests.{test-failed, test-passed}
+use Rattle.model.specs.Instance.{rackNumber}
+use Rattle.laws.specs.Acceptance.{rack-range}
+use Rattle.laws.specs.RoundedAnswers.{round-rack, round-entry, round-cost}
+use Rattle.counts.specs.AllowedCounts.{RackCount}
 use Rattle.calls.proofs.rounded_count.Statement.{statement}
 use Rattle.calls.proofs.rounded_count.Tie as tie
+
+-- A count that passes both tests is a count of a rack.
+rack-count : {n m : ℕ} → rackNumber m ≡ true → n ≤ m → RackCount n m
+rack-count {m = m} right few = let (some, most) = rack-range m right in record { some = some; most = most; in-rack = few }
 
 rack-number-requires : tie.Need-rack-number-requires
 rack-number-requires c κs = search needs

@@ -1,0 +1,44 @@
+-- The answer of the rounded count's call, by its tests, and that it is what the course book's list of cases gives (02 §6).
+use Prim.Native.Nat.{ℕ, _≤_, _<_}
+use mathlib.Core.Path.{_≡_, sym, ap}
+use mathlib.Core.Bool.{true, false, cond}
+use mathlib.Core.Logic.{⊎-elim}
+use lib.Dec.{leb}
+use borrow.Author.Tests.{le-leb, lt-leb}
+use Rattle.lists.specs.Numbers.{le-or-lt, true-or-false}
+use Rattle.lists.specs.Tests.{allOf}
+use Rattle.model.specs.declared.Refusal.the-variants.{RackSize, EntryRange}
+use Rattle.model.specs.declared.Answer.the-variants.{Cost, Refused}
+use Rattle.model.specs.Instance.{rackNumber}
+use Rattle.model.specs.Counts.{roundedCount, roundedByCases}
+use Rattle.model.specs.Calls.{roundCount, requestOf, refusals, applies, entriesInRange, firstRefusal, successCost, answer}
+use Rattle.laws.specs.Acceptance.{rack-range}
+use Rattle.laws.specs.RoundedCounts.{rounded-by-cases}
+
+module _ (n m : ℕ) where
+  pub round-rack : rackNumber m ≡ false → Refused RackSize ≡ answer (roundCount n m)
+  unfolding answer requestOf refusals firstRefusal applies allOf
+  round-rack wrong = rw wrong
+
+  module _ (right : rackNumber m ≡ true) where
+    pub round-entry : m < n → Refused EntryRange ≡ answer (roundCount n m)
+    unfolding answer requestOf refusals firstRefusal applies allOf entriesInRange
+    round-entry many = rw (right, lt-leb n m many)
+
+    pub round-cost : n ≤ m → {x : ℕ} → x ≡ roundedCount m n → Cost x ≡ answer (roundCount n m)
+    unfolding answer requestOf refusals firstRefusal applies allOf entriesInRange successCost
+    round-cost few e = rw (right, le-leb n m few) (ap Cost e)
+
+-- 'Answers are the same for all n and m': 3 for a rack outside 1 to 200, then 12 for a count above the rack, then what the list gives.
+pub answered-by-cases :
+    (n m : ℕ) →
+    answer (roundCount n m) ≡ cond (rackNumber m) (cond (leb n m) (Cost (roundedByCases m n)) (Refused EntryRange)) (Refused RackSize)
+answered-by-cases n m =
+    ⊎-elim
+    (λ (right : rackNumber m ≡ true).
+    ⊎-elim
+    (λ (few : n ≤ m). rw (right, le-leb n m few) (sym (round-cost n m right few (rounded-by-cases m n (rack-range m right .1) few))))
+    (λ (many : m < n). rw (right, lt-leb n m many) (sym (round-entry n m right many)))
+    (le-or-lt n m))
+    (λ (wrong : rackNumber m ≡ false). rw wrong (sym (round-rack n m wrong)))
+    (true-or-false (rackNumber m))
