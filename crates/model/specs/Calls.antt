@@ -1,5 +1,5 @@
 -- Every call's whole outcome: its answer, and the bytes of each lent buffer at exit (document 01, 'Refused', 'The plans'; 02 §1, §2,
--- §4, §5).
+-- §4, §5, §7).
 use Prim.Native.Nat.{ℕ, _*_}
 use mathlib.Core.Path.{_≡_}
 use mathlib.Core.Bool.{Bool, true, false, cond, not, _||_}
@@ -15,13 +15,15 @@ use Rattle.model.specs.declared.Refusal.the-variants.{LoadRange, NotMono
 use Rattle.model.specs.declared.Refusal.the-variants.{ZeroStart, NotPermitted, SeatUnavailable, AllowanceSpent}
 use Rattle.model.specs.declared.Answer.{Answer}
 use Rattle.model.specs.declared.Answer.the-variants.{Cost, Refused}
-use Rattle.model.specs.Answers.{numberOf, costOf}
+use Rattle.model.specs.declared.Points.{Points}
+use Rattle.model.specs.Answers.{refusalNumber, numberOf, costOf}
 use Rattle.model.specs.Instance.{Instance, instanceOf, headLength, markOf, cardMark, versionOf, cardVersion, cardLength, cardBytes}
 use Rattle.model.specs.Instance.{tableSize, rackNumber, convex, neverFalls, pricesInRange, loadsInRange}
 use Rattle.model.specs.Counts.{canServe, operatingCost, roundedCount}
 use Rattle.model.specs.Sheets.{sheetLength, sheetEntries, sheetLight, sheetCost}
 use Rattle.model.specs.Plans.{planServes, planCost, sheetOf}
 use Rattle.model.specs.Planners.{Planner, exact, workBytes, plannedBy, plannedCost}
+use Rattle.model.specs.Explanation.{excessOperatingCost, excessSwitchingCost, excessOfCounts}
 use Rattle.model.specs.Practice.{practiceShow}
 use Rattle.model.specs.Catalogue.{catalogueBytes}
 use Rattle.model.specs.declared.Seat.{Seat}
@@ -41,6 +43,7 @@ pub data Call : Type 0 where
   roundCount : (count modules : ℕ) → Call
   practiceCard : (start : ℕ) (card : List ℕ) → Call
   catalogueTable : (top : ℕ) (table : List ℕ) → Call
+  explainSheet : (card sheet work : List ℕ) → Call
   actIn : (sitting : Sitting) (seats : List Seat) (act : Act) → Call
 
 -- What a call is asked about: a count and a load, a plan or a sheet, each handed in with a card, a count in a rack of a given size, or
@@ -141,6 +144,7 @@ buffersOf (markSheet c s) = []
 buffersOf (roundCount n m) = []
 buffersOf (practiceCard s c) = cardBuffer (practiceShow s) c ∷ []
 buffersOf (catalogueTable q f) = tableBuffer q f ∷ []
+buffersOf (explainSheet c s w) = workBuffer exact (instanceOf c) w ∷ []
 buffersOf (actIn z xs a) = actBuffers a
 
 -- One of the buffers is too short. Refusal 10: 'a lent area shorter than asked for'.
@@ -213,6 +217,7 @@ requestOf (markSheet c s) = onCard c [] (sheet s)
 requestOf (roundCount n m) = onRack n m
 requestOf (practiceCard s c) = onStart s (buffersOf (practiceCard s c))
 requestOf (catalogueTable q f) = onTop q (buffersOf (catalogueTable q f))
+requestOf (explainSheet c s w) = onCard c (buffersOf (explainSheet c s w)) (sheet s)
 requestOf (actIn z xs a) = actRequest (factsOf (stateOf z xs)) a
 
 -- The show that a request's card says.
@@ -257,7 +262,8 @@ actRefusals (readUsed d) = NotPermitted ∷ []
 
 -- The refusals of each call, in the order in which they are tested: 'Running cost adds 12 and 13; the sheet adds 10 to 13; marking adds 11
 -- to 13; the two planners add 10'; 'the coarse planner takes every accepted table and 9 is never given' (02 §2); a practice card '14, before
--- 10' (02 §1); of the catalogue module's table 'Q outside 1 to 200 gets 3, a short area 10' (02 §5).
+-- 10' (02 §1); of the catalogue module's table 'Q outside 1 to 200 gets 3, a short area 10' (02 §5); the explanation of a sheet
+-- adds marking's 11 to 13, and 'takes the exact planner's work area; one too short gets 10' (02 §7).
 unfoldable pub refusals : Call → List Refusal
 refusals (checkCard c) = cardRefusals
 refusals (runningCost c n l) = cardRefusals ++ (EntryRange ∷ LoadNotServed ∷ [])
@@ -267,6 +273,7 @@ refusals (markSheet c s) = cardRefusals ++ (WrongLength ∷ EntryRange ∷ LoadN
 refusals (roundCount n m) = RackSize ∷ EntryRange ∷ []
 refusals (practiceCard s c) = ZeroStart ∷ BufferTooShort ∷ []
 refusals (catalogueTable q f) = RackSize ∷ BufferTooShort ∷ []
+refusals (explainSheet c s w) = cardRefusals ++ (BufferTooShort ∷ WrongLength ∷ EntryRange ∷ LoadNotServed ∷ [])
 refusals (actIn z xs a) = actRefusals a
 
 -- A submission has an order of its own: 17 stands before 11.
@@ -290,6 +297,7 @@ ownOrder (markSheet c s) = false
 ownOrder (roundCount n m) = false
 ownOrder (practiceCard s c) = true
 ownOrder (catalogueTable q f) = false
+ownOrder (explainSheet c s w) = false
 ownOrder (actIn z xs a) = actOwnOrder a
 
 -- The first refusal of a list that applies, or else the given answer. In an ascending list it is the lowest one: 'Of several, the lowest
@@ -320,6 +328,7 @@ successCost (markSheet c s) = sheetCost (instanceOf c) s
 successCost (roundCount n m) = roundedCount m n
 successCost (practiceCard s c) = 0
 successCost (catalogueTable q f) = 0
+successCost (explainSheet c s w) = 0
 successCost (actIn z xs a) = actCost (factsOf (stateOf z xs)) a
 
 -- The answer of a call.
@@ -364,6 +373,10 @@ cardAtExit c = getD (buffersAtExit c) 0 []
 unfoldable pub tableAtExit : Call → List ℕ
 tableAtExit c = getD (buffersAtExit c) 0 []
 
+-- The work buffer of an explanation at exit, which is the only one lent to it.
+unfoldable pub explainedWork : Call → List ℕ
+explainedWork c = getD (buffersAtExit c) 0 []
+
 -- The whole outcome: number and cost, then each lent buffer in the order of the parameters.
 unfoldable pub outcome : Call → List (List ℕ)
 outcome c = (numberOf (answer c) ∷ costOf (answer c) ∷ []) ∷ buffersAtExit c
@@ -376,3 +389,13 @@ pub record NumbersOf (a : Answer) (number cost : ℕ) : Type 0 where
 -- What a contract says of a result's two numbers: they are those of the call's answer.
 abbrev pub Gives : Call → (number cost : ℕ) → Type 0
 Gives c = NumbersOf (answer c)
+
+-- What the explanation of a sheet returns with an answer: with a success the three numbers of 02 §7; 'Refused, all three are 0.'
+unfoldable pub pointsWith : Answer → Instance → (sheet : List ℕ) → Points
+pointsWith (Cost n) i s =
+    record { number = 0; spread = excessOperatingCost i s; swaps = excessSwitchingCost i s; counts = excessOfCounts i s }
+pointsWith (Refused x) i s = record { number = refusalNumber x; spread = 0; swaps = 0; counts = 0 }
+
+-- What the explanation of a sheet returns.
+unfoldable pub pointsOf : (card sheet work : List ℕ) → Points
+pointsOf c s w = pointsWith (answer (explainSheet c s w)) (instanceOf c) s

@@ -8,6 +8,7 @@ pub mod Sheets
 pub mod Thesis
 pub mod Plans
 pub mod Planners
+pub mod Explanation
 pub mod Practice
 pub mod Catalogue
 pub mod Acts
@@ -21,3 +22,4 @@ pub mod Examples
 pub mod RelatedExamples
 pub mod SittingExamples
 pub mod CatalogueExamples
+pub mod ExplanationExamples

@@ -1,7 +1,8 @@
 -- What the contracts of the calls promise beyond their outcome, about the call's own number and cost and its own bytes at exit: of the
 -- sheet call, marking and the planners conditions 2 and 3 of the tender, where the sheets are all lists that serve, of the practice call
--- what document 02, §1, says of its cards, of reading the least cost what §4 says of it, and of the catalogue call what its bytes are in a card.
-use Prim.Native.Nat.{ℕ, _*_, _≤_}
+-- what document 02, §1, says of its cards, of reading the least cost what §4 says of it, of the catalogue call what its bytes are in a card, and of the explanation of
+-- a sheet what §7 says of its three numbers.
+use Prim.Native.Nat.{ℕ, _+_, _*_, _≤_}
 use mathlib.Core.Path.{_≡_}
 use mathlib.Core.Bool.{true, false}
 use mathlib.Core.List.{List, [], _∷_, _++_}
@@ -12,11 +13,13 @@ use Rattle.model.specs.declared.Refusal.the-variants.{NotACard, Version,
 use Rattle.model.specs.declared.Answer.the-variants.{Cost}
 use Rattle.model.specs.declared.Sitting.{Sitting}
 use Rattle.model.specs.declared.Reply.{Reply}
-use Rattle.model.specs.Answers.{numberOf}
+use Rattle.model.specs.declared.Points.{Points}
+use Rattle.model.specs.Answers.{numberOf, costOf}
 use Rattle.model.specs.Instance.{instanceOf, headLength, cardLength, tableSize, tableOf, tableInRange, neverFalls, priceBound}
-use Rattle.model.specs.Sheets.{serves, sheetCost}
-use Rattle.model.specs.Plans.{sheetOf}
-use Rattle.model.specs.Planners.{Planner, workBytes}
+use Rattle.model.specs.Sheets.{serves, sheetOperatingCost, sheetSwitchingCost, sheetCost, countsOf}
+use Rattle.model.specs.Plans.{sheetOf, planCost}
+use Rattle.model.specs.Planners.{Planner, exact, workBytes, plannedCost}
+use Rattle.model.specs.Explanation.{countsOperatingCost, countsSwitchingCost, NoBetterSpread, NoBetterChoice, NoBetterPlan}
 use Rattle.model.specs.Practice.{longestPractice}
 use Rattle.model.specs.Catalogue.{catalogueEntry}
 use Rattle.model.specs.Calls.{answer, Accepted, checkCard, planShow, markSheet, sheetBytes, requestOf, applies, firstRefusal}
@@ -106,3 +109,37 @@ pub record WritesTable (top : ℕ) (area : List ℕ) (number : ℕ) : Type 0 whe
   pub behind-head :
       number ≡ 0 → (head loads : List ℕ) → length head ≡ headLength → instanceOf head .topStep ≡ top →
       HasCatalogueTable (head ++ (take (tableSize top) area ++ loads))
+
+-- 'for each sheet that marking accepts' (02 §7): an explanation gives number 0 for these, with a work buffer that is long enough, and for no
+-- others.
+abbrev pub ExplainsMarked : (card sheet work : List ℕ) → (number : ℕ) → Type 0
+ExplainsMarked card sheet work number =
+    number ≡ 0 ↔ ((numberOf (answer (markSheet card sheet)) ≡ 0) × (workBytes exact (instanceOf card) ≤ length work))
+
+-- 'None is negative' (02 §7): each number is a whole difference, of which nothing is cut off.
+pub record NoneNegative (card sheet : List ℕ) (points : Points) : Type 0 where
+  pub spread-whole :
+      points .number ≡ 0 →
+      countsOperatingCost (instanceOf card) (countsOf (instanceOf card) sheet) + points .spread ≡ sheetOperatingCost (instanceOf card) sheet
+  pub swaps-whole :
+      points .number ≡ 0 →
+      countsSwitchingCost (instanceOf card) (countsOf (instanceOf card) sheet) + points .swaps ≡ sheetSwitchingCost (instanceOf card) sheet
+  pub counts-whole :
+      points .number ≡ 0 →
+      plannedCost exact (instanceOf card) + points .counts ≡ planCost (instanceOf card) (countsOf (instanceOf card) sheet)
+
+-- 'together they are the cost above the least' (02 §7): the exact planner's cost, with all buffers that are long enough, and the three numbers
+-- are the cost that marking gives.
+abbrev pub AboveLeast : (card sheet : List ℕ) → Points → Type 0
+AboveLeast card sheet points =
+    points .number ≡ 0 →
+    WithRoom exact card
+    (λ plan work.
+    costOf (answer (planShow exact card plan work)) + (points .spread + points .swaps + points .counts) ≡
+    costOf (answer (markSheet card sheet)))
+
+-- 'Each is zero exactly if changing that one thing alone saves nothing' (02 §7).
+pub record ZeroExactly (card sheet : List ℕ) (points : Points) : Type 0 where
+  pub spread-zero : points .number ≡ 0 → points .spread ≡ 0 ↔ NoBetterSpread (instanceOf card) sheet
+  pub swaps-zero : points .number ≡ 0 → points .swaps ≡ 0 ↔ NoBetterChoice (instanceOf card) sheet
+  pub counts-zero : points .number ≡ 0 → points .counts ≡ 0 ↔ NoBetterPlan (instanceOf card) sheet

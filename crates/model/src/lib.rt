@@ -72,3 +72,13 @@ pub struct Reply {
     pub marked: u64,
     pub sitting: Sitting,
 }
+
+// What the explanation of a sheet returns (02 §7): a refusal's number and three times 0, or number 0 and where the points above the least cost
+// went, in the paragraph's words: spread, swaps, counts.
+#[repr(C)]
+pub struct Points {
+    pub number: u64,
+    pub spread: u64,
+    pub swaps: u64,
+    pub counts: u64,
+}

@@ -1,0 +1,1 @@
+-- Examples of document 02, §7.
