@@ -390,11 +390,15 @@ pub record NumbersOf (a : Answer) (number cost : ℕ) : Type 0 where
 abbrev pub Gives : Call → (number cost : ℕ) → Type 0
 Gives c = NumbersOf (answer c)
 
--- What the explanation of a sheet returns with an answer: with a success the three numbers of 02 §7; 'Refused, all three are 0.'
+-- What a refused explanation returns: 'Refused, all three are 0.'
+abbrev pub noPoints : Refusal → Points
+noPoints x = record { number = refusalNumber x; spread = 0; swaps = 0; counts = 0 }
+
+-- What the explanation of a sheet returns with an answer: with a success the three numbers of 02 §7.
 unfoldable pub pointsWith : Answer → Instance → (sheet : List ℕ) → Points
 pointsWith (Cost n) i s =
     record { number = 0; spread = excessOperatingCost i s; swaps = excessSwitchingCost i s; counts = excessOfCounts i s }
-pointsWith (Refused x) i s = record { number = refusalNumber x; spread = 0; swaps = 0; counts = 0 }
+pointsWith (Refused x) i s = noPoints x
 
 -- What the explanation of a sheet returns.
 unfoldable pub pointsOf : (card sheet work : List ℕ) → Points

@@ -22,10 +22,6 @@ use Rattle.sheets.specs.SheetRequires.{SheetSized}
 unfoldable pub stateBefore : ℕ → List ℕ → ℕ → ℕ
 stateBefore m s x = cond (ltb x m) off (getD s (x - m) 0)
 
--- Row t of rows of m bytes, as the code lends it.
-abbrev lentRow : ℕ → ℕ → List ℕ → List ℕ
-lentRow m t s = midOf (t * m) (t * m + m - t * m) s
-
 module _ (i : Instance) (s : List ℕ) (size : length s ≡ i .modules * i .slots) where
   place-within : (t k : ℕ) → t < i .slots → k < i .modules → t * i .modules + k < length s
   place-within t k h g = omega (arith, size, digits-lt h g)
@@ -44,19 +40,27 @@ module _ (i : Instance) (s : List ℕ) (size : length s ≡ i .modules * i .slot
       let place : suc t * i .modules + k - i .modules ≡ t * i .modules + k = omega arith in
       rw (le-ltb (suc t * i .modules + k) (i .modules) later, place) (sym (state-is t k (omega arith) g))
 
-  -- A row's light is that of its slot.
-  row-light-is : {m t : ℕ} → m ≡ i .modules → t < i .slots → rowLight (lentRow m t s) ≡ lightAt i s (suc t)
-  unfolding rowLight lightAt
-  row-light-is {m} {t} m-is h =
-      let count = part-length _ _ s (row-within (i .modules) h (omega (arith, size))) in
-      rw (m-is, count) (sum-ext (i .modules) (λ k g. ap stepOf (part-at _ _ s k 0 (omega arith) ∙ sym (state-is t k h g))))
+  -- The m bytes from the place of slot t on are the states of that slot.
+  module _ {a m t : ℕ} (m-is : m ≡ i .modules) (a-is : a ≡ t * i .modules) (h : t < i .slots) where
+    pub row-length : length (midOf a (a + m - a) s) ≡ i .modules
+    row-length = part-length a m s (rw (m-is, a-is) (row-within (i .modules) h (omega (arith, size)))) ∙ m-is
+
+    pub row-at : (k : ℕ) → k < i .modules → getD (midOf a (a + m - a) s) k 0 ≡ stateAt i s (suc t) k
+    row-at k g = part-at a (a + m) s k 0 (omega arith) ∙ rw a-is (sym (state-is t k h g))
+
+    -- A row's light is that of its slot.
+    row-light-is : rowLight (midOf a (a + m - a) s) ≡ lightAt i s (suc t)
+    unfolding rowLight lightAt
+    row-light-is = rw row-length (sum-ext (i .modules) (λ k g. ap stepOf (row-at k g)))
 
 -- The test of a slot's light against its load.
 module _
     {s : List ℕ} {h : Header} {sheet : List ℕ} (given : SheetSized s h sheet) {t : ℕ} (below : t < h .slots) {x y : ℕ}
-    (x-is : x ≡ rowLight (lentRow (h .modules) t sheet)) (y-is : y ≡ instanceOf s .load t) where
+    (x-is : x ≡ rowLight (midOf (t * h .modules) (t * h .modules + h .modules - t * h .modules) sheet)) (y-is : y ≡ instanceOf s .load t) where
   light-is : x ≡ lightAt (instanceOf s) sheet (suc t)
-  light-is = x-is ∙ row-light-is (instanceOf s) sheet (given .size) (given .ready .header .modules-is) (omega arith)
+  light-is =
+      let m = given .ready .header .modules-is in
+      x-is ∙ row-light-is (instanceOf s) sheet (given .size) m (ap (λ (n : ℕ). t * n) m) (omega arith)
 
   pub light-failed : x < y → leb (instanceOf s .load t) (lightAt (instanceOf s) sheet (suc t)) ≡ false
   light-failed less = rw (← light-is, ← y-is) (lt-leb y x less)
