@@ -18,8 +18,8 @@ use Rattle.model.specs.declared.Refusal.{Refusal}
 use Rattle.model.specs.declared.Answer.{Answer}
 use Rattle.model.specs.declared.Answer.the-variants.{Cost, Refused}
 use Rattle.model.specs.Answers.{refusalNumber, numberOf}
-use Rattle.model.specs.Calls.{Call, checkCard, runningCost, planShow, makeSheet, markSheet, roundCount, practiceCard, catalogueTable, actIn}
-use Rattle.model.specs.Calls.{ownOrder, actRefusals, actOwnOrder}
+use Rattle.model.specs.Calls.{Call, checkCard, runningCost, planShow, makeSheet, markSheet, roundCount, practiceCard, catalogueTable}
+use Rattle.model.specs.Calls.{explainSheet, actIn, ownOrder, actRefusals, actOwnOrder}
 use Rattle.model.specs.Acts.{Act, openSitting, seatCandidate, closeSitting, submitSheet, readLeast, readLowest, readUsed}
 use Rattle.model.specs.Calls.{requestOf, applies, refusals, firstRefusal, successCost, answer, Buffer, buffersOf, atExit, lent, buffersAtExit}
 use Rattle.laws.specs.AnswerNumber.{number-zero}
@@ -60,6 +60,7 @@ refusals-ascend (makeSheet c p s) = (λ e. ascends _ refl, λ order. refl)
 refusals-ascend (markSheet c s) = (λ e. ascends _ refl, λ order. refl)
 refusals-ascend (roundCount n m) = (λ e. ascends _ refl, λ order. refl)
 refusals-ascend (catalogueTable q f) = (λ e. ascends _ refl, λ order. refl)
+refusals-ascend (explainSheet c s w) = (λ e. ascends _ refl, λ order. refl)
 refusals-ascend (actIn z xs a) = act-refusals-ascend a
 refusals-ascend (practiceCard s c) = (λ e. absurd (true≢false e), λ order. absurd (falls (omega arith) order))
 
@@ -84,6 +85,7 @@ nine-unlisted (markSheet c s) = refl
 nine-unlisted (roundCount n m) = refl
 nine-unlisted (practiceCard s c) = refl
 nine-unlisted (catalogueTable q f) = refl
+nine-unlisted (explainSheet c s w) = refl
 nine-unlisted (actIn z xs a) = nine-unlisted-act a
 
 module _ (test : Refusal → Bool) where
