@@ -5,6 +5,7 @@
 pub mod Hypotheses
 pub mod RowCosts
 pub mod Switching
+pub mod CountCosts
 pub mod SheetLaws
 pub mod PlacedPlans
 pub mod Ties

@@ -5,14 +5,15 @@ use mathlib.Core.Path.{_≡_, refl, sym, ap, _∙_}
 use mathlib.Core.List.{List, reverse, reverse-reverse}
 use native.Mathlib.Omega.{arith}
 use lib.ListN.{length, getD, length-reverse, List·getD-eq-default}
-use Rattle.lists.specs.Sums.{sum, sum-add, sum-scale, sum-reverse, sum-balance}
+use Rattle.lists.specs.Sums.{sum, sum-reverse}
 use Rattle.lists.specs.Lists.{from-back, getD-reverse}
 use Rattle.model.specs.Instance.{Instance}
 use Rattle.model.specs.Counts.{operatingCost}
-use Rattle.model.specs.Thesis.{switchingPrice, countAt, slotCost, countsCost}
+use Rattle.model.specs.Thesis.{countAt, countsCost}
 use Rattle.model.specs.Plans.{Allowed}
 use Rattle.model.specs.RelatedShows.{loadsOf, Reversed}
-use Rattle.theory.specs.Hypotheses.{LoadsFit, Plannable, costOfFirst, LeastByCounts}
+use Rattle.theory.specs.Hypotheses.{LoadsFit, Plannable, LeastByCounts}
+use Rattle.theory.specs.CountCosts.{risesIn, count-after, rises-after, rises-fall, cost-rises}
 use Rattle.theory.specs.PlacedPlans.{allowed-serves, serves-allowed}
 use Rattle.theory.specs.SmallestPlans.{smallest-by-counts}
 use Rattle.theory.specs.AgreeingShows.{agree-back, loads-slots, loads-at, serve-same, operating-same, price-same, agree-plannable}
@@ -26,32 +27,11 @@ reversed-back {i} {j} back =
       loads = sym (reverse-reverse (loadsOf i)) ∙ ap reverse (sym (back .loads));
     }
 
--- How much the counts of a plan rise in the first n slots, from 0 before the first one.
-abbrev risesIn : ℕ → List ℕ → ℕ
-risesIn n p = sum n (λ t. countAt 0 p (suc t) - countAt 0 p t)
-
 module _ (n : ℕ) (p : List ℕ) (size : length p ≡ n) where
-  -- After the last slot the count is 0.
-  count-after : countAt 0 p (suc n) ≡ 0
-  unfolding countAt
-  count-after = List·getD-eq-default p 0 (omega arith)
-
-  -- After the last slot no count rises.
-  rises-after : risesIn (suc n) p ≡ risesIn n p
-  unfolding sum
-  rises-after = omega (arith, count-after)
-
-  -- The counts rise as much as they fall.
-  rises-fall : risesIn (suc n) p ≡ sum (suc n) (λ t. countAt 0 p t - countAt 0 p (suc t))
-  unfolding countAt
-  rises-fall =
-      let x = countAt 0 p in
-      omega (arith, count-after, sum-balance (suc n) x (λ t. x (suc t) - x t) (λ t. x t - x (suc t)) (λ t. omega arith))
-
   -- The counts of a plan in reverse, with 0 before and after, are those of the plan from the back.
   reversed-count : (t u : ℕ) → t + u ≡ suc n → countAt 0 (reverse p) t ≡ countAt 0 p u
   unfolding countAt
-  reversed-count zero u e = let last : u ≡ suc n = omega arith in rw last (sym count-after)
+  reversed-count zero u e = let last : u ≡ suc n = omega arith in rw last (sym (count-after n p size))
   reversed-count (suc t) zero e = List·getD-eq-default (reverse p) 0 (omega (arith, length-reverse p))
   reversed-count (suc t) (suc u) e = getD-reverse p t u 0 (omega arith)
 
@@ -62,19 +42,6 @@ reversed-rises n p size =
     sum-reverse (suc n)
     (λ t u e. rw (reversed-count n p size (suc t) u (omega arith), reversed-count n p size t (suc u) (omega arith))) in
     sym (rises-after n (reverse p) (length-reverse p ∙ size)) ∙ turned ∙ sym (rises-fall n p size) ∙ rises-after n p size
-
--- A plan of n slots costs what its counts cost to operate, and the switching price for each rise.
-cost-rises :
-    (i : Instance) (p : List ℕ) (n : ℕ) → i .slots ≡ n →
-    countsCost i 0 p ≡ sum n (λ t. operatingCost i (countAt 0 p (suc t)) (i .load t)) + switchingPrice i * risesIn n p
-unfolding countsCost slotCost
-cost-rises i p n e =
-    ap (λ t. costOfFirst i 0 p t) e ∙
-    omega (
-      arith,
-      sum-add n (λ t. operatingCost i (countAt 0 p (suc t)) (i .load t)) (λ t. switchingPrice i * (countAt 0 p (suc t) - countAt 0 p t)),
-      sum-scale n (switchingPrice i) (λ t. countAt 0 p (suc t) - countAt 0 p t),
-    )
 
 module _ {i j : Instance} (back : Reversed i j) where
   reversed-slots : j .slots ≡ i .slots

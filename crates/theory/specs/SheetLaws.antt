@@ -12,20 +12,22 @@ use native.Mathlib.Nat.{eq-zero-or-pos, mod-lt, div-lt-iff-lt-mul, div-add-mod'}
 use native.Mathlib.Numerals.{add-one}
 use native.Mathlib.Omega.{arith}
 use Rattle.lists.specs.Tests.{every-at, every-all, and-left, and-right, and-both}
-use Rattle.lists.specs.Sums.{sum, sum-ext, sum-mono, sum-add, sum-scale, sum-const}
-use Rattle.lists.specs.Lists.{length-tabulate, getD-tabulate, length-rows, getD-rows}
+use Rattle.lists.specs.Sums.{sum, sum-ext, sum-mono, sum-const}
+use Rattle.lists.specs.Lists.{tabulate, length-tabulate, getD-tabulate, equal-tabulate, rows, length-rows, getD-rows}
 use Rattle.model.specs.Instance.{Instance}
 use Rattle.model.specs.Counts.{canServe, operatingCost}
 use Rattle.model.specs.Sheets.{off, isOff, stepOf, stateAt, sheetLength, sheetEntries, lightAt, sheetLight, serves}
 use Rattle.model.specs.Sheets.{stepCost, sheetOperatingCost, sheetSwitchingCost, sheetCost, activeOf, activeAt, countsOf}
-use Rattle.model.specs.Thesis.{switchingPrice, scheduleCost, scheduleOf, Feasible, countAt, slotCost, countsCost}
+use Rattle.model.specs.Thesis.{switchingPrice, scheduleCost, scheduleOf, Feasible, countAt, countsCost}
 use Rattle.model.specs.Plans.{moduleByte, slotRow, sheetOf, planCost, planServes}
-use Rattle.laws.specs.Operating.{byte-off, slot-row-length}
+use Rattle.model.specs.Explanation.{countsOperatingCost, countsSwitchingCost}
+use Rattle.laws.specs.Operating.{byte-off}
 use Rattle.laws.specs.Tables.{Convex}
 use Rattle.theory.specs.Hypotheses.{Entry, activeIn, lightIn, rowCost, PlanFits}
-use Rattle.theory.specs.RowCosts.{active-le, row-fits, row-at-least, plan-row-entry, plan-row-light, plan-row-cost}
-use Rattle.theory.specs.Switching.{started, startedIn, stoppedIn, change-cost, switches-balance}
+use Rattle.theory.specs.RowCosts.{active-le, row-fits, row-at-least, plan-row-entry, plan-row-active, plan-row-light, plan-row-cost}
+use Rattle.theory.specs.Switching.{started, startedIn, stoppedIn, change-cost, switches-balance, both-prices}
 use Rattle.theory.specs.Switching.{started-at-least, started-at-most, plan-started}
+use Rattle.theory.specs.CountCosts.{rises-cost, counts-cost-parts}
 
 -- A row that is off has no active module.
 off-row-active : (m : ℕ) (b : ℕ → ℕ) → ((k : ℕ) → b k ≡ off) → activeIn m b ≡ 0
@@ -44,7 +46,7 @@ module _ (i : Instance) (s : List ℕ) where
   off-after = off-row-active (i .modules) (stateAt i s (suc (i .slots))) (λ k. rw (le-ltb (i .slots) (i .slots) (le-refl (i .slots))))
 
   -- The number of modules that go on after time t.
-  abbrev startedAt : ℕ → ℕ
+  abbrev pub startedAt : ℕ → ℕ
   startedAt t = startedIn (i .modules) (stateAt i s t) (stateAt i s (suc t))
 
   -- The number of modules that go off after time t.
@@ -62,15 +64,12 @@ module _ (i : Instance) (s : List ℕ) where
       rw add-one (omega (arith, started-at-most (i .modules) (stateAt i s (i .slots)) (stateAt i s (suc (i .slots))), off-after))
 
   -- The switching cost is the switching price, both prices together, for each module that goes on.
-  switching-cost : sheetSwitchingCost i s ≡ switchingPrice i * sum (i .slots) startedAt
+  pub switching-cost : sheetSwitchingCost i s ≡ switchingPrice i * sum (i .slots) startedAt
   unfolding sheetSwitchingCost
   switching-cost =
-      let n : ℕ = i .slots + 1 in
-      let priced = sum-ext n (λ t h. change-cost i (i .modules) (stateAt i s t) (stateAt i s (suc t))) in
-      let apart = sum-add n (λ t. i .powerUp * startedAt t) (λ t. i .powerDown * stoppedAt t) in
-      let up = sum-scale n (i .powerUp) startedAt ∙ ap (λ (x : ℕ). i .powerUp * x) started-in-slots in
-      let down = sum-scale n (i .powerDown) stoppedAt ∙ ap (λ (x : ℕ). i .powerDown * x) (stopped-as-started ∙ started-in-slots) in
-      omega arith
+      sum-ext (i .slots + 1) (λ t h. change-cost i (i .modules) (stateAt i s t) (stateAt i s (suc t))) ∙
+      both-prices (i .slots + 1) (i .powerUp) (i .powerDown) startedAt stoppedAt stopped-as-started ∙
+      ap (λ (x : ℕ). switchingPrice i * x) started-in-slots
 
   -- 'By thesis chapter 2 this equals charging both at warm-up' (01): a sheet costs what its rows cost and the switching price for each
   -- module that goes on.
@@ -79,12 +78,6 @@ module _ (i : Instance) (s : List ℕ) where
       switchingPrice i * sum (i .slots) (λ t. startedIn (i .modules) (stateAt i s t) (stateAt i s (suc t)))
   unfolding sheetCost sheetOperatingCost rowCost
   sheet-cost-starts = omega (arith, switching-cost)
-
-  -- A sheet's cost is the sum over its slots of what their rows and the modules that go on there cost.
-  sheet-cost-slots : sheetCost i s ≡ sum (i .slots) (λ t. rowCost i (i .modules) (stateAt i s (suc t)) + switchingPrice i * startedAt t)
-  sheet-cost-slots =
-      let apart = sum-add (i .slots) (λ t. rowCost i (i .modules) (stateAt i s (suc t))) (λ t. switchingPrice i * startedAt t) in
-      omega (arith, sheet-cost-starts, sum-scale (i .slots) (switchingPrice i) startedAt)
 
 -- In a schedule a byte's step times its state is its step.
 assigned-active : (b : ℕ) → stepOf b * activeOf b ≡ stepOf b
@@ -145,10 +138,16 @@ module _ (i : Instance) (s : List ℕ) where
 
 -- The counts of a sheet.
 module _ (i : Instance) (s : List ℕ) where
-  counts-at : (t : ℕ) → t ≤ i .slots → countAt 0 (countsOf i s) t ≡ activeIn (i .modules) (stateAt i s t)
+  -- The count of a sheet at a time is how many modules are active then.
+  pub counts-at : (t : ℕ) → t ≤ i .slots → countAt 0 (countsOf i s) t ≡ activeIn (i .modules) (stateAt i s t)
   unfolding countAt countsOf activeAt activeIn
   counts-at zero h = sym (off-before i s)
   counts-at (suc t) h = getD-tabulate (i .slots) _ t 0 h
+
+  -- A sheet has a count for each slot.
+  pub counts-length : length (countsOf i s) ≡ i .slots
+  unfolding countsOf
+  counts-length = length-tabulate (i .slots) _
 
   -- Each slot of a sheet that serves is a row of entries.
   row-entries : serves i s ≡ true → (t : ℕ) → t < i .slots → (k : ℕ) → k < i .modules → Entry i (stateAt i s (suc t) k)
@@ -163,28 +162,40 @@ module _ (i : Instance) (s : List ℕ) where
   unfolding lightIn sheetLight lightAt
   row-light e t h = leb-true _ _ (every-at (i .slots) _ (serves-parts i s .0 e .2) t h)
 
+-- On a convex table a sheet that serves costs at least as much to operate as its counts.
+pub operating-at-least : (i : Instance) → Convex (i .topStep) (i .table) → (s : List ℕ) → serves i s ≡ true →
+    countsOperatingCost i (countsOf i s) ≤ sheetOperatingCost i s
+unfolding countsOperatingCost sheetOperatingCost rowCost
+operating-at-least i c s e =
+    sum-mono (i .slots)
+    (λ t h.
+    rw (counts-at i s (suc t) h)
+    (row-at-least i c (i .modules) (stateAt i s (suc t)) (row-entries i s e t h) (i .load t) (row-light i s e t h)))
+
+-- The switching cost of any list of bytes is at least that of its counts.
+pub switching-at-least : (i : Instance) (s : List ℕ) → countsSwitchingCost i (countsOf i s) ≤ sheetSwitchingCost i s
+switching-at-least i s =
+    rw (rises-cost i (countsOf i s) (counts-length i s), switching-cost i s)
+    (mul-le-mul-left (switchingPrice i)
+    (sum-mono (i .slots)
+    (λ t h.
+    rw (counts-at i s t (le-of-lt h), counts-at i s (suc t) h)
+    (started-at-least (i .modules) (stateAt i s t) (stateAt i s (suc t))))))
+
 -- On a convex table a sheet that serves costs at least what its counts cost by 3.9 to 3.13 (thesis 3.8).
 pub sheet-at-least : (i : Instance) → Convex (i .topStep) (i .table) → (s : List ℕ) → serves i s ≡ true →
     countsCost i 0 (countsOf i s) ≤ sheetCost i s
-unfolding countsCost slotCost
-sheet-at-least i c s e = rw sheet-cost-slots (sum-mono (i .slots) slot)
-  where
-    slot : (t : ℕ) → t < i .slots →
-        slotCost i (countAt 0 (countsOf i s) t) (countAt 0 (countsOf i s) (suc t)) (i .load t) ≤
-        rowCost i (i .modules) (stateAt i s (suc t)) + switchingPrice i * startedAt i s t
-    slot t h =
-        let operating = row-at-least i c (i .modules) (stateAt i s (suc t)) (row-entries i s e t h) (i .load t) (row-light i s e t h) in
-        let switching = started-at-least (i .modules) (stateAt i s t) (stateAt i s (suc t)) in
-        rw (counts-at i s t (omega arith), counts-at i s (suc t) h)
-        (add-le-add operating (mul-le-mul-left (switchingPrice i) switching))
+unfolding sheetCost
+sheet-at-least i c s e =
+    rw (counts-cost-parts i (countsOf i s) (counts-length i s)) (add-le-add (operating-at-least i c s e) (switching-at-least i s))
 
 -- The counts of a sheet that serves are a plan whose sheet can be written.
 pub sheet-counts-fit : (i : Instance) (s : List ℕ) → i .topStep < off → serves i s ≡ true → PlanFits i (countsOf i s)
-unfolding countsOf countAt planServes canServe
+unfolding countAt planServes canServe
 sheet-counts-fit i s steps e =
     record {
       steps = steps;
-      slotwise = length-tabulate (i .slots) _;
+      slotwise = counts-length i s;
       in-rack = λ t h. rw (counts-at i s (suc t) h) (active-le (i .modules) (stateAt i s (suc t)));
       served = every-all (i .slots) _ (λ t h. le-leb _ _ (fits t h));
     }
@@ -194,6 +205,50 @@ sheet-counts-fit i s steps e =
         let row = row-fits i (i .modules) (stateAt i s (suc t)) (row-entries i s e t h) in
         rw (counts-at i s (suc t) h) (le-trans (row-light i s e t h) row)
 
+-- The sheet with byte f t k for slot t and module k, both from 0.
+abbrev pub sheetWith : Instance → (ℕ → ℕ → ℕ) → List ℕ
+sheetWith i f = rows (i .slots) (λ t. tabulate (i .modules) (f t))
+
+module _ (i : Instance) (f : ℕ → ℕ → ℕ) where
+  pub with-length : length (sheetWith i f) ≡ i .modules * i .slots
+  with-length =
+      length-rows (i .modules) (i .slots) _ (λ t. length-tabulate (i .modules) (f t)) ∙ mul-comm (i .slots) (i .modules)
+
+  with-byte : (t k : ℕ) → t < i .slots → k < i .modules → getD (sheetWith i f) (t * i .modules + k) off ≡ f t k
+  with-byte t k h g =
+      getD-rows (i .modules) (i .slots) _ (λ t. length-tabulate (i .modules) (f t)) t k off h g ∙ getD-tabulate (i .modules) (f t) k off g
+
+  -- In slot t the sheet has the bytes of t.
+  pub with-state : (t k : ℕ) → t < i .slots → k < i .modules → stateAt i (sheetWith i f) (suc t) k ≡ f t k
+  unfolding stateAt
+  with-state t k h g = rw (lt-ltb t (i .slots) h) (with-byte t k h g)
+
+  -- A place in the sheet is that of a slot and a module.
+  place-slot : (j : ℕ) → j < length (sheetWith i f) → (j / i .modules < i .slots) × (j % i .modules < i .modules)
+  place-slot j h =
+      ⊎-elim
+      (λ (none : i .modules ≡ 0). absurd (omega (arith, with-length, ap (λ (x : ℕ). x * i .slots) none)))
+      (λ (some : 0 < i .modules). (div-lt-iff-lt-mul some .1 (omega (arith, with-length)), mod-lt j some))
+      (eq-zero-or-pos (i .modules))
+
+  -- It serves where each slot has entries with enough light.
+  pub with-serves :
+      ((t k : ℕ) → t < i .slots → k < i .modules → Entry i (f t k)) → ((t : ℕ) → t < i .slots → i .load t ≤ lightIn (i .modules) (f t)) →
+      serves i (sheetWith i f) ≡ true
+  unfolding sheetLength sheetEntries sheetLight lightAt lightIn
+  with-serves entries light =
+      serves-parts i (sheetWith i f) .1
+      (eq-eqb _ _ with-length, every-all (length (sheetWith i f)) _ entry, every-all (i .slots) _ (λ t h. le-leb _ _ (enough t h)))
+    where
+      entry : (j : ℕ) → j < length (sheetWith i f) → Entry i (getD (sheetWith i f) j off)
+      entry j h =
+          let (in-show, in-rack) = place-slot j h in
+          subst (λ (x : ℕ). Entry i (getD (sheetWith i f) x off)) (div-add-mod' j (i .modules))
+          (rw (with-byte _ _ in-show in-rack) (entries _ _ in-show in-rack))
+
+      enough : (t : ℕ) → t < i .slots → i .load t ≤ lightAt i (sheetWith i f) (suc t)
+      enough t h = rw (sum-ext (i .modules) (λ k g. ap stepOf (with-state t k h g))) (light t h)
+
 -- The load at a time, none at time 0.
 abbrev loadAt : Instance → ℕ → ℕ
 loadAt i zero = 0
@@ -202,29 +257,15 @@ loadAt i (suc t) = i .load t
 -- The sheet of a plan.
 module _ (i : Instance) (p : List ℕ) where
   pub sheet-length : length (sheetOf i p) ≡ i .modules * i .slots
-  unfolding sheetOf
-  sheet-length = length-rows (i .modules) (i .slots) _ (λ t. slot-row-length i _ _) ∙ mul-comm (i .slots) (i .modules)
-
-  -- The byte for slot t and module k is that of the count and the load of slot t.
-  sheet-entry : (t k : ℕ) → t < i .slots → k < i .modules →
-      getD (sheetOf i p) (t * i .modules + k) off ≡ moduleByte i (getD p t 0) (i .load t) k
   unfolding sheetOf slotRow
-  sheet-entry t k h g = getD-rows (i .modules) (i .slots) _ (λ t. slot-row-length i _ _) t k off h g ∙ getD-tabulate (i .modules) _ k off g
-
-  -- A place in the sheet is that of a slot and a module.
-  place-slot : (j : ℕ) → j < length (sheetOf i p) → (j / i .modules < i .slots) × (j % i .modules < i .modules)
-  place-slot j h =
-      ⊎-elim
-      (λ (none : i .modules ≡ 0). absurd (omega (arith, sheet-length, ap (λ (x : ℕ). x * i .slots) none)))
-      (λ (some : 0 < i .modules). (div-lt-iff-lt-mul some .1 (omega (arith, sheet-length)), mod-lt j some))
-      (eq-zero-or-pos (i .modules))
+  sheet-length = with-length i _
 
   -- At time t the sheet has the row of the count and the load.
   state-row : (t : ℕ) → t ≤ i .slots → (k : ℕ) → k < i .modules →
       stateAt i (sheetOf i p) t k ≡ moduleByte i (countAt 0 p t) (loadAt i t) k
-  unfolding stateAt countAt
+  unfolding stateAt countAt sheetOf slotRow
   state-row zero h k g = sym (byte-off i 0 0 k (omega arith))
-  state-row (suc t) h k g = rw (lt-ltb t (i .slots) h) (sheet-entry t k h g)
+  state-row (suc t) h k g = with-state i _ t k h g
 
 -- The sheet of a plan whose sheet can be written.
 module _ (i : Instance) (p : List ℕ) (fit : PlanFits i p) where
@@ -238,31 +279,13 @@ module _ (i : Instance) (p : List ℕ) (fit : PlanFits i p) where
   rack-at zero h = omega arith
   rack-at (suc t) h = fit .in-rack t h
 
-  plan-entries : sheetEntries i (sheetOf i p) ≡ true
-  unfolding sheetEntries countAt
-  plan-entries = every-all (length (sheetOf i p)) _ entry
-    where
-      at-slot : (t k : ℕ) → t < i .slots → k < i .modules → Entry i (getD (sheetOf i p) (t * i .modules + k) off)
-      at-slot t k h g = rw (sheet-entry i p t k h g) (plan-row-entry i (getD p t 0) (i .load t) (fits-at (suc t) h) k)
-
-      entry : (j : ℕ) → j < length (sheetOf i p) → Entry i (getD (sheetOf i p) j off)
-      entry j h =
-          let place = place-slot i p j h in
-          subst (λ (x : ℕ). Entry i (getD (sheetOf i p) x off)) (div-add-mod' j (i .modules)) (at-slot _ _ (place .0) (place .1))
-
-  plan-light : sheetLight i (sheetOf i p) ≡ true
-  unfolding sheetLight lightAt lightIn
-  plan-light = every-all (i .slots) _ (λ t h. le-leb _ _ (light t h))
-    where
-      light : (t : ℕ) → t < i .slots → i .load t ≤ lightAt i (sheetOf i p) (suc t)
-      light t h =
-          rw (sum-ext (i .modules) (λ k g. ap stepOf (state-row i p (suc t) h k g)))
-          (plan-row-light i (i .modules) (countAt 0 p (suc t)) (i .load t) (fit .steps) (rack-at (suc t) h) (fits-at (suc t) h))
-
   -- The sheet of a plan whose counts serve the loads serves the show.
   pub plan-sheet-serves : serves i (sheetOf i p) ≡ true
-  unfolding sheetLength
-  plan-sheet-serves = serves-parts i (sheetOf i p) .1 (eq-eqb _ _ (sheet-length i p), plan-entries, plan-light)
+  unfolding sheetOf slotRow countAt
+  plan-sheet-serves =
+      with-serves i _
+      (λ t k h g. plan-row-entry i (countAt 0 p (suc t)) (i .load t) (fits-at (suc t) h) k)
+      (λ t h. plan-row-light i (i .modules) (countAt 0 p (suc t)) (i .load t) (fit .steps) (rack-at (suc t) h) (fits-at (suc t) h))
 
   plan-operating : (t : ℕ) → t < i .slots →
       rowCost i (i .modules) (stateAt i (sheetOf i p) (suc t)) ≡ operatingCost i (countAt 0 p (suc t)) (i .load t)
@@ -280,9 +303,27 @@ module _ (i : Instance) (p : List ℕ) (fit : PlanFits i p) where
       plan-started i (i .modules) (countAt 0 p t) (loadAt i t) (countAt 0 p (suc t)) (i .load t)
       (fit .steps) (rack-at t l) (rack-at (suc t) h) (fits-at t l) (fits-at (suc t) h)
 
+  -- The sheet of a plan has the plan's counts.
+  pub plan-counts : countsOf i (sheetOf i p) ≡ p
+  unfolding countsOf activeAt activeIn countAt
+  plan-counts =
+      sym (equal-tabulate (fit .slotwise)
+      (λ t h.
+      sym (sum-ext (i .modules) (λ k g. ap activeOf (state-row i p (suc t) h k g)) ∙
+      plan-row-active i (i .modules) (getD p t 0) (i .load t) (fit .steps) (rack-at (suc t) h) (fits-at (suc t) h))))
+
+  -- The sheet of a plan costs as much to operate as the plan's counts.
+  pub plan-operating-cost : sheetOperatingCost i (sheetOf i p) ≡ countsOperatingCost i p
+  unfolding sheetOperatingCost countsOperatingCost rowCost
+  plan-operating-cost = sum-ext (i .slots) plan-operating
+
+  -- The switching cost of the sheet of a plan is that of the plan's counts.
+  pub plan-switching-cost : sheetSwitchingCost i (sheetOf i p) ≡ countsSwitchingCost i p
+  plan-switching-cost =
+      switching-cost i (sheetOf i p) ∙ ap (λ (x : ℕ). switchingPrice i * x) (sum-ext (i .slots) plan-switching) ∙
+      sym (rises-cost i p (fit .slotwise))
+
   -- A plan costs what its counts cost by 3.9 to 3.13.
   pub plan-cost-counts : planCost i p ≡ countsCost i 0 p
-  unfolding planCost countsCost slotCost
-  plan-cost-counts =
-      sheet-cost-slots i (sheetOf i p) ∙
-      sum-ext (i .slots) (λ t h. ap₂ (λ a b. a + switchingPrice i * b) (plan-operating t h) (plan-switching t h))
+  unfolding planCost sheetCost
+  plan-cost-counts = rw (plan-operating-cost, plan-switching-cost) (sym (counts-cost-parts i p (fit .slotwise)))

@@ -1,12 +1,12 @@
 -- Switching between two rows of bytes: how many modules go on, and what the changes cost.
 use Prim.Native.Nat.{ℕ, zero, suc, _+_, _-_, _*_, _≤_, _<_}
-use mathlib.Core.Path.{_≡_, refl, _∙_}
+use mathlib.Core.Path.{_≡_, refl, ap, _∙_}
 use mathlib.Core.Bool.{Bool, true, false, cond}
 use mathlib.Core.Logic.{⊎-elim}
 use native.Mathlib.Nat.{le-refl, le-of-lt, mul-zero}
 use native.Mathlib.Omega.{arith}
 use Rattle.lists.specs.Numbers.{le-or-lt}
-use Rattle.lists.specs.Sums.{sum, sum-mono, sum-const, sum-balance}
+use Rattle.lists.specs.Sums.{sum, sum-mono, sum-add, sum-scale, sum-const, sum-balance}
 use Rattle.model.specs.Instance.{Instance}
 use Rattle.model.specs.Sheets.{off, isOff, changeCost}
 use Rattle.model.specs.Plans.{moduleByte}
@@ -56,6 +56,12 @@ change-cost i (suc m) a b = omega (arith, change-cost i m a b, byte (isOff (a m)
     byte true false = omega arith
     byte false true = omega arith
     byte false false = omega arith
+
+-- Two prices that are charged equally often are one price, their sum, charged as often as the first.
+pub both-prices : (n a b : ℕ) (u d : ℕ → ℕ) → sum n d ≡ sum n u → sum n (λ t. a * u t + b * d t) ≡ (a + b) * sum n u
+both-prices n a b u d even =
+    let apart = sum-add n (λ t. a * u t) (λ t. b * d t) in
+    omega (arith, sum-scale n a u, sum-scale n b d, ap (λ (x : ℕ). b * x) even)
 
 -- At least the difference of the active modules goes on (thesis 3.1).
 pub started-at-least : (m : ℕ) (a b : ℕ → ℕ) → activeIn m b - activeIn m a ≤ startedIn m a b
