@@ -11,7 +11,7 @@ use Rattle.model.specs.Counts.{allCounts, coarseCounts}
 use Rattle.model.specs.Sheets.{serves, sheetCost, countsOf}
 use Rattle.model.specs.Thesis.{countsCost}
 use Rattle.model.specs.Plans.{Allowed, LeastPlan, sheetOf, planCost, leastPlan, leastCost}
-use Rattle.model.specs.Planners.{Planner, exact, coarse, allowedCounts, ratioOf, plannedCost}
+use Rattle.model.specs.Planners.{Planner, exact, coarse, allowedCounts, ratioOf, plannedBy, plannedCost}
 use Rattle.model.specs.Calls.{Accepted}
 use Rattle.laws.specs.Acceptance.{modules-range, top-range, load-range, table-convex}
 use Rattle.laws.specs.CountMembers.{all-member}
@@ -23,7 +23,7 @@ use Rattle.columns.specs.Places.{count-fits}
 use Rattle.theory.specs.Least.{searched-least, searched-cost}
 use Rattle.theory.specs.Enumeration.{least-plan, least-plan-unique}
 use Rattle.theory.specs.Ratio.{ratio}
-use Rattle.theory.specs.CountLists.{all-ascending, coarse-ascending, coarse-doubling}
+use Rattle.theory.specs.CountLists.{all-ascending, coarse-ascending, planner-counts-ascending, coarse-doubling}
 
 module _ {i : Instance} (ready : Plannable i) where
   -- Plans over any list of allowed counts.
@@ -64,7 +64,7 @@ module _ {i : Instance} (ready : Plannable i) where
     least-by-counts = rw (searched-plan .0) at (searched-least i counts 0 asc (ready .loads))
 
     -- The least plan has a sheet that can be written.
-    pub least-plan-fits : PlanFits i (leastPlan i counts)
+    least-plan-fits : PlanFits i (leastPlan i counts)
     least-plan-fits = allowed-fits (least-plan i counts asc (ready .loads) .allowed)
 
     -- The sheet of the least plan serves, and costs what the plan costs.
@@ -72,6 +72,15 @@ module _ {i : Instance} (ready : Plannable i) where
         (serves i (sheetOf i (leastPlan i counts)) ≡ true) × (sheetCost i (sheetOf i (leastPlan i counts)) ≡ leastCost i counts)
     unfolding planCost
     least-sheet = (plan-sheet-serves i (leastPlan i counts) least-plan-fits, refl)
+
+  -- The plan of either planner has a sheet that can be written.
+  pub planned-fits : (k : Planner) → PlanFits i (plannedBy k i)
+  unfolding plannedBy
+  planned-fits k = least-plan-fits _ (planner-counts-ascending k (i .modules) (ready .some))
+
+  -- There is a least plan over all counts.
+  pub exact-plan : LeastPlan i (allCounts (i .modules)) (leastPlan i (allCounts (i .modules)))
+  exact-plan = least-plan i (allCounts (i .modules)) (all-ascending (i .modules) (ready .some)) (ready .loads)
 
   -- The counts of a sheet that serves are a plan over all counts.
   pub sheet-counts-allowed : (s : List ℕ) → serves i s ≡ true → Allowed i (allCounts (i .modules)) (countsOf i s)
@@ -86,9 +95,7 @@ module _ {i : Instance} (ready : Plannable i) where
 
   -- Condition 3, exact: no sheet that serves costs less than the least plan over all counts (thesis 3.8).
   pub exact-least : (s : List ℕ) → serves i s ≡ true → leastCost i (allCounts (i .modules)) ≤ sheetCost i s
-  exact-least s e =
-      let least = least-plan i (allCounts (i .modules)) (all-ascending (i .modules) (ready .some)) (ready .loads) .least in
-      omega (arith, least (countsOf i s) (sheet-counts-allowed s e), sheet-counts-cost s e)
+  exact-least s e = omega (arith, exact-plan .least (countsOf i s) (sheet-counts-allowed s e), sheet-counts-cost s e)
 
   -- Over a list that grows by r the least plan costs at most r times as much as any sheet that serves (thesis 5.5 and 5.11, for whole
   -- ratios), whether the table falls or not.

@@ -1,5 +1,5 @@
 -- The theorems, a module a subject. Every statement is over instances and lists of any size. The end theorems are in SheetLaws,
--- Enumeration, Average, CountLists, Condition3, SmallestPlans, Refusals, Outcomes, CourseBook, LongInput, Generator and
+-- Enumeration, Average, CountLists, Condition3, Explanations, SmallestPlans, Refusals, Outcomes, CourseBook, LongInput, Generator and
 -- PracticeCards, and the other modules lead to them. Counterexamples shows that their hypotheses are needed, and Applications that they can be
 -- met. RelatedCards and BookExamples show that the hypotheses of CourseBook can be met, and that sharper forms of its facts fail.
 pub mod Hypotheses
@@ -18,6 +18,8 @@ pub mod Potential
 pub mod Ratio
 pub mod CountLists
 pub mod Condition3
+pub mod BalancedSheets
+pub mod Explanations
 pub mod SmallestPlans
 pub mod AgreeingShows
 pub mod ReversedShows

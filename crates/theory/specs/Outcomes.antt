@@ -25,11 +25,9 @@ use Rattle.model.specs.Calls.{atExit, buffersAtExit, planAtExit, workAtExit, sh
 use Rattle.laws.specs.AnswerNumber.{number-zero}
 use Rattle.laws.specs.FirstRefusal.{first-passed}
 use Rattle.laws.specs.OnCard.{on-card-refused, on-card-passed, on-card-accepted}
-use Rattle.laws.specs.Acceptance.{modules-range}
 use Rattle.theory.specs.Hypotheses.{PlanFits}
 use Rattle.theory.specs.SheetLaws.{serves-parts, sheet-length, plan-sheet-serves}
-use Rattle.theory.specs.CountLists.{planner-counts-ascending}
-use Rattle.theory.specs.Condition3.{least-plan-fits, accepted-plannable}
+use Rattle.theory.specs.Condition3.{planned-fits, accepted-plannable}
 use Rattle.theory.specs.Refusals.{succeeded}
 
 -- After an answer with a cost the first k bytes of a buffer are the k bytes that are written.
@@ -150,8 +148,7 @@ Marked c q s a =
 module _ (k : Planner) (c : List ℕ) (given : Accepted c) where
   -- The plan has a sheet that can be written.
   pub best-fits : PlanFits (instanceOf c) (plannedBy k (instanceOf c))
-  unfolding plannedBy
-  best-fits = least-plan-fits (accepted-plannable c given) _ (planner-counts-ascending k _ (modules-range c given .0))
+  best-fits = planned-fits (accepted-plannable c given) k
 
   -- Sheet call and marking accept the plan at its cost.
   pub sheet-accepted :

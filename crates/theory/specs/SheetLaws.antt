@@ -162,6 +162,10 @@ module _ (i : Instance) (s : List ℕ) where
   unfolding lightIn sheetLight lightAt
   row-light e t h = leb-true _ _ (every-at (i .slots) _ (serves-parts i s .0 e .2) t h)
 
+  -- In each slot of a sheet that serves the active modules can serve the load.
+  pub row-serves : serves i s ≡ true → (t : ℕ) → t < i .slots → i .load t ≤ activeIn (i .modules) (stateAt i s (suc t)) * i .topStep
+  row-serves e t h = le-trans (row-light e t h) (row-fits i (i .modules) (stateAt i s (suc t)) (row-entries e t h))
+
 -- On a convex table a sheet that serves costs at least as much to operate as its counts.
 pub operating-at-least : (i : Instance) → Convex (i .topStep) (i .table) → (s : List ℕ) → serves i s ≡ true →
     countsOperatingCost i (countsOf i s) ≤ sheetOperatingCost i s
@@ -197,13 +201,8 @@ sheet-counts-fit i s steps e =
       steps = steps;
       slotwise = counts-length i s;
       in-rack = λ t h. rw (counts-at i s (suc t) h) (active-le (i .modules) (stateAt i s (suc t)));
-      served = every-all (i .slots) _ (λ t h. le-leb _ _ (fits t h));
+      served = every-all (i .slots) _ (λ t h. rw (counts-at i s (suc t) h) (le-leb _ _ (row-serves i s e t h)));
     }
-  where
-    fits : (t : ℕ) → t < i .slots → i .load t ≤ countAt 0 (countsOf i s) (suc t) * i .topStep
-    fits t h =
-        let row = row-fits i (i .modules) (stateAt i s (suc t)) (row-entries i s e t h) in
-        rw (counts-at i s (suc t) h) (le-trans (row-light i s e t h) row)
 
 -- The sheet with byte f t k for slot t and module k, both from 0.
 abbrev pub sheetWith : Instance → (ℕ → ℕ → ℕ) → List ℕ
