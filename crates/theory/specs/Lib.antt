@@ -25,6 +25,7 @@ pub mod AgreeingShows
 pub mod ReversedShows
 pub mod Refusals
 pub mod Outcomes
+pub mod ExplainedSheets
 pub mod CourseBook
 pub mod RelatedCards
 pub mod BookExamples

@@ -1,0 +1,193 @@
+-- The explanation of a sheet as a call (document 02, §7): its answer by that of marking, what its three numbers promise, and what it says of the
+-- planners' sheets.
+use Prim.Native.Nat.{ℕ, _+_, _≤_, _<_}
+use mathlib.Core.Path.{_≡_, refl, sym, ap, _∙_}
+use mathlib.Core.Bool.{true}
+use mathlib.Core.List.{List, [], _∷_}
+use native.Mathlib.Omega.{arith}
+use lib.ListN.{length}
+use borrow.Author.Tests.{lt-ltb, le-ltb, ltb-false}
+use Rattle.lists.specs.Tests.{or-left}
+use Rattle.model.specs.declared.Refusal.{Refusal}
+use Rattle.model.specs.declared.Refusal.the-variants.{BufferTooShort, WrongLength, EntryRange, LoadNotServed}
+use Rattle.model.specs.declared.Answer.{Answer}
+use Rattle.model.specs.declared.Answer.the-variants.{Cost, Refused}
+use Rattle.model.specs.declared.Points.{Points}
+use Rattle.model.specs.Answers.{numberOf, costOf}
+use Rattle.model.specs.Instance.{Instance, instanceOf}
+use Rattle.model.specs.Sheets.{serves, sheetCost}
+use Rattle.model.specs.Plans.{sheetOf}
+use Rattle.model.specs.Planners.{Planner, exact, workBytes, plannedBy, plannedCost}
+use Rattle.model.specs.Explanation.{excessOperatingCost, excessSwitchingCost, excessOfCounts}
+use Rattle.model.specs.Calls.{checkCard, planShow, markSheet, explainSheet, sheet, onCard, requestOf, refusals, firstRefusal, applies, successCost}
+use Rattle.model.specs.Calls.{answer, Accepted, workBuffer, buffersOf, anyShort, rightLength, entriesInRange, loadsServed, atExit, buffersAtExit}
+use Rattle.model.specs.Calls.{planAtExit, explainedWork, pointsWith, pointsOf}
+use Rattle.model.specs.Promises.{madeSheet, ExplainsMarked, NoneNegative, AboveLeast, ZeroExactly}
+use Rattle.laws.specs.AnswerNumber.{number-zero}
+use Rattle.laws.specs.FirstRefusal.{first-passed, first-refused, first-through}
+use Rattle.laws.specs.OnCard.{on-card-refused, on-card-passed, on-card-accepted}
+use Rattle.theory.specs.Hypotheses.{Plannable, PlanFits}
+use Rattle.theory.specs.SheetLaws.{plan-sheet-serves}
+use Rattle.theory.specs.Condition3.{accepted-plannable, planned-fits}
+use Rattle.theory.specs.Explanations.{spread-whole, swaps-whole, counts-whole, points-together, spread-zero, swaps-zero, counts-zero}
+use Rattle.theory.specs.Explanations.{plan-points, exact-points}
+use Rattle.theory.specs.Refusals.{succeeded}
+use Rattle.theory.specs.Outcomes.{mark-tests, mark-accepts, mark-number, planner-on, planner-answer, plan-written}
+
+-- The answer of an explanation.
+module _ (c s w : List ℕ) where
+  -- Its work buffer at exit.
+  pub work-left : explainedWork (explainSheet c s w) ≡ atExit (answer (explainSheet c s w)) (workBuffer exact (instanceOf c) w)
+  unfolding explainedWork buffersAtExit buffersOf
+  work-left = refl
+
+  -- Where the card is refused, so is the explanation, with the same number.
+  pub explain-refused : {x : Refusal} → answer (checkCard c) ≡ Refused x → answer (explainSheet c s w) ≡ Refused x
+  unfolding answer requestOf refusals
+  explain-refused = on-card-refused c _ _ _ _ _
+
+  -- An explanation that answers a cost is on an accepted card.
+  explained-on : {n : ℕ} → answer (explainSheet c s w) ≡ Cost n → Accepted c
+  unfolding answer requestOf refusals
+  explained-on = on-card-accepted c _ _ _ _ _
+
+  module _ (given : Accepted c) where
+    -- On an accepted card the work buffer and then marking's refusals decide.
+    explain-tests :
+        answer (explainSheet c s w) ≡
+        firstRefusal (applies (onCard c (buffersOf (explainSheet c s w)) (sheet s)))
+        (BufferTooShort ∷ WrongLength ∷ EntryRange ∷ LoadNotServed ∷ []) (Cost 0)
+    unfolding answer requestOf refusals successCost
+    explain-tests = on-card-passed c _ _ _ _ _ given
+
+    pub explain-short : length w < workBytes exact (instanceOf c) → answer (explainSheet c s w) ≡ Refused BufferTooShort
+    unfolding firstRefusal applies buffersOf anyShort
+    explain-short less = explain-tests ∙ rw (lt-ltb _ _ less)
+
+    -- Where an explanation answers a cost, its work buffer has at least the bytes asked for.
+    explained-room : {n : ℕ} → answer (explainSheet c s w) ≡ Cost n → workBytes exact (instanceOf c) ≤ length w
+    unfolding applies buffersOf anyShort
+    explained-room e = ltb-false _ _ (or-left _ _ (first-passed _ _ _ (sym explain-tests ∙ e) .0))
+
+    module _ (room : workBytes exact (instanceOf c) ≤ length w) where
+      -- With a work buffer that is long enough marking's refusals decide.
+      as-marking :
+          answer (explainSheet c s w) ≡
+          firstRefusal (applies (onCard c [] (sheet s))) (WrongLength ∷ EntryRange ∷ LoadNotServed ∷ []) (Cost 0)
+      unfolding firstRefusal applies rightLength entriesInRange loadsServed buffersOf anyShort
+      as-marking = explain-tests ∙ rw (le-ltb _ _ room)
+
+      pub explain-unmarked : {x : Refusal} → answer (markSheet c s) ≡ Refused x → answer (explainSheet c s w) ≡ Refused x
+      explain-unmarked e = as-marking ∙ first-refused _ _ _ refl (sym (mark-tests c s given) ∙ e)
+
+      pub explain-marked : {n : ℕ} → answer (markSheet c s) ≡ Cost n → answer (explainSheet c s w) ≡ Cost 0
+      explain-marked e = as-marking ∙ first-through _ _ _ _ (sym (mark-tests c s given) ∙ e)
+
+      -- An explanation that answers a cost is of a sheet that marking accepts.
+      explained-marked : {n : ℕ} → answer (explainSheet c s w) ≡ Cost n → numberOf (answer (markSheet c s)) ≡ 0
+      explained-marked e = ap numberOf (mark-tests c s given ∙ first-through _ _ _ _ (sym as-marking ∙ e))
+
+-- The number of an explanation is that of its answer.
+points-number : (a : Answer) (i : Instance) (s : List ℕ) → pointsWith a i s .number ≡ numberOf a
+unfolding pointsWith
+points-number (Cost n) i s = refl
+points-number (Refused x) i s = refl
+
+module _ (c s w : List ℕ) where
+  number-is : pointsOf c s w .number ≡ numberOf (answer (explainSheet c s w))
+  unfolding pointsOf
+  number-is = points-number (answer (explainSheet c s w)) (instanceOf c) s
+
+  -- Number 0 is given for the sheets that marking accepts, with a work buffer that is long enough, and for no others.
+  pub explains-marked : ExplainsMarked c s w (pointsOf c s w .number)
+  explains-marked = (
+    λ e.
+        let found = number-zero _ (sym number-is ∙ e) in
+        let given = explained-on c s w found in
+        let room = explained-room c s w given found in
+        (explained-marked c s w given room found, room),
+    λ (marked, room).
+        number-is ∙ ap numberOf (explain-marked c s w (mark-number c s .0 marked .0) room (number-zero _ marked)),
+  )
+
+  -- An explanation with number 0 is of a sheet that serves an accepted show.
+  module _ (e : pointsOf c s w .number ≡ 0) where
+    accepted : Accepted c × (serves (instanceOf c) s ≡ true)
+    accepted = mark-number c s .0 (explains-marked .0 e .0)
+
+    ready : Plannable (instanceOf c)
+    ready = accepted-plannable c (accepted .0)
+
+    -- Its numbers are the three of the sheet.
+    points-are : pointsOf c s w ≡ pointsWith (Cost 0) (instanceOf c) s
+    unfolding pointsOf
+    points-are =
+        let (marked, room) = explains-marked .0 e in
+        rw (explain-marked c s w (accepted .0) room (number-zero _ marked))
+
+  pub none-negative : NoneNegative c s (pointsOf c s w)
+  unfolding pointsWith excessOperatingCost excessSwitchingCost excessOfCounts
+  none-negative =
+      record {
+        spread-whole = λ e. rw (points-are e) (omega (arith, spread-whole (ready e) s (accepted e .1)));
+        swaps-whole = λ e. rw (points-are e) (omega (arith, swaps-whole (ready e) s (accepted e .1)));
+        counts-whole = λ e. rw (points-are e) (omega (arith, counts-whole (ready e) s (accepted e .1)));
+      }
+
+  pub above-least : AboveLeast c s (pointsOf c s w)
+  unfolding pointsWith
+  above-least e p v plan-room work-room =
+      let planned = planner-answer exact c p v (accepted e .0) plan-room work-room in
+      let marked = mark-accepts c s (accepted e .0) .1 (accepted e .1) in
+      rw (points-are e, planned, marked) (points-together (ready e) s (accepted e .1))
+
+  pub zero-exactly : ZeroExactly c s (pointsOf c s w)
+  unfolding pointsWith
+  zero-exactly =
+      record {
+        spread-zero = λ e. rw (points-are e) (spread-zero (ready e) s (accepted e .1));
+        swaps-zero = λ e. rw (points-are e) (swaps-zero (ready e) s (accepted e .1));
+        counts-zero = λ e. rw (points-are e) (counts-zero (ready e) s (accepted e .1));
+      }
+
+-- The sheets that our own plans make.
+module _ (c w : List ℕ) (given : Accepted c) (room : workBytes exact (instanceOf c) ≤ length w) where
+  -- The sheet of a plan is explained, and has spread 0 and swaps 0.
+  pub plan-explained :
+      (p : List ℕ) → PlanFits (instanceOf c) p →
+      (pointsOf c (sheetOf (instanceOf c) p) w .number ≡ 0) × (pointsOf c (sheetOf (instanceOf c) p) w .spread ≡ 0) ×
+      (pointsOf c (sheetOf (instanceOf c) p) w .swaps ≡ 0)
+  unfolding pointsWith
+  plan-explained p fit =
+      let i = instanceOf c in
+      let s = sheetOf i p in
+      let zero = explains-marked c s w .1 (mark-number c s .1 (given, plan-sheet-serves i p fit), room) in
+      (zero, rw (points-are c s w zero) (plan-points p fit .0), rw (points-are c s w zero) (plan-points p fit .1))
+
+  -- The exact plan's sheet has no points above the least at all.
+  pub exact-explained :
+      pointsOf c (sheetOf (instanceOf c) (plannedBy exact (instanceOf c))) w ≡ record { number = 0; spread = 0; swaps = 0; counts = 0 }
+  unfolding pointsWith
+  exact-explained =
+      let i = instanceOf c in
+      let ready = accepted-plannable c given in
+      let fit = planned-fits ready exact in
+      let (zero, spread, swaps) = plan-explained (plannedBy exact i) fit in
+      points-are c (sheetOf i (plannedBy exact i)) w zero ∙
+      rw (plan-points (plannedBy exact i) fit .0, plan-points (plannedBy exact i) fit .1, exact-points ready)
+
+-- 'The sheets of both planners': the sheet that the plan bytes of either planner make has spread 0 and swaps 0, and that of the exact planner
+-- counts 0 too.
+module _ (c p v w : List ℕ) (room : workBytes exact (instanceOf c) ≤ length w) where
+  pub planner-explained :
+      (k : Planner) → numberOf (answer (planShow k c p v)) ≡ 0 →
+      let points = pointsOf c (madeSheet c (planAtExit (planShow k c p v))) w in
+      (points .number ≡ 0) × (points .spread ≡ 0) × (points .swaps ≡ 0)
+  planner-explained k e =
+      let given = planner-on k c p v (number-zero _ e) in
+      rw (plan-written k c p v e) (plan-explained c w given room _ (planned-fits (accepted-plannable c given) k))
+
+  pub exact-planner-explained :
+      numberOf (answer (planShow exact c p v)) ≡ 0 →
+      pointsOf c (madeSheet c (planAtExit (planShow exact c p v))) w ≡ record { number = 0; spread = 0; swaps = 0; counts = 0 }
+  exact-planner-explained e = rw (plan-written exact c p v e) (exact-explained c w (planner-on exact c p v (number-zero _ e)) room)
