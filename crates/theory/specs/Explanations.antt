@@ -1,6 +1,6 @@
 -- Where the points of a sheet went (document 02, §7): the three numbers are whole differences, together the sheet's cost above the least, and
--- each is 0 exactly if changing that one thing alone saves nothing. A plan's sheet loses nothing by spread and swaps, and the exact plan's
--- sheet loses nothing.
+-- each is 0 exactly if changing that one thing alone saves nothing. The sheets of plans have spread 0 and swaps 0, and the exact plan's sheet
+-- has all three 0.
 use Prim.Native.Nat.{ℕ, zero, suc, _+_, _≤_, _<_}
 use mathlib.Core.Path.{_≡_, refl}
 use mathlib.Core.Bool.{true}
@@ -44,7 +44,7 @@ module _ (i : Instance) (s r : List ℕ) (same : SameActive i s r) where
   unfolding countsOf activeAt
   same-counts = tabulate-same (i .slots) (λ t h. sum-ext (i .modules) (λ k g. rw (same t k h g)))
 
--- The sheet of a plan loses nothing by spread and swaps.
+-- The sheet of a plan has spread 0 and swaps 0.
 pub plan-points :
     {i : Instance} (p : List ℕ) → PlanFits i p → (excessOperatingCost i (sheetOf i p) ≡ 0) × (excessSwitchingCost i (sheetOf i p) ≡ 0)
 unfolding excessOperatingCost excessSwitchingCost
@@ -108,7 +108,7 @@ module _ {i : Instance} (ready : Plannable i) where
           omega (arith, plan-switching-cost i plan counts-fit),
     )
 
-    -- The excess of the counts is 0 exactly if no plan that serves costs less.
+    -- The excess of the counts is 0 exactly if no plan that serves costs less than they do.
     pub counts-zero : excessOfCounts i s ≡ 0 ↔ NoBetterPlan i s
     unfolding excessOfCounts allowedCounts
     counts-zero = (
@@ -116,13 +116,13 @@ module _ {i : Instance} (ready : Plannable i) where
       λ least. omega (arith, least _ (exact-plan ready .allowed)),
     )
 
-  -- The sheets of both planners lose nothing by spread and swaps.
+  -- The sheets of both planners have spread 0 and swaps 0.
   pub planner-points :
       (k : Planner) →
       (excessOperatingCost i (sheetOf i (plannedBy k i)) ≡ 0) × (excessSwitchingCost i (sheetOf i (plannedBy k i)) ≡ 0)
   planner-points k = plan-points (plannedBy k i) (planned-fits ready k)
 
-  -- The exact planner's sheet loses nothing by its counts either.
+  -- The exact planner's sheet has counts 0 too.
   pub exact-points : excessOfCounts i (sheetOf i (plannedBy exact i)) ≡ 0
   unfolding excessOfCounts plannedBy
   exact-points = rw (plan-counts i (plannedBy exact i) (planned-fits ready exact)) (omega arith)

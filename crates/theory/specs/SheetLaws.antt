@@ -1,4 +1,5 @@
--- Sheets: their cost by the modules that go on, the thesis's 2.2 and 2.3, the counts of a sheet, and the sheet of a plan.
+-- Sheets: their cost by the modules that go on, the thesis's 2.2 and 2.3, the counts of a sheet, and the sheet of a plan, with
+-- operating cost and switching cost apart (02 §7).
 use Prim.Native.Nat.{ℕ, zero, suc, _+_, _-_, _*_, _/_, _%_, _≤_, _<_}
 use mathlib.Core.Path.{_≡_, refl, ap, ap₂, sym, _∙_, subst}
 use mathlib.Core.Bool.{Bool, true, false, cond}
@@ -209,7 +210,8 @@ abbrev pub sheetWith : Instance → (ℕ → ℕ → ℕ) → List ℕ
 sheetWith i f = rows (i .slots) (λ t. tabulate (i .modules) (f t))
 
 module _ (i : Instance) (f : ℕ → ℕ → ℕ) where
-  pub with-length : length (sheetWith i f) ≡ i .modules * i .slots
+  -- It has m × T bytes.
+  with-length : length (sheetWith i f) ≡ i .modules * i .slots
   with-length =
       length-rows (i .modules) (i .slots) _ (λ t. length-tabulate (i .modules) (f t)) ∙ mul-comm (i .slots) (i .modules)
 
