@@ -1,8 +1,9 @@
 -- Where the points of a sheet went (document 02, §7): its cost above the least cost in three parts, and what each part being 0 says.
 use Prim.Native.Nat.{ℕ, suc, _+_, _-_, _*_, _≤_, _<_}
 use mathlib.Core.Path.{_≡_}
-use mathlib.Core.Bool.{true}
+use mathlib.Core.Bool.{true, cond}
 use mathlib.Core.List.{List}
+use lib.Dec.{eqb}
 use Rattle.lists.specs.Sums.{sum}
 use Rattle.model.specs.Instance.{Instance}
 use Rattle.model.specs.Counts.{operatingCost, allCounts}
@@ -52,6 +53,18 @@ abbrev pub NoBetterChoice : Instance → (sheet : List ℕ) → Type 0
 NoBetterChoice i s =
     (pattern : List ℕ) → sheetLength i pattern ≡ true → countsOf i pattern ≡ countsOf i s →
     sheetSwitchingCost i s ≤ sheetSwitchingCost i pattern
+
+-- How often a byte stands in a slot of a sheet.
+unfoldable pub howOften : Instance → (sheet : List ℕ) → (slot byte : ℕ) → ℕ
+howOften i s t b = sum (i .modules) (λ k. cond (eqb (stateAt i s (suc t) k) b) 1 0)
+
+-- Two sheets have the same steps in each slot, in whatever order: each byte stands there equally often.
+abbrev pub SameSteps : Instance → (s r : List ℕ) → Type 0
+SameSteps i s r = (t b : ℕ) → t < i .slots → howOften i r t b ≡ howOften i s t b
+
+-- The same of sheets: of all sheets that serve, with the same steps in each slot, which other modules may have, none costs less.
+abbrev pub NoBetterOrder : Instance → (sheet : List ℕ) → Type 0
+NoBetterOrder i s = (r : List ℕ) → serves i r ≡ true → SameSteps i s r → sheetCost i s ≤ sheetCost i r
 
 -- 'the counts, if no plan costs less': of all plans that serve, over all counts of the rack, none costs less than the sheet's counts as a
 -- plan.

@@ -4,7 +4,7 @@ use mathlib.Core.Path.{_≡_, refl, ap, sym, _∙_}
 use mathlib.Core.Bool.{Bool, true, false, cond, or-true, or-false}
 use mathlib.Core.Logic.{_⊎_, inl, inr, ⊎-elim}
 use lib.Dec.{leb}
-use borrow.Author.Tests.{leb-true, le-leb, ne-eqb}
+use borrow.Author.Tests.{leb-true, le-leb, eqb-true, ne-eqb}
 use native.Mathlib.Nat.{add-sub-of-le, mod-lt, div-add-mod, div-le-of-le-mul}
 use native.Mathlib.Nat.{le-trans, le-of-lt, eq-or-lt-of-le, eq-zero-or-pos, mul-le-mul-left, mul-le-mul-right}
 use native.Mathlib.Omega.{arith}
@@ -75,6 +75,14 @@ module _ (i : Instance) (n l cost : ℕ) (fits : l ≤ n * i .topStep)
 entry-cases : (i : Instance) (b : ℕ) → Entry i b → (isOff b ≡ true) ⊎ ((isOff b ≡ false) × (b ≤ i .topStep))
 entry-cases i b e =
     ⊎-elim inl (λ (g : isOff b ≡ false). inr (g, leb-true b (i .topStep) (rw (g, or-false) at e))) (true-or-false (isOff b))
+
+-- Where no step is the byte for off, no entry is above it.
+pub entry-le : (i : Instance) (b : ℕ) → i .topStep < off → Entry i b → b ≤ off
+entry-le i b steps e =
+    ⊎-elim
+    (λ (g : isOff b ≡ true). omega (arith, eqb-true b off g))
+    (λ (g : (isOff b ≡ false) × (b ≤ i .topStep)). omega arith)
+    (entry-cases i b e)
 
 -- No more modules are active than there are.
 pub active-le : (m : ℕ) (b : ℕ → ℕ) → activeIn m b ≤ m

@@ -151,7 +151,7 @@ module _ (i : Instance) (s : List ℕ) where
   counts-length = length-tabulate (i .slots) _
 
   -- Each slot of a sheet that serves is a row of entries.
-  row-entries : serves i s ≡ true → (t : ℕ) → t < i .slots → (k : ℕ) → k < i .modules → Entry i (stateAt i s (suc t) k)
+  pub row-entries : serves i s ≡ true → (t : ℕ) → t < i .slots → (k : ℕ) → k < i .modules → Entry i (stateAt i s (suc t) k)
   unfolding stateAt sheetLength sheetEntries
   row-entries e t h k g =
       let (sized, entries, light) = serves-parts i s .0 e in
@@ -159,7 +159,7 @@ module _ (i : Instance) (s : List ℕ) where
       rw (lt-ltb t (i .slots) h) (every-at (length s) _ entries (t * i .modules + k) (omega (arith, digits-lt h g)))
 
   -- Each slot of a sheet that serves has at least the load for its light.
-  row-light : serves i s ≡ true → (t : ℕ) → t < i .slots → i .load t ≤ lightIn (i .modules) (stateAt i s (suc t))
+  pub row-light : serves i s ≡ true → (t : ℕ) → t < i .slots → i .load t ≤ lightIn (i .modules) (stateAt i s (suc t))
   unfolding lightIn sheetLight lightAt
   row-light e t h = leb-true _ _ (every-at (i .slots) _ (serves-parts i s .0 e .2) t h)
 
