@@ -64,7 +64,7 @@ fn plan_with_counts(
 }
 
 // A planner's plan, of least cost over the counts that are allowed it, and its cost.
-fn plan_by(kind: PlannerKind, card: &[u8], h: Header, plan: &mut [u8], work: &mut [u8]) -> u64
+pub fn plan_by(kind: PlannerKind, card: &[u8], h: Header, plan: &mut [u8], work: &mut [u8]) -> u64
     requires { ⌜ Buffers (plannerOf kind) (now card) h (now plan) (now work) ⌝ }
     ensures { λ r. ⌜ r ≡ plannedCost (plannerOf kind) (instanceOf (now (card .entry))) ⌝ }
     ensures { λ _. ⌜ now (plan .exit) ≡ plannedBy (plannerOf kind) (instanceOf (now (card .entry))) ⌝ }
@@ -75,7 +75,7 @@ fn plan_by(kind: PlannerKind, card: &[u8], h: Header, plan: &mut [u8], work: &mu
 }
 
 // The work bytes that a planner asks for.
-fn work_bytes(kind: PlannerKind, card: &[u8], h: Header) -> usize
+pub fn work_bytes(kind: PlannerKind, card: &[u8], h: Header) -> usize
     requires { ⌜ Ready (now card) h ⌝ }
     ensures { λ r. ⌜ r ≡ workBytes (plannerOf kind) (instanceOf (now (card .entry))) ⌝ }
 {

@@ -1,6 +1,6 @@
 -- The explanation of a sheet as a call (document 02, §7): its answer by that of marking, what its three numbers promise, and what it says of the
 -- planners' sheets.
-use Prim.Native.Nat.{ℕ, _+_, _≤_, _<_}
+use Prim.Native.Nat.{ℕ, _≤_, _<_}
 use mathlib.Core.Path.{_≡_, refl, sym, ap, _∙_}
 use mathlib.Core.Bool.{true}
 use mathlib.Core.List.{List, [], _∷_}
@@ -13,11 +13,11 @@ use Rattle.model.specs.declared.Refusal.the-variants.{BufferTooShort, WrongLeng
 use Rattle.model.specs.declared.Answer.{Answer}
 use Rattle.model.specs.declared.Answer.the-variants.{Cost, Refused}
 use Rattle.model.specs.declared.Points.{Points}
-use Rattle.model.specs.Answers.{numberOf, costOf}
+use Rattle.model.specs.Answers.{numberOf}
 use Rattle.model.specs.Instance.{Instance, instanceOf}
-use Rattle.model.specs.Sheets.{serves, sheetCost}
+use Rattle.model.specs.Sheets.{serves}
 use Rattle.model.specs.Plans.{sheetOf}
-use Rattle.model.specs.Planners.{Planner, exact, workBytes, plannedBy, plannedCost}
+use Rattle.model.specs.Planners.{Planner, exact, workBytes, plannedBy}
 use Rattle.model.specs.Explanation.{excessOperatingCost, excessSwitchingCost, excessOfCounts}
 use Rattle.model.specs.Calls.{checkCard, planShow, markSheet, explainSheet, sheet, onCard, requestOf, refusals, firstRefusal, applies, successCost}
 use Rattle.model.specs.Calls.{answer, Accepted, workBuffer, buffersOf, anyShort, rightLength, entriesInRange, loadsServed, atExit, buffersAtExit}
@@ -31,7 +31,7 @@ use Rattle.theory.specs.SheetLaws.{plan-sheet-serves}
 use Rattle.theory.specs.Condition3.{accepted-plannable, planned-fits}
 use Rattle.theory.specs.Explanations.{spread-whole, swaps-whole, counts-whole, points-together, spread-zero, swaps-zero, counts-zero}
 use Rattle.theory.specs.Explanations.{plan-points, exact-points}
-use Rattle.theory.specs.Refusals.{succeeded}
+use Rattle.theory.specs.RearrangedSheets.{swaps-zero-sheets}
 use Rattle.theory.specs.Outcomes.{mark-tests, mark-accepts, mark-number, planner-on, planner-answer, plan-written}
 
 -- The answer of an explanation.
@@ -147,6 +147,7 @@ module _ (c s w : List ℕ) where
       record {
         spread-zero = λ e. rw (points-are e) (spread-zero (ready e) s (accepted e .1));
         swaps-zero = λ e. rw (points-are e) (swaps-zero (ready e) s (accepted e .1));
+        swaps-zero-sheets = λ e. rw (points-are e) (swaps-zero-sheets (ready e) s (accepted e .1));
         counts-zero = λ e. rw (points-are e) (counts-zero (ready e) s (accepted e .1));
       }
 

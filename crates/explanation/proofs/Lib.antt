@@ -1,0 +1,7 @@
+mod RowCounts
+mod SheetRows
+mod WritingCounts
+mod Exchanging
+mod SwitchingExcess
+mod ThreeNumbers
+mod Explaining

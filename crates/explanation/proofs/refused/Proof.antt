@@ -1,0 +1,11 @@
+use mathlib.Core.Path.{ap}
+use Rattle.model.specs.declared.Points.{Points}
+use borrow.Author.Needs.{needs}
+use Rattle.explanation.proofs.refused.Statement.{statement}
+use Rattle.explanation.proofs.refused.Tie as tie
+
+returns : tie.Need-returns
+returns c = rw (c .refusal-number .ensures)
+
+pub refused-spec : {M : Type 1} → statement M
+refused-spec = tie.close (tie.spec (λ c κs. search needs) returns)

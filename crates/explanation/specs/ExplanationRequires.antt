@@ -1,0 +1,41 @@
+-- What the functions of this crate ask for.
+use Prim.Native.Nat.{ℕ, _≤_}
+use mathlib.Core.Path.{_≡_}
+use mathlib.Core.Bool.{true}
+use mathlib.Core.List.{List}
+use lib.ListN.{length}
+use Rattle.model.specs.Instance.{instanceOf}
+use Rattle.model.specs.Sheets.{serves, sheetCost, countsOf}
+use Rattle.model.specs.Planners.{exact, workBytes}
+use Rattle.card.specs.declared.Header.{Header}
+use Rattle.card.specs.Checking.{Ready}
+use Rattle.sheets.specs.SheetRequires.{SheetSized}
+use Rattle.planners.specs.PlannerRequires.{Buffers}
+
+-- An accepted card with its header, a sheet of m × T bytes, and room for one count for each slot.
+pub record CountsRoom (s : List ℕ) (h : Header) (sheet counts : List ℕ) : Type 0 where
+  pub sized : SheetSized s h sheet
+  pub slotwise : length counts ≡ instanceOf s .slots
+
+-- An accepted card with its header, a sheet of m × T bytes, and the sheet's counts.
+pub record CountsKnown (s : List ℕ) (h : Header) (sheet counts : List ℕ) : Type 0 where
+  pub sized : SheetSized s h sheet
+  pub counts-are : counts ≡ countsOf (instanceOf s) sheet
+
+-- An accepted card with its header, a sheet that serves its show, and the sheet's cost.
+pub record Marked (s : List ℕ) (h : Header) (sheet : List ℕ) (cost : ℕ) : Type 0 where
+  pub ready : Ready s h
+  pub served : serves (instanceOf s) sheet ≡ true
+  pub cost-is : cost ≡ sheetCost (instanceOf s) sheet
+
+-- The exact planner's buffers, where the counts stand in the plan's.
+abbrev pub PointsRoom : (s : List ℕ) → Header → (counts work : List ℕ) → Type 0
+PointsRoom s = Buffers exact s
+
+-- The exact planner's work bytes.
+pub record WorkRoom (s work : List ℕ) : Type 0 where
+  pub work-room : workBytes exact (instanceOf s) ≤ length work
+
+-- Room for one count for each slot of the longest show.
+pub record CountsArray (counts : List ℕ) : Type 0 where
+  pub size : length counts ≡ 1024
