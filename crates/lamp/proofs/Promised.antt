@@ -11,6 +11,7 @@ use Rattle.model.specs.declared.Refusal.the-variants.{NotPermitted}
 use Rattle.model.specs.declared.Seat.{Seat}
 use Rattle.model.specs.declared.Sitting.{Sitting}
 use Rattle.model.specs.declared.Reply.{Reply}
+use Rattle.model.specs.declared.Points.{Points}
 use Rattle.model.specs.Answers.{numberOf, costOf}
 use Rattle.model.specs.Instance.{instanceOf}
 use Rattle.model.specs.Sheets.{serves, sheetCost}
@@ -18,11 +19,12 @@ use Rattle.model.specs.Plans.{sheetOf}
 use Rattle.model.specs.Planners.{Planner, exact, ratioOf, plannedBy, plannedCost}
 use Rattle.model.specs.Calls.{NumbersOf, Gives, Accepted, planShow, makeSheet, markSheet, practiceCard, catalogueTable, answer, successCost}
 use Rattle.model.specs.Calls.{planBuffer, planAtExit, workAtExit, sheetAtExit, cardAtExit, tableAtExit}
-use Rattle.model.specs.Calls.{actIn, requestOf, refusals, buffersAtExit, buffersOf, actBuffers}
+use Rattle.model.specs.Calls.{actIn, requestOf, refusals, buffersAtExit, buffersOf, actBuffers, explainSheet, explainedWork, pointsOf}
 use Rattle.model.specs.Acts.{Act, openSitting, readLeast, opened, unopened, isClosed}
 use Rattle.model.specs.SittingState.{factsOf, stateOf, phaseOf}
 use Rattle.model.specs.Sittings.{answerTo, markedWith, told, toldBy, replyWith, replyOf}
 use Rattle.model.specs.Promises.{OwnSheet, AtMostTimes, MarkedAlike, AcceptsExactly, WritesAccepted, AlwaysEnough, HiddenTillClosed, WritesTable}
+use Rattle.model.specs.Promises.{ExplainsMarked, NoneNegative, AboveLeast, ZeroExactly}
 use borrow.Author.Tests.{ne-eqb}
 use Rattle.laws.specs.Acceptance.{modules-range}
 use Rattle.laws.specs.AnswerNumber.{number-zero}
@@ -31,6 +33,7 @@ use Rattle.theory.specs.Condition3.{accepted-plannable, least-sheet, planner-bo
 use Rattle.theory.specs.Refusals.{succeeded}
 use Rattle.theory.specs.PracticeCards.{practice-writes, practice-enough}
 use Rattle.theory.specs.SittingBounds.{least-hidden, opened-planned}
+use Rattle.theory.specs.ExplainedSheets.{explains-marked, none-negative, above-least, zero-exactly}
 use Rattle.theory.specs.Outcomes.{written-taken, mark-number, made-marked, best-fits, plan-at-exit, planner-on}
 
 -- What is given of an answer is given of an equal one.
@@ -140,6 +143,15 @@ pub catalogued :
     NumbersOf a number cost →
     Gives (catalogueTable top f) number cost × ((table ≡ tableAtExit (catalogueTable top f)) × WritesTable top table number)
 catalogued top f (is, (table-is, writes)) given = (gives-as is given, (table-is, rw (given .number-is) writes))
+
+-- An explanation's numbers bring their promises with them.
+pub explains :
+    (c s w : List ℕ) {points : Points} {work : List ℕ} → (points ≡ pointsOf c s w) × (work ≡ explainedWork (explainSheet c s w)) →
+    (points ≡ pointsOf c s w) ×
+    ((work ≡ explainedWork (explainSheet c s w)) ×
+    (ExplainsMarked c s w (points .number) × (NoneNegative c s points × (AboveLeast c s points × ZeroExactly c s points))))
+explains c s w (is, work-is) =
+    (is, (work-is, rw is (explains-marked c s w, (none-negative c s w, (above-least c s w, zero-exactly c s w)))))
 
 -- An opening that is accepted brings condition 3 with it, as the exact planner does.
 module _ (z : Sitting) (xs : List Seat) (d a : ℕ) (c p w : List ℕ) where

@@ -1,6 +1,7 @@
 // The public calls: numbers and byte slices over the C boundary. Each answers every input, with the answer of the call below it.
 use counts::PlannerKind;
 use model::Answer;
+use model::Points;
 use model::Reply;
 use model::Seat;
 use model::Sitting;
@@ -8,10 +9,11 @@ ghost use mathlib.Core.Path.{_≡_};
 ghost use mathlib.Core.List.{[]};
 ghost use Rattle.model.specs.Planners.{exact, coarse};
 ghost use Rattle.model.specs.Calls.{NumbersOf, Gives, checkCard, runningCost, planShow, makeSheet, markSheet, roundCount, practiceCard, catalogueTable};
-ghost use Rattle.model.specs.Calls.{planAtExit, workAtExit, sheetAtExit, cardAtExit, tableAtExit, actIn};
+ghost use Rattle.model.specs.Calls.{planAtExit, workAtExit, sheetAtExit, cardAtExit, tableAtExit, actIn, explainSheet, explainedWork, pointsOf};
 ghost use Rattle.model.specs.Acts.{openSitting, seatCandidate, closeSitting, submitSheet, readLeast, readLowest, readUsed};
 ghost use Rattle.model.specs.Sittings.{replyOf, seatsAtExit};
 ghost use Rattle.model.specs.Promises.{OwnSheet, AtMostTimes, MarkedAlike, AcceptsExactly, WritesAccepted, AlwaysEnough, HiddenTillClosed, WritesTable};
+ghost use Rattle.model.specs.Promises.{ExplainsMarked, NoneNegative, AboveLeast, ZeroExactly};
 
 // What every call returns: a refusal's number and cost 0, or number 0 and the cost.
 #[repr(C)]
@@ -74,6 +76,19 @@ pub extern "C" fn lamp_mark(card: &[u8], sheet: &[u8]) -> LampAnswer
     ensures accepts { λ r. ⌜ AcceptsExactly (now (card .entry)) (now (sheet .entry)) (r .number) ⌝ }
 {
     to_c(calls::mark_sheet(card, sheet))
+}
+
+// Where the points of a handed-in sheet went (document 02, §7): refusals 1 to 8, 10 to 13.
+#[no_mangle]
+pub extern "C" fn lamp_explain(card: &[u8], sheet: &[u8], work: &mut [u8]) -> Points
+    ensures outcome { λ r. ⌜ r ≡ pointsOf (now (card .entry)) (now (sheet .entry)) (now (work .entry)) ⌝ }
+    ensures work_bytes { λ r. ⌜ now (work .exit) ≡ explainedWork (explainSheet (now (card .entry)) (now (sheet .entry)) (now (work .entry))) ⌝ }
+    ensures marked { λ r. ⌜ ExplainsMarked (now (card .entry)) (now (sheet .entry)) (now (work .entry)) (r .number) ⌝ }
+    ensures none_negative { λ r. ⌜ NoneNegative (now (card .entry)) (now (sheet .entry)) r ⌝ }
+    ensures above_least { λ r. ⌜ AboveLeast (now (card .entry)) (now (sheet .entry)) r ⌝ }
+    ensures zero_exactly { λ r. ⌜ ZeroExactly (now (card .entry)) (now (sheet .entry)) r ⌝ }
+{
+    explanation::explain(card, sheet, work)
 }
 
 // The plan of least cost over all sheets: refusals 1 to 8, 10.
