@@ -240,16 +240,27 @@ fn handed_in(words: &Words, show: &Show) -> Result<HandedIn, String> {
     Ok(HandedIn { bytes: text.bytes(show.modules.into(), show.slots()), text: Some(text) })
 }
 
-pub fn mark(words: &Words) -> Ended {
+/// What is said of a sheet, given the exact plan, the card and the sheet.
+type Judge = fn(&Planned, &[u8], &[u8]) -> Result<String, Refusal>;
+
+/// Plans the card, and gives what `judge` says of the sheet that was handed in, or why the card or the sheet is refused.
+fn with_sheet(words: &Words, judge: Judge) -> Ended {
     let card = input::card(words.plain[0])?;
     let planned = match planning::plan(Planner::Exact, &card.bytes) {
         Ok(planned) => planned,
         Err(refusal) => return Ok(Outcome::verdict(card_refusal(&card, refusal))),
     };
     let sheet = handed_in(words, &planned.show)?;
-    Ok(match calls::mark(&card.bytes, &sheet.bytes) {
-        Ok(cost) => Outcome::done(format!("cost {cost}\nleast {}\nabove {}\n", planned.cost, cost - planned.cost)),
+    Ok(match judge(&planned, &card.bytes, &sheet.bytes) {
+        Ok(text) => Outcome::done(text),
         Err(refusal) => Outcome::verdict(lines(refusal, &sheet_places(refusal, &planned.show, &sheet))),
+    })
+}
+
+pub fn mark(words: &Words) -> Ended {
+    with_sheet(words, |planned, card, sheet| {
+        let cost = calls::mark(card, sheet)?;
+        Ok(format!("cost {cost}\nleast {}\nabove {}\n", planned.cost, cost - planned.cost))
     })
 }
 

@@ -66,10 +66,15 @@ Prints F(0) to F(TOP) as a show's text has them, so that the lines can be copied
 'table catalogue' in a show's text stands for the same numbers. TOP is the top step, 1 to 200, digits alone.
     lamp table 8    # table 400 403 407 412 418 425 433 442 452";
 
-const SHEET_TEXT: &str = "\
+/// The word of a command that takes a sheet, what it may be, and the option for a sheet of bytes.
+const SHEET: &str = "SHEET";
+const BYTES: &[&str] = &["--bytes"];
+const A_SHEET: &str = "\
 SHEET has a line a slot, with a step or - (off) for each module, as '2 2 -'. A line may begin with
 'slot 3:', and the cost and plan of a listing may stand before the first slot.
---bytes  SHEET is a byte for each slot and module, 255 for off.
+--bytes  SHEET is a byte for each slot and module, 255 for off.";
+
+const MARKS: &str = "\
 Prints the sheet's cost, the least cost and the points above it, or why the sheet is refused. A slot may get
 more light than its load, but not less, and each step is charged as it stands.";
 
@@ -95,7 +100,7 @@ pub const COMMANDS: [Command; 11] = [
     command("key", &[CARD], PLANNER, commands::key, "prints the show, the least cost, the plan and the sheet", ""),
     command("page", &[CARD], PLANNER, commands::page, "prints the key as a page of HTML, with the picture", ""),
     command("picture", &[CARD], PLANNER, commands::picture, "draws the plan as SVG", ""),
-    command("mark", &[CARD, "SHEET"], &["--bytes"], commands::mark, "marks a sheet", SHEET_TEXT),
+    command("mark", &[CARD, SHEET], BYTES, commands::mark, "marks a sheet", MARKS),
     command("cost", &[CARD, "COUNT", "LOAD"], &[], commands::cost, "gives the running cost of a count and a load", COSTS),
     command("round", &["COUNT", "MODULES"], &[], commands::round, "gives the smallest allowed count not below COUNT", ALLOWED),
 ];
@@ -126,9 +131,10 @@ impl Command {
 
     pub fn help(&self) -> String {
         let card = self.takes.contains(&CARD).then_some(A_CARD);
+        let sheet = self.takes.contains(&SHEET).then_some(A_SHEET);
         let more = (!self.more.is_empty()).then_some(self.more);
         let coarse = (self.options == PLANNER).then_some(COARSE);
-        let lines: String = card.into_iter().chain(more).chain(coarse).map(|part| format!("{part}\n")).collect();
+        let lines: String = card.into_iter().chain(sheet).chain(more).chain(coarse).map(|part| format!("{part}\n")).collect();
         format!("{}\n{}: {}.\n{lines}{STATUS}\n", self.usage(), self.name, self.does)
     }
 }

@@ -19,6 +19,11 @@ impl Planner {
         }
     }
 
+    /// A work area for a show, just as long as the planner asks for.
+    pub fn work(self, show: &Show) -> Vec<u8> {
+        vec![0; self.work_bytes(show.modules.into(), show.slots())]
+    }
+
     /// The planner's call.
     pub fn plan(self, card: &[u8], plan: &mut [u8], work: &mut [u8]) -> Answer {
         match self {
@@ -72,10 +77,8 @@ impl Planned {
 pub fn plan(planner: Planner, card: &[u8]) -> Result<Planned, Refusal> {
     calls::check_card(card)?;
     let show = Show::read(card).expect("an accepted card has a readable length");
-    let (modules, slots) = (usize::from(show.modules), show.slots());
-    let (mut plan, mut work) = (vec![0; slots], vec![0; planner.work_bytes(modules, slots)]);
-    let mut sheet = vec![0; modules * slots];
-    let cost = planner.plan(card, &mut plan, &mut work)?;
+    let (mut plan, mut sheet) = (vec![0; show.slots()], vec![0; usize::from(show.modules) * show.slots()]);
+    let cost = planner.plan(card, &mut plan, &mut planner.work(&show))?;
     let (made, marked) = (calls::sheet(card, &plan, &mut sheet), calls::mark(card, &sheet));
     assert_eq!((made, marked), (Ok(cost), Ok(cost)), "the sheet does not cost what the planner named");
     Ok(Planned { planner, show, cost, plan, sheet })
