@@ -1,6 +1,6 @@
 //! The safe binding: every call of include/lamp.h over slices. A call answers its cost or its refusal; after a refusal every lent
-//! byte is as it was. An act of a sitting answers its reply as C has it, with the sitting that the next act is handed. Slices of Rust that
-//! are written never overlap another slice, which is all that a call asks of its host.
+//! byte is as it was. The explanation of a sheet answers its points as C has them, and an act of a sitting its reply, with the sitting that
+//! the next act is handed. Slices of Rust that are written never overlap another slice, which is all that a call asks of its host.
 use crate::refusal::Refusal;
 
 /// A cost in points, or the refusal. The rounded count gives its count in the cost's place.
@@ -11,6 +11,16 @@ pub type Answer = Result<u64, Refusal>;
 struct LampAnswer {
     number: u64,
     cost: u64,
+}
+
+/// The points of a sheet above the least cost, in three parts. With a refusal, which is the number, all three are 0.
+#[repr(C)]
+#[derive(Clone, Copy, Debug, Default, PartialEq, Eq)]
+pub struct Points {
+    pub number: u64,
+    pub spread: u64,
+    pub swaps: u64,
+    pub counts: u64,
 }
 
 /// A seat of a sitting. An empty one is all zero.
@@ -44,6 +54,7 @@ pub struct Reply {
     pub sitting: Sitting,
 }
 
+const _: () = assert!(size_of::<Points>() == 32);
 const _: () = assert!(size_of::<Seat>() == 16 && size_of::<Sitting>() == 32 && size_of::<Reply>() == 56);
 
 extern "C" {
@@ -74,6 +85,14 @@ extern "C" {
         sheet_len: usize,
     ) -> LampAnswer;
     fn lamp_mark(card: *const u8, card_len: usize, sheet: *const u8, sheet_len: usize) -> LampAnswer;
+    fn lamp_explain(
+        card: *const u8,
+        card_len: usize,
+        sheet: *const u8,
+        sheet_len: usize,
+        work: *mut u8,
+        work_len: usize,
+    ) -> Points;
     fn lamp_rounded_count(count: u64, modules: u64) -> LampAnswer;
     fn lamp_practice_card(start: u32, card: *mut u8, card_len: usize) -> LampAnswer;
     fn lamp_catalogue_table(top: u64, table: *mut u8, table_len: usize) -> LampAnswer;
@@ -144,6 +163,12 @@ pub fn sheet(card: &[u8], plan: &[u8], sheet: &mut [u8]) -> Answer {
 /// The cost of a handed-in sheet.
 pub fn mark(card: &[u8], sheet: &[u8]) -> Answer {
     answer(unsafe { lamp_mark(card.as_ptr(), card.len(), sheet.as_ptr(), sheet.len()) })
+}
+
+/// Where the points of a handed-in sheet above the least cost went; `work` is that of `plan_exact`.
+pub fn explain(card: &[u8], sheet: &[u8], work: &mut [u8]) -> Points {
+    let (sheet_at, work_at) = (sheet.as_ptr(), work.as_mut_ptr());
+    unsafe { lamp_explain(card.as_ptr(), card.len(), sheet_at, sheet.len(), work_at, work.len()) }
 }
 
 /// The smallest allowed count not below `count` in a rack of `modules`.
