@@ -8,7 +8,7 @@ use crate::refusal::Refusal;
 use crate::sheet_text::{self, SheetText};
 use crate::show::Show;
 use crate::words::{grouped, several};
-use crate::{catalogue, folder, help, listing, numbers, page, picture, practice, show_text};
+use crate::{catalogue, explanation, folder, help, listing, numbers, page, picture, practice, show_text};
 use std::ffi::{OsStr, OsString};
 use std::path::Path;
 
@@ -262,6 +262,10 @@ pub fn mark(words: &Words) -> Ended {
         let cost = calls::mark(card, sheet)?;
         Ok(format!("cost {cost}\nleast {}\nabove {}\n", planned.cost, cost - planned.cost))
     })
+}
+
+pub fn explain(words: &Words) -> Ended {
+    with_sheet(words, |planned, card, sheet| Ok(explanation::of(planned, card, sheet)?.text()))
 }
 
 /// The places of a sheet for which it gets 11 to 13.

@@ -78,6 +78,15 @@ const MARKS: &str = "\
 Prints the sheet's cost, the least cost and the points above it, or why the sheet is refused. A slot may get
 more light than its load, but not less, and each step is charged as it stands.";
 
+const EXPLAINS: &str = "\
+Prints the sheet's cost, the least cost and the points above it, as 'lamp mark' does, and the three parts of
+these points, each number with a sentence; or why the sheet is refused.
+    spread  what other steps for the same burning modules would save
+    swaps   what another choice of modules, as many in each slot, would save on switching
+    counts  what even the best sheet with as many burning modules in each slot costs above the least
+Spread and swaps are 0 exactly if nothing can be saved so, and counts is 0 exactly if no plan costs less than the
+sheet's counts do as a plan. All this tells the least cost, so it is for a candidate only after the sitting.";
+
 /// A command of the table below.
 const fn command(
     name: &'static str,
@@ -91,7 +100,7 @@ const fn command(
 }
 
 /// All commands, in the order of an examiner's day.
-pub const COMMANDS: [Command; 11] = [
+pub const COMMANDS: [Command; 12] = [
     command("card", &["SHOW"], &[], commands::card, "makes a card of a show typed as text", SHOW_TEXT),
     command("practice", &["NUMBER"], &[INTO], commands::practice, "makes practice cards by their numbers", PRACTICE),
     command("table", &["TOP"], &[], commands::table, "prints the catalogue module's table for a show's text", TABLE),
@@ -101,6 +110,7 @@ pub const COMMANDS: [Command; 11] = [
     command("page", &[CARD], PLANNER, commands::page, "prints the key as a page of HTML, with the picture", ""),
     command("picture", &[CARD], PLANNER, commands::picture, "draws the plan as SVG", ""),
     command("mark", &[CARD, SHEET], BYTES, commands::mark, "marks a sheet", MARKS),
+    command("explain", &[CARD, SHEET], BYTES, commands::explain, "says where a sheet's points above the least went", EXPLAINS),
     command("cost", &[CARD, "COUNT", "LOAD"], &[], commands::cost, "gives the running cost of a count and a load", COSTS),
     command("round", &["COUNT", "MODULES"], &[], commands::round, "gives the smallest allowed count not below COUNT", ALLOWED),
 ];

@@ -5,6 +5,7 @@
 pub mod calls;
 pub mod catalogue;
 pub mod commands;
+pub mod explanation;
 pub mod faults;
 pub mod folder;
 pub mod help;
