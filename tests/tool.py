@@ -84,18 +84,22 @@ def shows_and_cards():
     expect("too many slots", changed(b"6 0 2", b"0\n" * 1025), 1, b"", "refused 4", "1,025 slots (line 1031, column 1)")
 
 
+# A card for each refusal of 1 to 8.
+REFUSED_CARDS = {
+    1: b"",
+    2: card(version=2, m=0),
+    3: card(m=0),
+    4: card(loads=(0,) * 1025),
+    5: card() + b"\0",
+    6: card(up=500000001),
+    7: card(table=(0, 2, 3)),
+    8: card(loads=(7,)),
+}
+
+
 def checks():
     expect("check", lamp("check", SAMPLES / "a.card"), 0, b"accepted: 3 modules, top step 2, 3 slots, warm-up 3, cool-down 2\n")
-    for number, data in {
-        1: b"",
-        2: card(version=2, m=0),
-        3: card(m=0),
-        4: card(loads=(0,) * 1025),
-        5: card() + b"\0",
-        6: card(up=500000001),
-        7: card(table=(0, 2, 3)),
-        8: card(loads=(7,)),
-    }.items():
+    for number, data in REFUSED_CARDS.items():
         status, out, err = lamp("check", "-", data=data)
         lines = out.decode().splitlines()
         require(f"check refuses by {number}", status == 1 and lines[0].startswith(f"refused {number}: ") and len(lines) > 1 and not err)
@@ -211,27 +215,119 @@ def marks():
     expect("the listing", lamp("mark", a, SAMPLES / "a.out"), 0, b"cost 32\nleast 32\nabove 0\n")
     expect("D as bytes", lamp("mark", "--bytes", a, "-", data=D_BYTES), 0, b"cost 37\nleast 32\nabove 5\n")
     expect("no slot", lamp("mark", SAMPLES / "empty.card", "-"), 0, b"cost 0\nleast 0\nabove 0\n")
-    require("a refused card", lamp("mark", SAMPLES / "not-convex.card", sheet)[1].startswith(b"refused 7: table not convex\n"))
     more_light()
+
+
+D_EXPLAINED = b"""cost 37: this is what the sheet costs
+least 32: no sheet that serves the show costs less
+above 5: the sheet costs 5 points more than the least, for spread, swaps and counts together
+spread 0: no other steps for the same burning modules give enough light for less
+swaps 5: another choice of modules, as many in each slot, would warm up and cool down for 5 points less
+counts 0: the best sheet with as many burning modules in each slot costs the least
+"""
+MORE_EXPLAINED = b"""cost 43: this is what the sheet costs
+least 32: no sheet that serves the show costs less
+above 11: the sheet costs 11 points more than the least, for spread, swaps and counts together
+spread 1: other steps for the same burning modules would give enough light for 1 point less
+swaps 5: another choice of modules, as many in each slot, would warm up and cool down for 5 points less
+counts 5: even the best sheet with as many burning modules in each slot costs 5 points more than the least
+"""
+SENTENCES = {
+    "above": ("the sheet costs the least", "the sheet costs {} more than the least, for spread, swaps and counts together"),
+    "spread": (
+        "no other steps for the same burning modules give enough light for less",
+        "other steps for the same burning modules would give enough light for {} less",
+    ),
+    "swaps": (
+        "no other choice of modules, as many in each slot, warms up and cools down for less",
+        "another choice of modules, as many in each slot, would warm up and cool down for {} less",
+    ),
+    "counts": (
+        "the best sheet with as many burning modules in each slot costs the least",
+        "even the best sheet with as many burning modules in each slot costs {} more than the least",
+    ),
+}
+
+
+def explained(least, *parts):
+    """What `explain` prints of a sheet with these points for spread, swaps and counts."""
+    above = sum(parts)
+    text = f"cost {least + above}: this is what the sheet costs\nleast {least}: no sheet that serves the show costs less\n"
+    for (name, (none, some)), number in zip(SENTENCES.items(), (above, *parts)):
+        points = f"{number:,} point{'' if number == 1 else 's'}"
+        text += f"{name} {number}: {some.format(points) if number else none}\n"
+    return text.encode()
+
+
+# Sheets of card A: each of the three parts above 0 alone, each pair of them, all three, and none.
+PARTS = {
+    b"2 2 2\n1 - -\n2 - -\n": (1, 0, 0),
+    b"2 2 2\n- 0 -\n2 - -\n": (0, 5, 0),
+    b"2 2 2\n- - -\n2 - -\n": (0, 0, 4),
+    b"2 2 2\n- 1 -\n2 - -\n": (1, 5, 0),
+    b"2 2 2\n- - -\n2 0 -\n": (1, 0, 9),
+    b"2 2 2\n- 0 -\n1 - 1\n": (0, 5, 5),
+    b"2 2 2\n- 0 -\n2 - 0\n": (1, 5, 5),
+    b"2 2 2\n- 0 -\n- 2 -\n": (0, 0, 0),
+}
+
+
+def explanations():
+    """Where the points of a sheet went. The planner's sheets lose none by spread and swaps, and the exact one none at all."""
+    a, sheet = SAMPLES / "a.card", SAMPLES / "d.sheet"
+    expect("D explained", lamp("explain", a, sheet), 0, D_EXPLAINED)
+    expect("D explained on the show's text", lamp("explain", SAMPLES / "a.show", sheet), 0, D_EXPLAINED)
+    expect("D explained without labels", lamp("explain", a, "-", data=b"2 2 2\n- 0 -\n2 - -\n"), 0, D_EXPLAINED)
+    expect("D explained as bytes", lamp("explain", "--bytes", a, "-", data=D_BYTES), 0, D_EXPLAINED)
+    expect("D with step 0 for its last byte", lamp("explain", "--bytes", a, "-", data=D_BYTES[:8] + b"\0"), 0, MORE_EXPLAINED)
+    expect("the listing explained", lamp("explain", a, SAMPLES / "a.out"), 0, explained(32, 0, 0, 0))
+    expect("no slot explained", lamp("explain", SAMPLES / "empty.card", "-"), 0, explained(0, 0, 0, 0))
+    for text, parts in PARTS.items():
+        marked = b"cost %d\nleast 32\nabove %d\n" % (32 + sum(parts), sum(parts))
+        expect(f"marks of {text}", lamp("mark", a, "-", data=text), 0, marked)
+        expect(f"points of {text}", lamp("explain", a, "-", data=text), 0, explained(32, *parts))
+    for sheet_of, parts in {b"2 -\n2 -\n": (0, 0, 0), b"1 1\n2 -\n": (0, 0, 0), b"2 -\n2 0\n": (1, 0, 0)}.items():
+        found = lamp("explain", SAMPLES / "several-least.card", "-", data=sheet_of)
+        expect(f"several least plans, {sheet_of}", found, 0, explained(4, *parts))
+    for name, least, cost in (("e", 5, 8), ("falls-first", 48, 52), ("v-shaped", 2, 2)):
+        path = SAMPLES / f"{name}.card"
+        coarse = lamp("key", "--coarse", path)[1].partition(COARSE)[2]
+        expect(f"the coarse sheet of {name}", lamp("explain", path, "-", data=coarse), 0, explained(least, 0, 0, cost - least))
+    dear = lamp("explain", "-", sheet, data=card(up=500000000, down=500000000))
+    expect("dear swaps", dear, 0, explained(3000000017, 0, 10**9, 0))
+    require("their points as the papers print them", b"\nswaps 1000000000: " in dear[1] and b" for 1,000,000,000 points less\n" in dear[1])
+
+
+def readme_explains(folder):
+    """README's line, on the card of its day."""
+    day = (ROOT / "README.md").read_text(encoding="utf-8").partition("## The examiner's day")[2].partition("\n## ")[0]
+    lines = [line for line in day.splitlines() if "bin/lamp explain" in line]
+    require("README explains a sheet in one line", len(lines) == 1 and lines[0].startswith("    bin/lamp explain a.card "))
+    place = new_folder(folder, "day")
+    for name in ("bin", "samples"):
+        (place / name).symlink_to(ROOT / name)
+    shutil.copy(SAMPLES / "a.card", place)
+    expect("README's line", shell(lines[0], cwd=place), 0, D_EXPLAINED)
 
 
 def more_light():
     """A sheet with more light than the loads is accepted, and each step is charged as it stands, also where a higher one costs less."""
     a, falling = SAMPLES / "a.card", SAMPLES / "falls-first.card"
     light = WORDS[2].encode()
-    for name, path, text, cost, least in (
-        ("slot 3 of D", a, b"2 2 2\n- 0 -\n2 - 1\n", 44, 32),
-        ("slot 2 of D", a, b"2 2 2\n- 1 -\n2 - -\n", 38, 32),
-        ("all at the top", a, b"2 2 2\n2 2 2\n2 2 2\n", 51, 32),
-        ("the planner's sheet", falling, b"3 2 2 -\n1 1 1 -\n1 1 1 -\n3 3 2 -\n", 48, 48),
-        ("the loads and no more", falling, b"3 2 2 -\n1 1 0 -\n0 0 0 -\n3 3 2 -\n", 64, 48),
-        ("another step that costs the same", falling, b"3 2 2 -\n2 2 2 -\n1 2 1 -\n3 3 2 -\n", 48, 48),
-        ("the top step in dark slots", falling, b"3 2 2 -\n3 3 3 -\n3 3 3 -\n3 3 2 -\n", 66, 48),
+    for name, path, text, cost, least, parts in (
+        ("slot 3 of D", a, b"2 2 2\n- 0 -\n2 - 1\n", 44, 32, (2, 5, 5)),
+        ("slot 2 of D", a, b"2 2 2\n- 1 -\n2 - -\n", 38, 32, (1, 5, 0)),
+        ("all at the top", a, b"2 2 2\n2 2 2\n2 2 2\n", 51, 32, (16, 0, 3)),
+        ("the planner's sheet", falling, b"3 2 2 -\n1 1 1 -\n1 1 1 -\n3 3 2 -\n", 48, 48, (0, 0, 0)),
+        ("the loads and no more", falling, b"3 2 2 -\n1 1 0 -\n0 0 0 -\n3 3 2 -\n", 64, 48, (16, 0, 0)),
+        ("another step that costs the same", falling, b"3 2 2 -\n2 2 2 -\n1 2 1 -\n3 3 2 -\n", 48, 48, (0, 0, 0)),
+        ("the top step in dark slots", falling, b"3 2 2 -\n3 3 3 -\n3 3 3 -\n3 3 2 -\n", 66, 48, (18, 0, 0)),
     ):
-        wanted = b"cost %d\nleast %d\nabove %d\n" % (cost, least, cost - least)
-        expect(f"more light: {name}", lamp("mark", path, "-", data=text), 0, wanted)
         bytes_of = bytes(255 if step == "-" else int(step) for step in text.decode().split())
-        expect(f"more light, as bytes: {name}", lamp("mark", "--bytes", path, "-", data=bytes_of), 0, wanted)
+        marks_of = b"cost %d\nleast %d\nabove %d\n" % (cost, least, cost - least)
+        for command, wanted in {"mark": marks_of, "explain": explained(least, *parts)}.items():
+            expect(f"{command}, more light: {name}", lamp(command, path, "-", data=text), 0, wanted)
+            expect(f"{command}, more light, as bytes: {name}", lamp(command, "--bytes", path, "-", data=bytes_of), 0, wanted)
     darker = b"3 2 2 -\n1 0 0 -\n0 0 0 -\n3 3 1 -\n"
     places = b"  slot 2: light 1 where the load is 2, 1 too little (line 2)\n  slot 4: light 7 where the load is 8, 1 too little (line 4)\n"
     expect("one step darker", lamp("mark", falling, "-", data=darker), 1, light + places)
@@ -240,8 +336,13 @@ def more_light():
     expect("much light before a dark slot", lamp("mark", falling, "-", data=mixed), 1, light + place)
 
 
-def refused_sheets():
-    a = SAMPLES / "a.card"
+def refused_sheets(command):
+    """A command on a sheet says why the card or the sheet is refused, and where."""
+    a, sheet = SAMPLES / "a.card", SAMPLES / "d.sheet"
+    for number, data in REFUSED_CARDS.items():
+        expect(f"{command} of a card refused by {number}", lamp(command, "-", sheet, data=data), 1, lamp("check", "-", data=data)[1])
+    bent = A_TEXT.replace(b"1 2 4", b"0 2 3")
+    expect(f"{command} of a refused show", lamp(command, "-", sheet, data=bent), 1, lamp("check", "-", data=bent)[1])
     length, entry, light = (line.encode() for line in WORDS)
     refusals = {
         b"2 2 2\n- 0\n2 - -\n": length + b"  slot 2: 2 steps where the rack has 3 modules (line 2)\n",
@@ -258,30 +359,33 @@ def refused_sheets():
         + b"  slot 1: light 5 where the load is 6, 1 too little (line 1)\n  slot 3: light 0 where the load is 2, 2 too little (line 3)\n",
     }
     for text, wanted in refusals.items():
-        expect(f"sheet {text!r}", lamp("mark", a, "-", data=text), 1, wanted)
+        expect(f"{command}: sheet {text!r}", lamp(command, a, "-", data=text), 1, wanted)
     short = b"  8 bytes where 3 slots and 3 modules make 9\n"
-    expect("eight bytes", lamp("mark", a, "-", "--bytes", data=D_BYTES[:8]), 1, length + short)
+    expect(f"{command}: eight bytes", lamp(command, a, "-", "--bytes", data=D_BYTES[:8]), 1, length + short)
     looks = b"  10 bytes where 3 slots and 3 modules make 9; it looks like typed text, which is read without --bytes\n"
-    expect("text as bytes", lamp("mark", a, "-", "--bytes", data=b"2 2 2\n- 0\n"), 1, length + looks)
+    expect(f"{command}: text as bytes", lamp(command, a, "-", "--bytes", data=b"2 2 2\n- 0\n"), 1, length + looks)
 
 
-def no_sheets():
+def no_sheets(command):
     """What is no sheet, or stands in its place, is told."""
     a, sheet = SAMPLES / "a.card", SAMPLES / "d.sheet"
-    expect("bytes without --bytes", lamp("mark", a, "-", data=D_BYTES), 2, b"", "this is not text; a sheet as bytes is read with --bytes")
-    expect("a step too large", lamp("mark", a, "-", data=b"2 2 255\n"), 2, b"", "line 1, column 5: '255' is too large for a step")
-    expect("a card for a sheet", lamp("mark", a, a), 2, b"", "this is a card, not a sheet")
-    expect("a show for a sheet", lamp("mark", a, SAMPLES / "a.show"), 2, b"", "this is a show, not a sheet")
-    key = lamp("mark", a, "-", data=lamp("key", a)[1])
-    expect("a key for a sheet", key, 2, b"", "this is a key; a sheet is its lines from 'cost' on")
-    expect("hex for a sheet", lamp("mark", a, SAMPLES / "a.hex"), 2, b"", "this is hex text, not a sheet")
-    expect("a page for a sheet", lamp("mark", a, "-", data=lamp("page", a)[1]), 2, b"", "this is a page or a picture, not a sheet")
-    expect("a sheet in UTF-16", lamp("mark", a, "-", data="2 2 2\n".encode("utf-16")), 2, b"", "save it as UTF-8")
+
+    def told(name, path, hint, data=b"", before=a):
+        expect(f"{command}: {name}", lamp(command, before, path, data=data), 2, b"", hint)
+
+    told("bytes without --bytes", "-", "this is not text; a sheet as bytes is read with --bytes", D_BYTES)
+    told("a step too large", "-", "line 1, column 5: '255' is too large for a step", b"2 2 255\n")
+    told("a card for a sheet", a, "this is a card, not a sheet")
+    told("a show for a sheet", SAMPLES / "a.show", "this is a show, not a sheet")
+    told("a key for a sheet", "-", "this is a key; a sheet is its lines from 'cost' on", lamp("key", a)[1])
+    told("hex for a sheet", SAMPLES / "a.hex", "this is hex text, not a sheet")
+    told("a page for a sheet", "-", "this is a page or a picture, not a sheet", lamp("page", a)[1])
+    told("a sheet in UTF-16", "-", "save it as UTF-8", "2 2 2\n".encode("utf-16"))
     latin = b"# M\xfcller\n2 2 2\n- 0 -\n2 - -\n"
-    wrong = "line 1, column 4: the byte FC is not UTF-8; save the text as UTF-8"
-    expect("a sheet in Latin-1", lamp("mark", a, "-", data=latin), 2, b"", wrong)
-    expect("card and sheet swapped", lamp("mark", sheet, a), 2, b"", "this looks like a sheet; the card is named before it")
-    expect("a plain sheet for a card", lamp("mark", "-", a, data=b"22 11 10\n11 10 22\n"), 2, b"", "this looks like a sheet")
+    told("a sheet in Latin-1", "-", "line 1, column 4: the byte FC is not UTF-8; save the text as UTF-8", latin)
+    told("card and sheet swapped", a, "this looks like a sheet; the card is named before it", before=sheet)
+    told("a plain sheet for a card", a, "this looks like a sheet", b"22 11 10\n11 10 22\n", "-")
+    told("no such sheet", SAMPLES / "none.sheet", "none.sheet: No such file or directory")
 
 
 WORDS = (
@@ -322,14 +426,20 @@ def wrong_use(folder):
     expect("no command", lamp(), 2, b"", usage)
     expect("no such command", lamp("plan", "x"), 2, b"", "'plan' is no command", usage)
     expect("a dash for a command", lamp("-"), 2, b"", "'-' is no command", usage)
-    for words in ("key", "key a b", "mark a", "cost a 1", "round 1", "table", "key --bytes a", "check --coarse a", "page a --course"):
+    sheets = ("mark a", "mark --coarse a b", "explain", "explain a", "explain a b c", "explain --coarse a b", "explain a b --into c")
+    others = ("key", "key a b", "cost a 1", "round 1", "table", "key --bytes a", "check --coarse a", "page a --course")
+    for words in (*sheets, *others):
         expect(f"wrong use {words}", lamp(*words.split()), 2, b"", f"usage: lamp {words.split()[0]} ")
-    expect("standard input twice", lamp("mark", "-", "-"), 2, b"", "standard input can be read once only")
+    for command in ("mark", "explain"):
+        expect(f"standard input twice for {command}", lamp(command, "-", "-"), 2, b"", f"{command}: standard input can be read once only")
     require("help", lamp("--help")[0] == 0 and lamp("help")[1] == lamp("-h")[1] == lamp("--help")[1])
-    for command in ("card", "practice", "table", "show", "check", "key", "page", "picture", "mark", "cost", "round"):
+    for command in ("card", "practice", "table", "show", "check", "key", "page", "picture", "mark", "explain", "cost", "round"):
         status, out, err = lamp(command, "--help")
         require(f"help of {command}", status == 0 and out.startswith(f"usage: lamp {command} ".encode()) and not err)
         require(f"{command} is in the help", f"\n  lamp {command} ".encode() in lamp("--help")[1])
+    require("the sheet in the help of explain", A_SHEET in lamp("explain", "--help")[1] and A_SHEET in lamp("mark", "--help")[1])
+    for name in ("spread", "swaps", "counts"):
+        require(f"{name} in the help of explain", f"\n    {name:7} what ".encode() in lamp("explain", "--help")[1])
     require("the practice forms", lamp("practice", "--help")[1].startswith(PRACTICE_USAGE.encode()))
     require("a practice example", b"\n    lamp practice 1950 > 1950.card " in lamp("practice", "--help")[1])
     require("the practice forms in the help", b"\n  lamp practice FIRST..LAST --into DIR " in lamp("--help")[1])
@@ -344,6 +454,13 @@ def wrong_use(folder):
     require("a file called -", b"<title>Least cost 32. -: 3 modules" in lamp("picture", "./-", cwd=folder)[1])
     require("a file with an odd name", lamp("check", "--", odd.name, cwd=folder)[0] == 0)
     require("its name in a picture", b"-a b\\n&lt;&amp;&gt;.card" in lamp("picture", "--", odd.name, cwd=folder)[1])
+
+
+A_SHEET = b"""
+SHEET has a line a slot, with a step or - (off) for each module, as '2 2 -'. A line may begin with
+'slot 3:', and the cost and plan of a listing may stand before the first slot.
+--bytes  SHEET is a byte for each slot and module, 255 for off.
+Prints the sheet's cost, the least cost and the points above it, """
 
 
 def folder_as_input(folder):
@@ -410,7 +527,8 @@ CARD = '"$1/a.card"'
 
 def lost_output(folder):
     """What cannot be written whole has status 2."""
-    others = {"practice": "1950", "table": "8", "mark": '"$1/a.card" "$1/d.sheet"', "cost": '"$1/a.card" 3 4', "round": "5 6", "--help": ""}
+    others = {"practice": "1950", "table": "8", "cost": '"$1/a.card" 3 4', "round": "5 6", "--help": ""}
+    others.update(dict.fromkeys(("mark", "explain"), '"$1/a.card" "$1/d.sheet"'))
     for command in (*COMMANDS, *others):
         line = f'"$0" {command} {others.get(command, CARD)}'
         expect(f"{command} to a full device", shell(f"{line} > /dev/full"), 2, b"", "was not written whole: No space left on device")
@@ -1011,6 +1129,7 @@ def pictures(folder):
         own = "\n".join(f"slot {t + 1}: {' '.join(row)}" for t, row in enumerate(rows)).encode()
         marked = b"cost %d\nleast %d\nabove 0\n" % (cost, cost)
         expect(f"marks of the planner's sheet of {name}", lamp("mark", path, "-", data=own), 0, marked)
+        expect(f"points of the planner's sheet of {name}", lamp("explain", path, "-", data=own), 0, explained(cost, 0, 0, 0))
         lights = [sum(int(step) for step in row if step != "-") for row in rows]
         lights = lights if lights != loads else None
         require(f"more light than the loads of {name}", (lights is not None) == name.startswith("fall"))
@@ -1146,18 +1265,28 @@ def page_of(name, path, cost, loads, lights, counts, rows):
 
 WRONG = """
 #include "lamp.h"
-/* Answers as a library does whose sheet costs one point more than its planner says. */
+/* Answers as a library does whose sheet costs one point more than its planner says, unless the rack has one module. Then it
+ * explains a sheet wrongly for most top steps. It refuses to mark a sheet that begins with step 1. */
 struct lamp_answer lamp_check_card(const uint8_t *card, size_t card_len) { (void)card, (void)card_len; return (struct lamp_answer){0, 0}; }
 struct lamp_answer lamp_running_cost(const uint8_t *card, size_t card_len, uint64_t count, uint64_t load)
 { (void)card, (void)card_len, (void)count, (void)load; return (struct lamp_answer){13, 7}; }
 struct lamp_answer lamp_plan_exact(const uint8_t *card, size_t card_len, uint8_t *plan, size_t plan_len, uint8_t *work, size_t work_len)
-{ (void)card, (void)card_len, (void)plan, (void)plan_len, (void)work, (void)work_len; return (struct lamp_answer){0, 32}; }
+{ (void)card_len, (void)plan, (void)plan_len, (void)work, (void)work_len; return (struct lamp_answer){0, card[5] == 1 ? 33 : 32}; }
 struct lamp_answer lamp_plan_coarse(const uint8_t *card, size_t card_len, uint8_t *plan, size_t plan_len, uint8_t *work, size_t work_len)
 { (void)card, (void)card_len, (void)plan, (void)plan_len, (void)work, (void)work_len; return (struct lamp_answer){99, 0}; }
 struct lamp_answer lamp_sheet(const uint8_t *card, size_t card_len, const uint8_t *plan, size_t plan_len, uint8_t *sheet, size_t sheet_len)
 { (void)card, (void)card_len, (void)plan, (void)plan_len, (void)sheet, (void)sheet_len; return (struct lamp_answer){0, 33}; }
 struct lamp_answer lamp_mark(const uint8_t *card, size_t card_len, const uint8_t *sheet, size_t sheet_len)
-{ (void)card, (void)card_len, (void)sheet, (void)sheet_len; return (struct lamp_answer){0, 33}; }
+{ (void)card, (void)card_len; return sheet_len && *sheet == 1 ? (struct lamp_answer){13, 0} : (struct lamp_answer){0, 33}; }
+struct lamp_points lamp_explain(
+    const uint8_t *card, size_t card_len, const uint8_t *sheet, size_t sheet_len, uint8_t *work, size_t work_len)
+{
+    static const struct lamp_points given[] = {
+        {1, 0, 0, 0}, {0, 0, 0, 0}, {13, 0, 0, 0}, {0, 0, 1, 0}, {99, 0, 0, 0}, {13, 0, 0, 7}, {0, 1ull << 63, 1ull << 63, 0},
+    };
+    (void)card_len, (void)sheet, (void)sheet_len, (void)work, (void)work_len;
+    return given[card[6]];
+}
 struct lamp_answer lamp_rounded_count(uint64_t count, uint64_t modules) { (void)count, (void)modules; return (struct lamp_answer){0, 0}; }
 struct lamp_answer lamp_practice_card(uint32_t start, uint8_t *card, size_t card_len)
 { (void)start, (void)card, (void)card_len; return (struct lamp_answer){0, 0}; }
@@ -1177,7 +1306,7 @@ def a_wrong_library(folder):
     subprocess.run(["sh", "-c", build, "sh", ROOT], cwd=folder, check=True)
     wrong = folder / "tool" / "target" / "release" / "lamp"
     a, into = SAMPLES / "a.card", new_folder(folder, "no cards")
-    others = ["practice", "1"], ["practice", "1..3", "--into", into], ["table", "8"]
+    others = ["practice", "1"], ["practice", "1..3", "--into", into], ["table", "8"], ["explain", a, SAMPLES / "d.sheet"]
     for words in (["key", a], ["mark", a, SAMPLES / "d.sheet"], ["key", "--coarse", a], ["cost", a, "1", "1"], *others):
         ended = subprocess.run([wrong, *words], capture_output=True)
         found = ended.returncode, ended.stdout, ended.stderr
@@ -1187,6 +1316,23 @@ def a_wrong_library(folder):
         found = ended.returncode, ended.stdout, ended.stderr
         expect(f"a show of top {top} over a wrong library", found, 2, b"", "a fault of the tool; nothing was written")
     require("no card of a wrong library", contents(into) == {})
+    wrong_explanations(folder, wrong)
+
+
+def wrong_explanations(folder, wrong):
+    """A sheet is explained only if the library's number is that of marking and the three parts are the points above the least, or 0 with a
+    refusal. Of the tops of the wrong library 1 is right for a sheet that is marked, at 33, and 2 for one that is refused."""
+    for top, step in itertools.product(range(1, 7), (0, 1)):
+        one = folder / f"one module, top {top}.card"
+        one.write_bytes(card(m=1, q=top, table=range(top + 1), loads=(0,)))
+        ended = subprocess.run([wrong, "explain", one, "-"], input=b"%d\n" % step, capture_output=True)
+        found, name = (ended.returncode, ended.stdout, ended.stderr), f"top {top} and step {step} over a wrong library"
+        if (top, step) == (1, 0):
+            expect(name, found, 0, explained(33, 0, 0, 0))
+        elif (top, step) == (2, 1):
+            expect(name, found, 1, WORDS[2].encode())
+        else:
+            expect(name, found, 2, b"", "a fault of the tool; nothing was written")
 
 
 with tempfile.TemporaryDirectory() as place:
@@ -1196,8 +1342,11 @@ with tempfile.TemporaryDirectory() as place:
     course_book()
     course_book_list()
     marks()
-    refused_sheets()
-    no_sheets()
+    explanations()
+    readme_explains(pathlib.Path(place))
+    for command in ("mark", "explain"):
+        refused_sheets(command)
+        no_sheets(command)
     numbers()
     wrong_use(pathlib.Path(place))
     other_kinds(pathlib.Path(place))
