@@ -1,5 +1,8 @@
-//! The tool's texts: cards read back, shows and sheets typed, and the places of a refusal.
+//! The tool's texts: cards read back, shows and sheets typed, the places of a refusal, and where the points of a sheet went.
+use lamp::calls::Points;
+use lamp::explanation::{self, Explanation};
 use lamp::faults;
+use lamp::planning::{self, Planner};
 use lamp::refusal::Refusal;
 use lamp::sheet_text;
 use lamp::show::Show;
@@ -11,6 +14,7 @@ use lamp_tests::catalogue;
 use lamp_tests::classes::Classes;
 use lamp_tests::plain::{self, OFF};
 use lamp_tests::random::Random;
+use lamp_tests::searches::serving_sheets;
 use lamp_tests::shows;
 
 /// The card that the text of `lamp show` makes.
@@ -559,4 +563,55 @@ fn places_in_sheets() {
         }
     }
     seen.require_all();
+}
+
+/// The bytes of each slot, each by what `key` makes of it, in ascending order.
+fn sorted_rows(sheet: &[u8], modules: usize, key: fn(u8) -> u8) -> Vec<Vec<u8>> {
+    let mut rows: Vec<Vec<u8>> = sheet.chunks(modules).map(|row| row.iter().map(|step| key(*step)).collect()).collect();
+    rows.iter_mut().for_each(|row| row.sort_unstable());
+    rows
+}
+
+/// What the sentences on a sheet say, by a search through all sheets that serve. Other steps are those of a sheet with the same modules
+/// burning in each slot. Another choice of modules is a sheet with the same steps in each slot, in another order. The best sheet with as
+/// many burning modules is the best of all with the same counts.
+fn found_by_search(sheets: &[(Vec<u8>, u64)], modules: usize, sheet: &[u8], cost: u64) -> Explanation {
+    let best = |alike: &dyn Fn(&[u8]) -> bool| sheets.iter().filter(|(other, _)| alike(other)).map(|(_, cost)| *cost).min().unwrap();
+    let burning = |step: u8| u8::from(step != OFF);
+    let modules_of = |sheet: &[u8]| sheet.iter().map(|step| burning(*step)).collect::<Vec<_>>();
+    let steps_of = |sheet: &[u8]| sorted_rows(sheet, modules, |step| step);
+    let counts_of = |sheet: &[u8]| sorted_rows(sheet, modules, burning);
+    let least = best(&|_| true);
+    let spread = cost - best(&|other| modules_of(other) == modules_of(sheet));
+    let swaps = cost - best(&|other| steps_of(other) == steps_of(sheet));
+    let counts = best(&|other| counts_of(other) == counts_of(sheet)) - least;
+    Explanation { cost, least, points: Points { number: 0, spread, swaps, counts } }
+}
+
+/// The sentences are true of the sheets that were tried, whichever of the three parts are above 0. A sheet that marking refuses is refused
+/// by the same number.
+#[test]
+fn explanations_of_sheets() {
+    let names = ["none", "counts", "swaps", "swaps, counts", "spread", "spread, counts", "spread, swaps", "spread, swaps, counts"];
+    let mut classes = Classes::new("explanations of sheets (seed 99)", &names).with_numbers([0, 11, 12, 13]);
+    let mut random = Random::new(99);
+    for _ in 0..3_000 {
+        let card = shows::of_few_sheets(&mut random, 5_000);
+        let (bytes, modules) = (card.bytes(), usize::from(card.modules));
+        let planned = planning::plan(Planner::Exact, &bytes).unwrap();
+        let sheets = serving_sheets(&card, &plain::read_card(&bytes).unwrap());
+        for _ in 0..10 {
+            let (sheet, cost) = &sheets[random.below(sheets.len() as u64) as usize];
+            let found = explanation::of(&planned, &bytes, sheet).unwrap();
+            assert_eq!(found, found_by_search(&sheets, modules, sheet, *cost), "{card:?} {sheet:?}");
+            let Points { spread, swaps, counts, .. } = found.points;
+            classes.see(names[usize::from(spread > 0) * 4 + usize::from(swaps > 0) * 2 + usize::from(counts > 0)]);
+        }
+        let length = modules * card.loads.len() + random.below(2) as usize;
+        let drawn: Vec<u8> = (0..length).map(|_| random.pick(&[0, 1, 4, OFF])).collect();
+        let number = explanation::of(&planned, &bytes, &drawn).map_or_else(Refusal::number, |_| 0);
+        assert_eq!(number, mark(&bytes, &drawn).number, "{card:?} {drawn:?}");
+        classes.see_number(number);
+    }
+    classes.require_all();
 }
