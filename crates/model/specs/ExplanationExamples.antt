@@ -105,7 +105,8 @@ refusedRows =
 -- Wrong programs and wrong readings: `expected` is what the program would answer.
 explanationWrong : List Example
 explanationWrong =
-    points "the counts' running cost with F" cardFalls sheetFalls 12 0 0 5 ∷
+    points "the counts' running cost with F" cardFalls sheetFalls 12 0 0 1 ∷
+    points "F in the cost of the counts as a plan too" cardFalls sheetFalls 12 0 0 5 ∷
     points "swaps by counts (D)" cardA sheetD 12 0 0 5 ∷
     points "the change of the counts after the last slot left out (D)" cardA sheetD 12 0 7 0 ∷
     points "counts above the coarse plan (E)" cardE (replicate 24 1) 27 0 0 0 ∷
