@@ -12,8 +12,9 @@
  * load. More light is allowed, because the projectors have a shutter. An active module costs points in
  * each slot, and switching a module on or off costs points too. The library finds how many modules should
  * be active in each slot, and at which steps, so that the whole show costs the least. It also gives the
- * cost of any other choice, it makes practice cards, each from a number, it writes the table of the
- * catalogue module into a card, and it keeps the rules of a sitting, in which candidates submit sheets.
+ * cost of any other choice and tells where its points above the least went, it makes practice cards, each
+ * from a number, it writes the table of the catalogue module into a card, and it keeps the rules of a
+ * sitting, in which candidates submit sheets.
  *
  *
  * HOW TO LINK IT
@@ -94,6 +95,8 @@
  *   - F(step) for each slot and each module that is active in it,
  *   - the warm-up price for each change of a module from off to active, and
  *   - the cool-down price for each change of a module from active to off.
+ * The first is its running cost, and the other two together are its switching cost.
+ *
  * All modules are off before slot 1 and after slot T. So a module that is active in slot 1 is charged its
  * warm-up, and one that is active in slot T its cool-down. Each module is charged by itself: if module 1
  * stops and module 2 starts in its place, both changes are charged, though the count stays the same.
@@ -166,6 +169,60 @@
  *
  * Several plans may have the least cost. Both planners then give the one with the smallest count in slot
  * T; among those the one with the smallest count in slot T - 1; and so on back to slot 1.
+ *
+ *
+ * WHERE THE POINTS WENT
+ *
+ * lamp_explain tells why a sheet that serves costs more than the least cost, in three numbers of points.
+ * The counts of the sheet are how many modules it has active in each slot.
+ *
+ *   spread   The running cost of the sheet, less the least running cost for its counts. The latter is the
+ *            sum of what lamp_running_cost gives for the count and the load of each slot.
+ *   swaps    The switching cost of the sheet, less that of its counts alone. The latter is the warm-up
+ *            price for each module by which the count rises from one slot to the next, and the cool-down
+ *            price for each by which it falls. Before slot 1 and after slot T the count is 0.
+ *   counts   The cost of its counts as a plan, less the least cost, which lamp_plan_exact gives.
+ *
+ * None of these differences is negative. Together they are the cost above the least: the cost that
+ * lamp_mark gives for the sheet, less the cost that lamp_plan_exact gives for the card. Each is 0 exactly
+ * if changing that one thing alone saves nothing:
+ *
+ *   spread   is 0 exactly if no sheet that serves, with the same modules active in the same slots, costs
+ *            less. Such a sheet may differ in the steps of these modules only.
+ *   swaps    is 0 exactly if no choice of active modules, with the same count in each slot, has a lower
+ *            switching cost.
+ *   counts   is 0 exactly if no plan that serves costs less than the counts of the sheet as a plan.
+ *
+ * All this is proved, for every sheet that lamp_mark accepts. The sheets that lamp_sheet makes of the
+ * planners' plans have spread 0 and swaps 0, and that of the exact plan has counts 0 too.
+ *
+ * This sheet of the card in THE CARD above costs 37 points, 5 above the least:
+ *     2 2 2
+ *     255 0 255
+ *     2 255 255
+ * lamp_explain gives spread 0, swaps 5 and counts 0. The counts are 3 1 1, as in the exact plan, and the
+ * running cost is 12 + 1 + 4 points, as in its sheet. In slot 3 module 1 starts in the place of module 2,
+ * which stops. The count stays 1 there, so the counts alone need neither this warm-up nor this cool-down.
+ *
+ * If module 3 is active in slot 3 too, at step 0, the sheet costs 43 points, 11 above the least:
+ *     2 2 2
+ *     255 0 255
+ *     2 255 0
+ * lamp_explain gives spread 1, swaps 5 and counts 5. The running cost is 12 + 1 + 5 = 18 points. The counts
+ * 3 1 2 need 17, with two modules at step 1 in slot 3. The sheet has five warm-ups and five cool-downs, 25
+ * points. The counts alone need four of each, 20 points. So they cost 37 as a plan, and the least is 32.
+ *
+ * This explains a sheet of sheet_len bytes. The other buffers are those of A SHORT HOST above.
+ *
+ *     struct lamp_points points = lamp_explain(card, card_len, sheet, sheet_len, work, sizeof work);
+ *     if (points.number == 0) {
+ *         uint64_t cost = lamp_mark(card, card_len, sheet, sheet_len).cost;
+ *         uint64_t least = cost - (points.spread + points.swaps + points.counts);
+ *         printf("cost %" PRIu64 ", the least %" PRIu64 "\n", cost, least);
+ *     }
+ *
+ * So whoever knows the cost of a sheet and its three numbers knows the least cost. A host that keeps a
+ * sitting does not tell a candidate the three numbers before it is closed.
  *
  *
  * PRACTICE CARDS
@@ -311,7 +368,8 @@
  *
  * What a caller is told is number, cost and marked. The sitting holds the least cost and is the host's to
  * keep: do not show it to a candidate. After an opening, plan holds a plan of least cost. It is not for a
- * candidate either. The list holds the lowest cost of every seat and is the host's to keep too.
+ * candidate either. The list holds the lowest cost of every seat and is the host's to keep too. The numbers
+ * that lamp_explain gives for a sheet tell the least cost, so they are for a candidate only after closing.
  *
  * It is proved that no candidate is told the least cost by lamp_sitting_least before the sitting is
  * closed. For a host that keeps the rules above it is also proved that no lowest cost is below the least
@@ -347,7 +405,8 @@
  * ANSWERS AND REFUSALS
  *
  * Every call answers every input. A success gives number 0 and a cost. A refusal gives its number and
- * cost 0. If several refusals apply, the call gives the lowest number, wherever in the input each of them
+ * cost 0. lamp_explain gives spread, swaps and counts in the place of the cost, and all three are 0 with a
+ * refusal. If several refusals apply, the call gives the lowest number, wherever in the input each of them
  * lies. For example, a count above m in the last slot (12) is given before a count in slot 1 that cannot
  * serve (13). Two calls have an order of their own. lamp_practice_card tests 14 before 10, so start 0
  * gives 14 with every buffer, also with one of length 0. lamp_sitting_submit tests 15, 16 and 17 before
@@ -374,23 +433,23 @@
  * of length 0 may come with any pointer, also NULL.
  *
  * Buffers that are read (card of every call but lamp_practice_card, a plan given to lamp_sheet, a sheet
- * given to lamp_mark or lamp_sitting_submit) have exactly the length of what they hold. So a plan is given
- * to lamp_sheet with length T, even if it lies in a longer array. A host that reads a card from a file
- * needs LAMP_MAX_CARD + 1 bytes for it and may leave the rest of the file unread: a card of that length
- * is refused like any longer one.
+ * given to lamp_mark, lamp_explain or lamp_sitting_submit) have exactly the length of what they hold. So a
+ * plan is given to lamp_sheet with length T, even if it lies in a longer array. A host that reads a card
+ * from a file needs LAMP_MAX_CARD + 1 bytes for it and may leave the rest of the file unread: a card of
+ * that length is refused like any longer one.
  *
- * Buffers that are written (plan and work of a planner or of lamp_sitting_open, sheet of lamp_sheet, card
- * of lamp_practice_card, table of lamp_catalogue_table) have at least the length that the call asks for.
- * They may be longer, and may hold anything at entry: they need no clearing, and nothing in them changes
- * the answer. After a success the bytes asked for hold the answer, in a work buffer zeros, and all further
- * bytes are as they were. After a refusal all bytes are as they were.
+ * Buffers that are written (plan and work of a planner or of lamp_sitting_open, work of lamp_explain, sheet
+ * of lamp_sheet, card of lamp_practice_card, table of lamp_catalogue_table) have at least the length that
+ * the call asks for. They may be longer, and may hold anything at entry: they need no clearing, and nothing
+ * in them changes the answer. After a success the bytes asked for hold the answer, in a work buffer zeros,
+ * and all further bytes are as they were. After a refusal all bytes are as they were.
  *
  * The list of seats is an array of struct lamp_seat of any length. The comment at each act says which
  * records it changes. After a refusal all records are as they were.
  *
  *   buffer                          bytes asked for
  *   plan                            T
- *   work of lamp_plan_exact         (m + 1) * T, also of lamp_sitting_open
+ *   work of lamp_plan_exact         (m + 1) * T, also of lamp_explain and lamp_sitting_open
  *   work of lamp_plan_coarse        10 * T, for every m
  *   sheet                           m * T
  *   card of lamp_practice_card      17 + 4(Q + 1) + 2T of the practice card, at most LAMP_MAX_PRACTICE
@@ -419,9 +478,10 @@
  *
  * Each call has a contract, in crates/lamp/src/lib.rt of the repository, and this file says in plain
  * words what the contracts say. A contract gives the number, the cost and every byte of every written
- * buffer, for every input that keeps the three rules on buffers; that of an act also gives marked, the
- * sitting and every record. The contracts are proved. docs/TRUST.md says what the proofs rest on. The use
- * of stack is measured and not proved.
+ * buffer, for every input that keeps the three rules on buffers; that of lamp_explain gives spread, swaps
+ * and counts in the place of the cost, and that of an act also gives marked, the sitting and every record.
+ * The contracts are proved. docs/TRUST.md says what the proofs rest on. The use of stack is measured and
+ * not proved.
  */
 #ifndef LAMP_H
 #define LAMP_H
@@ -434,7 +494,7 @@ extern "C" {
 #endif
 
 /* The release of this library. */
-#define LAMP_RELEASE "2.4.0"
+#define LAMP_RELEASE "2.5.0"
 
 /* The version of the cards that this library accepts, and of those that it makes. */
 #define LAMP_CARD_VERSION 1
@@ -465,10 +525,18 @@ extern "C" {
  * with -Wl,-z,now. */
 #define LAMP_MAX_STACK 3840
 
-/* What every call but the acts of a sitting returns. */
+/* What every call but lamp_explain and the acts of a sitting returns. */
 struct lamp_answer {
     uint64_t number; /* 0 for a success, else the refusal */
     uint64_t cost;   /* in points; 0 with a refusal */
+};
+
+/* What lamp_explain returns: 32 bytes. With a refusal all three numbers of points are 0. */
+struct lamp_points {
+    uint64_t number; /* 0 for a success, else the refusal */
+    uint64_t spread; /* the sheet's running cost above the least for its counts, in points */
+    uint64_t swaps;  /* the sheet's switching cost above that of its counts alone, in points */
+    uint64_t counts; /* the cost of its counts as a plan above the least cost, in points */
 };
 
 /* A seat: 16 bytes. A record that is all zero is an empty seat. */
@@ -496,7 +564,7 @@ struct lamp_reply {
     struct lamp_sitting sitting;
 };
 
-/* The three records have no padding. A compiler that gives one of them another size than the library has stops here.
+/* These four records have no padding. A compiler that gives one of them another size than the library has stops here.
  * Before C11 and C++11 nothing is asked. */
 #if defined(__cplusplus) && __cplusplus >= 201103L
 #define LAMP_ASSERT_SIZE(record, bytes) static_assert(sizeof(record) == (bytes), "a record of lamp.h is padded");
@@ -505,6 +573,7 @@ struct lamp_reply {
 #else
 #define LAMP_ASSERT_SIZE(record, bytes)
 #endif
+LAMP_ASSERT_SIZE(struct lamp_points, 32)
 LAMP_ASSERT_SIZE(struct lamp_seat, 16)
 LAMP_ASSERT_SIZE(struct lamp_sitting, 32)
 LAMP_ASSERT_SIZE(struct lamp_reply, 56)
@@ -601,6 +670,20 @@ struct lamp_answer lamp_sheet(const uint8_t *card, size_t card_len, const uint8_
  *            too little light, that is, the steps of its active modules sum to less than its load. More
  *            light than the load is accepted. */
 struct lamp_answer lamp_mark(const uint8_t *card, size_t card_len, const uint8_t *sheet, size_t sheet_len);
+
+/* Explains a sheet: tells where its points above the least cost went, in the three numbers that WHERE THE POINTS WENT
+ * above describes. All three are 0 exactly if no sheet that serves the show costs less.
+ *
+ * Reads:     card, sheet. sheet_len must be m * T.
+ * Writes:    work.
+ * Asks for:  (m + 1) * T bytes of work.
+ * Success:   spread, swaps and counts. The first (m + 1) * T bytes of work are zero, and all further bytes
+ *            are as they were. A sheet that lamp_mark accepts, with a work buffer long enough, is always
+ *            explained, and no other sheet is.
+ * Refusals:  1 to 8; 10 if work_len is less than asked for; 11, 12 and 13 as lamp_mark. spread, swaps and
+ *            counts are 0, and all bytes of work are as they were. */
+struct lamp_points lamp_explain(const uint8_t *card, size_t card_len, const uint8_t *sheet, size_t sheet_len,
+                                uint8_t *work, size_t work_len);
 
 /* The rounded count: the smallest count not below `count` that lamp_plan_coarse may use in a rack of
  * `modules` modules, which is 0, a power of two, or `modules` itself. It takes no card.
