@@ -14,8 +14,8 @@ enum { ROUNDS = 60, STARTS = 10000, LOWEST = 80, TIMES = 10000, LAST = LAMP_MAX_
 enum { RACKS = 201, COUNTS = 202, PAIRS = (RACKS + 1) * (COUNTS + 1) };
 
 /* What is measured. The acts after SUBMIT are so short that a round makes each of them TIMES times. */
-enum { EXACT, COARSE, SHEET, MARKING, PRACTICE, TABLE, ROUNDED, OPEN, SUBMIT, SEAT, CLOSE, LEAST, LOWEST_COST, USED, ALL };
-static const char *names[ALL] = {"exact", "coarse", "sheet", "marking", "practice", "table", "rounded",
+enum { EXACT, COARSE, SHEET, MARKING, EXPLAIN, PRACTICE, TABLE, ROUNDED, OPEN, SUBMIT, SEAT, CLOSE, LEAST, LOWEST_COST, USED, ALL };
+static const char *names[ALL] = {"exact", "coarse", "sheet", "marking", "explain", "practice", "table", "rounded",
                                  "open", "submit", "seat", "close", "least", "lowest", "used"};
 
 static uint8_t card[LAMP_MAX_CARD], plan[LAMP_MAX_PLAN], work[LAMP_MAX_EXACT_WORK], sheet[LAMP_MAX_SHEET];
@@ -23,6 +23,7 @@ static uint8_t practice[LAMP_MAX_PRACTICE], practice_of_c[LAMP_MAX_PRACTICE];
 static uint8_t table[LAMP_MAX_TABLE + 1], table_of_c[LAMP_MAX_TABLE + 1];
 static struct lamp_seat seats[LAMP_MAX_SEATS];
 static struct lamp_reply reply;
+static struct lamp_points points;
 static size_t card_len;
 
 static void put(size_t at, uint64_t value, size_t bytes)
@@ -215,6 +216,13 @@ static struct lamp_answer run_acts(int which, int plain)
     return all;
 }
 
+/* The three numbers together stand for a cost. */
+static struct lamp_answer run_explain(int plain)
+{
+    points = (plain ? plain_explain : lamp_explain)(card, card_len, sheet, modules * slots, work, (modules + 1) * slots);
+    return (struct lamp_answer){points.number, points.spread + points.swaps + points.counts};
+}
+
 static struct lamp_answer run(int which, int plain)
 {
     planner planners[2][2] = {{lamp_plan_exact, plain_exact}, {lamp_plan_coarse, plain_coarse}};
@@ -226,6 +234,8 @@ static struct lamp_answer run(int which, int plain)
         return (plain ? plain_sheet : lamp_sheet)(card, card_len, plan, slots, sheet, modules * slots);
     case MARKING:
         return (plain ? plain_mark : lamp_mark)(card, card_len, sheet, modules * slots);
+    case EXPLAIN:
+        return run_explain(plain);
     case PRACTICE:
         return make_practice(plain ? plain_practice : lamp_practice_card);
     case TABLE:
@@ -240,7 +250,8 @@ static struct lamp_answer run(int which, int plain)
     }
 }
 
-/* The library and C give the same answer, plan and sheet, and of an act the same reply and records. */
+/* The library and C give the same answer, plan and sheet, of an explanation the same three numbers, and of an act the same reply
+ * and records. */
 static struct lamp_answer compare(int which)
 {
     static uint8_t first_plan[sizeof plan], first_sheet[sizeof sheet];
@@ -248,13 +259,15 @@ static struct lamp_answer compare(int which)
     seat_all();
     struct lamp_answer first = run(which, 0);
     struct lamp_reply first_reply = reply;
+    struct lamp_points first_points = points;
     memcpy(first_plan, plan, sizeof plan);
     memcpy(first_sheet, sheet, sizeof sheet);
     memcpy(first_seats, seats, sizeof seats);
     seat_all();
     struct lamp_answer second = run(which, 1);
     if (first.number != 0 || second.number != 0 || first.cost != second.cost || memcmp(first_plan, plan, sizeof plan) ||
-        memcmp(first_sheet, sheet, sizeof sheet) || memcmp(first_seats, seats, sizeof seats) || memcmp(&first_reply, &reply, sizeof reply)) {
+        memcmp(first_sheet, sheet, sizeof sheet) || memcmp(first_seats, seats, sizeof seats) ||
+        memcmp(&first_reply, &reply, sizeof reply) || memcmp(&first_points, &points, sizeof points)) {
         printf("the two disagree: %s, %" PRIu64 " %" PRIu64 "\n", names[which], first.cost, second.cost);
         exit(1);
     }
@@ -285,19 +298,37 @@ static void measure(int which, double best[2])
         }
 }
 
-/* How many times as long as another call of the library one takes, each in its fastest round; the two take turns. */
-static double beside(int which, int other)
+/* The fastest round of each of some calls of the library, at most three, in microseconds; they take turns. */
+static void take_turns(const int *calls, int count, double *best)
 {
-    uint64_t costs[2] = {compare(which).cost, compare(other).cost};
-    double best[2] = {1e18, 1e18};
+    uint64_t costs[3];
+    for (int k = 0; k < count; k++) {
+        costs[k] = compare(calls[k]).cost;
+        best[k] = 1e18;
+    }
     seat_all();
     for (int round = 0; round < ROUNDS; round++)
-        for (int second = 0; second < 2; second++) {
-            double took = timed(second ? other : which, 0, costs[second]);
-            if (took < best[second])
-                best[second] = took;
+        for (int k = 0; k < count; k++) {
+            double took = timed(calls[k], 0, costs[k]);
+            if (took < best[k])
+                best[k] = took;
         }
+}
+
+/* How many times as long as another call of the library one takes. */
+static double beside(int which, int other)
+{
+    double best[2];
+    take_turns((const int[]){which, other}, 2, best);
     return best[0] / best[1];
+}
+
+/* How many times as long as two other calls of the library together one takes. */
+static double beside_both(int which, int first, int second)
+{
+    double best[3];
+    take_turns((const int[]){which, first, second}, 3, best);
+    return best[0] / (best[1] + best[2]);
 }
 
 static void print_line(const char *name, const double best[2])
@@ -321,6 +352,48 @@ static double measure_card(void)
     return exact;
 }
 
+static void reverse(uint8_t *row)
+{
+    for (size_t low = 0, high = modules - 1; low < high; low++, high--) {
+        uint8_t byte = row[low];
+        row[low] = row[high];
+        row[high] = byte;
+    }
+}
+
+/* A sheet on which all three numbers of an explanation are above 0: that of the plan with the least counts that serve, in each
+ * slot with the last of its modules a step brighter, and in every second slot with the modules in reverse. */
+static void make_dear_sheet(void)
+{
+    uint64_t top = card[6];
+    for (size_t t = 0; t < slots; t++) {
+        const uint8_t *load = card + 17 + 4 * (top + 1) + 2 * t;
+        plan[t] = (uint8_t)((load[0] + 256u * load[1] + top - 1) / top);
+    }
+    run(SHEET, 0);
+    for (size_t t = 0; t < slots; t++) {
+        uint8_t *row = sheet + t * modules;
+        if (plan[t] > 0 && row[plan[t] - 1] < top)
+            row[plan[t] - 1]++;
+        if (t % 2 == 1)
+            reverse(row);
+    }
+}
+
+/* Measures the explanation of that sheet, beside C and beside the exact planner and marking, and puts back the sheet of the
+ * exact plan. */
+static void measure_explain(void)
+{
+    double best[2];
+    make_dear_sheet();
+    measure(EXPLAIN, best);
+    print_line(names[EXPLAIN], best);
+    printf("explain: spread %" PRIu64 ", swaps %" PRIu64 ", counts %" PRIu64 "\n", points.spread, points.swaps, points.counts);
+    printf("explain beside exact and marking: %.2f times the time\n", beside_both(EXPLAIN, EXACT, MARKING));
+    run(EXACT, 0);
+    run(SHEET, 0);
+}
+
 /* Measures the acts of a sitting on the card, whose sheet is there. */
 static void measure_sitting(void)
 {
@@ -342,10 +415,12 @@ int main(void)
     printf("m 200, Q 200, T 1,024 (microseconds, fastest of %d)\n", ROUNDS);
     printf("%-8s %10s %10s %8s\n", "call", "library", "C -O3", "ratio");
     double whole = measure_card();
+    measure_explain();
     measure_sitting();
     put_falling_table();
     printf("the same card with a table that falls up to step %d\n", LOWEST);
     measure_card();
+    measure_explain();
     compare_practice();
     measure(PRACTICE, best);
     printf("the cards of starts 1 to 10,000\n");

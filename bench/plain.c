@@ -432,3 +432,57 @@ struct lamp_reply plain_used(struct lamp_sitting s, uint16_t caller)
 {
     return caller != 0 || is_unopened(&s) ? not_done(15, s) : done(s.submissions, s);
 }
+
+/* How many modules of a row are active. A rack has at most 200, so the number fits a byte, and gcc looks at 16 modules at a
+ * time. */
+static uint8_t active(const uint8_t *row, size_t m)
+{
+    uint8_t n = 0;
+    for (size_t k = 0; k < m; k++)
+        n += row[k] != 255;
+    return n;
+}
+
+/* How many modules of a row are active that were off in the row before it. */
+static uint8_t started(const uint8_t *before, const uint8_t *row, size_t m)
+{
+    uint8_t n = 0;
+    for (size_t k = 0; k < m; k++)
+        n += (before[k] == 255) & (row[k] != 255);
+    return n;
+}
+
+/* The explanation of a sheet that serves and costs `cost`, where `least` is the least cost. Into each slot but the first, the
+ * modules that start beyond the rise of the count are swapped for as many that stop. */
+static struct lamp_points points_of(const struct show *i, const uint8_t *sheet, uint64_t cost, uint64_t least)
+{
+    uint64_t price = i->up + i->down, as_plan = 0, swapped = 0, before = 0;
+    for (uint64_t t = 0; t < i->slots; t++) {
+        const uint8_t *row = sheet + t * i->modules;
+        uint64_t n = active(row, i->modules), rise = n > before ? n - before : 0;
+        as_plan += running_cost(i, n, load(i, t)) + price * rise;
+        if (t > 0)
+            swapped += started(row - i->modules, row, i->modules) - rise;
+        before = n;
+    }
+    return (struct lamp_points){0, cost - price * swapped - as_plan, price * swapped, as_plan - least};
+}
+
+static struct lamp_points unexplained(uint64_t number) { return (struct lamp_points){number, 0, 0, 0}; }
+
+/* The card is read once more to mark the sheet, and once more to plan, which takes well under a hundredth of the time. */
+struct lamp_points plain_explain(const uint8_t *card, size_t card_len, const uint8_t *sheet, size_t sheet_len, uint8_t *work, size_t work_len)
+{
+    struct show i;
+    uint8_t plan[1024];
+    uint64_t number = read_card(card, card_len, &i);
+    if (number)
+        return unexplained(number);
+    if (work_len < (i.modules + 1) * i.slots)
+        return unexplained(10);
+    struct lamp_answer marked = plain_mark(card, card_len, sheet, sheet_len);
+    if (marked.number)
+        return unexplained(marked.number);
+    i.lowest = lowest_step(&i);
+    return points_of(&i, sheet, marked.cost, plain_exact(card, card_len, plan, sizeof plan, work, work_len).cost);
+}

@@ -7,6 +7,7 @@ struct lamp_answer plain_exact(const uint8_t *, size_t, uint8_t *, size_t, uint8
 struct lamp_answer plain_coarse(const uint8_t *, size_t, uint8_t *, size_t, uint8_t *, size_t);
 struct lamp_answer plain_sheet(const uint8_t *, size_t, const uint8_t *, size_t, uint8_t *, size_t);
 struct lamp_answer plain_mark(const uint8_t *, size_t, const uint8_t *, size_t);
+struct lamp_points plain_explain(const uint8_t *, size_t, const uint8_t *, size_t, uint8_t *, size_t);
 struct lamp_answer plain_practice(uint32_t, uint8_t *, size_t);
 struct lamp_answer plain_table(uint64_t, uint8_t *, size_t);
 struct lamp_answer plain_rounded(uint64_t, uint64_t);
