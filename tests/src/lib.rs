@@ -1,13 +1,15 @@
 //! Tests of the lamp library through its C boundary. Nothing here shares text with the Rattle sources: `plain` is written from
-//! document 01 and from section 2 of document 02, `practice` from section 1 of document 02, `history` and `values` from its section 4, and
-//! `catalogue` from its section 5.
+//! document 01 and from section 2 of document 02, `practice` from section 1 of document 02, `history` and `values` from its section 4,
+//! `catalogue` from its section 5, and `explanation` from its section 7.
 pub mod acts;
 pub mod boundary;
 pub mod cards;
 pub mod catalogue;
 pub mod classes;
+pub mod explanation;
 pub mod history;
 pub mod plain;
+pub mod points;
 pub mod practice;
 pub mod random;
 pub mod searches;

@@ -1,4 +1,4 @@
-//! Searches through all sheets and through all plans of a show that has few of them.
+//! Searches through all sheets, all patterns and all plans of a show that has few of them.
 use crate::boundary::{mark, Answer};
 use crate::cards::Card;
 use crate::plain::{Show, OFF};
@@ -31,14 +31,32 @@ pub fn serving_sheets(card: &Card, show: &Show) -> Vec<(Vec<u8>, u64)> {
     out
 }
 
-/// All least plans over the counts, in tie order.
-pub fn least_plans(show: &Show, counts: &[u64]) -> Vec<Vec<u8>> {
+/// Each list with its cost.
+fn with_costs(lists: Vec<Vec<u8>>, cost: impl Fn(&[u8]) -> u64) -> Vec<(Vec<u8>, u64)> {
+    let costs: Vec<u64> = lists.iter().map(|list| cost(list)).collect();
+    lists.into_iter().zip(costs).collect()
+}
+
+/// ALL on/off patterns of the show's modules and slots, whatever the loads, each with its switching cost. A pattern is a sheet with step 0
+/// for on. It costs its switching alone where every step is free.
+pub fn patterns(show: &Show) -> Vec<(Vec<u8>, u64)> {
+    let free = Show { table: vec![0; show.table.len()], ..show.clone() };
+    with_costs(lists(&[0, OFF], show.modules as usize * show.slots()), |pattern| free.sheet_cost(pattern))
+}
+
+/// ALL plans over the counts that serve the show, each with its cost, which is that of its sheet.
+pub fn serving_plans(show: &Show, counts: &[u64]) -> Vec<(Vec<u8>, u64)> {
     let counts: Vec<u8> = counts.iter().map(|count| *count as u8).collect();
     let mut plans = lists(&counts, show.slots());
     plans.retain(|plan| show.plan_refusal(plan).is_none());
-    let cost = |plan: &Vec<u8>| show.sheet_cost(&show.sheet(plan));
-    let least = plans.iter().map(cost).min().unwrap();
-    plans.retain(|plan| cost(plan) == least);
+    with_costs(plans, |plan| show.sheet_cost(&show.sheet(plan)))
+}
+
+/// All least plans over the counts, in tie order.
+pub fn least_plans(show: &Show, counts: &[u64]) -> Vec<Vec<u8>> {
+    let plans = serving_plans(show, counts);
+    let least = plans.iter().map(|(_, cost)| *cost).min().unwrap();
+    let mut plans: Vec<Vec<u8>> = plans.into_iter().filter(|(_, cost)| *cost == least).map(|(plan, _)| plan).collect();
     plans.sort_by(|a, b| a.iter().rev().cmp(b.iter().rev()));
     plans
 }
