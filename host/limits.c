@@ -176,6 +176,13 @@ static void mark(void)
     answer = lamp_mark(card, given.card_len, sheet, given.sheet_len);
 }
 
+static void explain(void)
+{
+    struct lamp_points points = lamp_explain(card, given.card_len, sheet, given.sheet_len, work, given.work_len);
+
+    answer = (struct lamp_answer){points.number, points.spread + points.swaps + points.counts};
+}
+
 static void rounded_count(void)
 {
     answer = lamp_rounded_count(given.count, given.modules);
@@ -301,8 +308,8 @@ static size_t stack_of(void (*function)(void))
 }
 
 /* Each call, the work bytes and the state of the sitting that it is given, and which of the given numbers makes it
- * refuse when it is one less. The order matters: the sheet is made from the exact plan, and then it is marked. The
- * calls that read no card come last. */
+ * refuse when it is one less. The order matters: the sheet is made from the exact plan, and then it is marked and
+ * explained. The calls that read no card come last. */
 static const struct call {
     const char *name;
     void (*make)(void);
@@ -316,6 +323,7 @@ static const struct call {
     {"lamp_plan_exact", plan_exact, LAMP_MAX_EXACT_WORK, 0, &given.work_len, LAMP_BUFFER_TOO_SHORT},
     {"lamp_sheet", make_sheet, 0, 0, &given.sheet_len, LAMP_BUFFER_TOO_SHORT},
     {"lamp_mark", mark, 0, 0, &given.sheet_len, LAMP_WRONG_LENGTH},
+    {"lamp_explain", explain, LAMP_MAX_EXACT_WORK, 0, &given.work_len, LAMP_BUFFER_TOO_SHORT},
     {"lamp_sitting_open", open_sitting, LAMP_MAX_EXACT_WORK, 0, &given.work_len, LAMP_BUFFER_TOO_SHORT},
     {"lamp_sitting_submit", submit, 0, 1, &given.sheet_len, LAMP_WRONG_LENGTH},
     {"lamp_rounded_count", rounded_count, 0, 0, &given.modules, LAMP_ENTRY_RANGE},
@@ -398,6 +406,20 @@ static void compare_plan_length(void)
     compare("lamp_plan_exact", "number for a short plan", answer.number, LAMP_BUFFER_TOO_SHORT);
 }
 
+/* The sheet of the exact plan has no points above the least. Without its last byte it is not explained. */
+static void compare_explained(void)
+{
+    give_largest(LAMP_MAX_EXACT_WORK, 0);
+    plan_exact();
+    make_sheet();
+    explain();
+    compare("lamp_explain", "number for the exact plan's sheet", answer.number, 0);
+    compare("lamp_explain", "points of the exact plan's sheet", answer.cost, 0);
+    given.sheet_len = LAMP_MAX_SHEET - 1;
+    explain();
+    compare("lamp_explain", "number for a short sheet", answer.number, LAMP_WRONG_LENGTH);
+}
+
 /* The library's seats and allowance are those of this file: the largest allowance is accepted and one more is not, an
  * opening empties just the seats of a list, and just as many candidates are seated. */
 static void compare_sitting(void)
@@ -429,6 +451,7 @@ static void compare_empty(void)
     compare("empty coarse plan", "number", lamp_plan_coarse(card, LOADS_AT, NULL, 0, NULL, 0).number, 0);
     compare("sheet of an empty plan", "number", lamp_sheet(card, LOADS_AT, NULL, 0, NULL, 0).number, 0);
     compare("empty sheet", "number", lamp_mark(card, LOADS_AT, NULL, 0).number, 0);
+    compare("empty sheet, explained", "number", lamp_explain(card, LOADS_AT, NULL, 0, NULL, 0).number, 0);
     given.state = 1;
     compare("a sitting of an empty plan", "number",
             lamp_sitting_open(handed(), 0, 1, card, LOADS_AT, NULL, 0, NULL, 0, NULL, 0).number, 0);
@@ -490,6 +513,19 @@ static void compare_tables(void)
     compare("the largest card, catalogue module", "number", lamp_check_card(card, sizeof card).number, 0);
 }
 
+/* All points of the dearest sheet above the least are of its counts. At the least cost every module starts once and is
+ * active in every slot, since one more slot costs less than one more start. */
+static void compare_dearest_points(uint64_t cost)
+{
+    const uint64_t slots = SLOTS, least = MODULES * (2 * (uint64_t)PRICE + slots * ENTRY);
+    struct lamp_points points = lamp_explain(card, LAMP_MAX_CARD, sheet, LAMP_MAX_SHEET, work, LAMP_MAX_EXACT_WORK);
+
+    compare("the dearest sheet, explained", "number", points.number, 0);
+    compare("the dearest sheet", "spread", points.spread, 0);
+    compare("the dearest sheet", "swaps", points.swaps, 0);
+    compare("the dearest sheet", "counts", points.counts, cost - least);
+}
+
 /* The dearest sheet: every entry and price is at its bound, and each module starts as often as it can and is active as
  * long as it then can. It is active in slot 1 and in every slot of even number: in half of the slots and one more, with
  * half as many starts as there are slots. */
@@ -507,6 +543,7 @@ static void compare_dearest(void)
     answer = lamp_mark(card, LAMP_MAX_CARD, sheet, LAMP_MAX_SHEET);
     compare("the dearest sheet", "cost", answer.cost, MODULES * (starts * 2 * PRICE + (starts + 1) * ENTRY));
     compare_range("the dearest sheet", "cost", answer.cost, 1, UINT64_C(103000000000000) - 1);
+    compare_dearest_points(answer.cost);
 }
 
 /* These comparisons hand over buffers of the rules' sizes with the header's lengths. So the two must agree before. */
@@ -523,6 +560,7 @@ static void compare_with_library(void)
         measure(&calls[k], "the largest show with a falling table");
     compare("LAMP_MAX_STACK", "bytes", LAMP_MAX_STACK, (largest_stack + STACK_UNIT - 1) / STACK_UNIT * STACK_UNIT);
     compare_plan_length();
+    compare_explained();
     compare_sitting();
     compare_empty();
     compare("the longest start", "bytes of the practice card", practice_length(LONGEST_START), LAMP_MAX_PRACTICE);

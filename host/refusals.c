@@ -1,8 +1,8 @@
 /* Provokes each refusal through the public calls and compares its number with the name that lamp.h gives it. Only 9 is
  * never given: a table that falls, for which it once stood, is planned. Makes practice cards and tables of the
- * catalogue module too, and compares every byte of their buffers; of the acts of a sitting it compares the sitting that
- * they give back and every record. Prints each fault and how many answers and buffers were compared; fails if there is
- * a fault.
+ * catalogue module and explains sheets too, and compares every byte of their buffers; of the acts of a sitting it
+ * compares the sitting that they give back and every record. Prints each fault and how many answers and buffers were
+ * compared; fails if there is a fault.
  *
  *   gcc -std=c11 -Wall -Wextra -Werror -Iinclude host/refusals.c target/staticlib/liblamp.a -o target/host/refusals
  */
@@ -97,6 +97,43 @@ static const struct table tables[] = {
     {LAMP_RACK_SIZE, UINT64_MAX, 0, 0},                           /* -1, as C hands it on */
 };
 
+/* Sheets of card A, whose least cost is 32. The first is document 01's example D with one byte more, which is given to
+ * the call once. The second is example D with its last byte 0. */
+static const uint8_t example_d[] = {2, 2, 2, LAMP_OFF, 0, LAMP_OFF, 2, LAMP_OFF, LAMP_OFF, LAMP_OFF};
+static const uint8_t last_active[] = {2, 2, 2, LAMP_OFF, 0, LAMP_OFF, 2, LAMP_OFF, 0};
+static const uint8_t of_exact_plan[] = {2, 2, 2, 0, LAMP_OFF, LAMP_OFF, 2, LAMP_OFF, LAMP_OFF};
+static const uint8_t brighter[] = {2, 2, 2, 1, LAMP_OFF, LAMP_OFF, 2, LAMP_OFF, LAMP_OFF};
+static const uint8_t off_between[] = {2, 2, 2, LAMP_OFF, LAMP_OFF, LAMP_OFF, 2, LAMP_OFF, LAMP_OFF};
+static const uint8_t step_3[] = {2, 2, 2, LAMP_OFF, 0, LAMP_OFF, 2, LAMP_OFF, 3};
+static const uint8_t dark[] = {2, 2, 2, LAMP_OFF, 0, LAMP_OFF, 1, LAMP_OFF, LAMP_OFF};
+static const uint8_t dark_and_254[] = {0, 2, 2, 254, 0, LAMP_OFF, 2, LAMP_OFF, LAMP_OFF};
+
+/* A sheet that is explained on card A, which asks for 12 bytes of work, and what is then given. */
+struct explanation {
+    struct lamp_points wanted;
+    const uint8_t *sheet;
+    size_t sheet_len, work_len;
+};
+static const struct explanation explanations[] = {
+    {{0, 0, 0, 0}, of_exact_plan, 9, 12},                 /* just the work bytes asked for */
+    {{0, 0, 5, 0}, example_d, 9, 12},                     /* cost 37 */
+    {{0, 1, 5, 5}, last_active, 9, 12},                   /* cost 43 */
+    {{0, 1, 0, 0}, brighter, 9, 13},                      /* cost 33, one byte more */
+    {{0, 0, 0, 4}, off_between, 9, 16},                   /* cost 36, four bytes more */
+    {{LAMP_BUFFER_TOO_SHORT, 0, 0, 0}, example_d, 9, 11}, /* one byte less */
+    {{LAMP_BUFFER_TOO_SHORT, 0, 0, 0}, example_d, 9, 0},  /* no byte at all */
+    {{LAMP_BUFFER_TOO_SHORT, 0, 0, 0}, example_d, 8, 11}, /* 10 is tested before 11 */
+    {{LAMP_BUFFER_TOO_SHORT, 0, 0, 0}, step_3, 9, 11},    /* and before 12 */
+    {{LAMP_BUFFER_TOO_SHORT, 0, 0, 0}, dark, 9, 11},      /* and before 13 */
+    {{LAMP_WRONG_LENGTH, 0, 0, 0}, example_d, 8, 12},     /* a sheet of one byte less */
+    {{LAMP_WRONG_LENGTH, 0, 0, 0}, example_d, 10, 16},    /* a sheet of one byte more */
+    {{LAMP_WRONG_LENGTH, 0, 0, 0}, example_d, 0, 12},     /* no byte at all */
+    {{LAMP_WRONG_LENGTH, 0, 0, 0}, dark_and_254, 8, 12},  /* 11 is tested before 12 and 13 */
+    {{LAMP_ENTRY_RANGE, 0, 0, 0}, step_3, 9, 12},         /* step 3 of module 3 in slot 3 */
+    {{LAMP_ENTRY_RANGE, 0, 0, 0}, dark_and_254, 9, 13},   /* 12 is tested before 13 */
+    {{LAMP_LOAD_NOT_SERVED, 0, 0, 0}, dark, 9, 12},       /* light 1 for load 2 */
+};
+
 static unsigned compared, looked, faults;
 static uint8_t card[LENGTH_A] = {CARD_A}, plan[3] = {3, 1, 1};
 static uint8_t sheet[9] = {2, 2, 2, 0, LAMP_OFF, LAMP_OFF, 2, LAMP_OFF, LAMP_OFF};
@@ -129,6 +166,54 @@ static void expect_bytes(const char *call, const uint8_t *found, const uint8_t *
         return;
     faults++;
     printf("%s: the bytes are not those that lamp.h says\n", call);
+}
+
+static void print_points(const char *words, struct lamp_points points)
+{
+    printf("%s number %" PRIu64 ", spread %" PRIu64 ", swaps %" PRIu64 ", counts %" PRIu64 "\n", words, points.number,
+           points.spread, points.swaps, points.counts);
+}
+
+/* Explains a sheet with work bytes that hold `paint`. After a success just the bytes asked for are zero, and after a
+ * refusal all are as they were, also those before the buffer and beyond its length. */
+static void expect_points(const uint8_t *bytes, size_t length, struct explanation explanation, int paint)
+{
+    const struct lamp_points wanted = explanation.wanted;
+    uint8_t found[20], left[20];
+    struct lamp_points given;
+
+    memset(found, paint, sizeof found);
+    memset(left, paint, sizeof left);
+    if (wanted.number == 0)
+        memset(left + 2, 0, 12);
+    given = lamp_explain(bytes, length, explanation.sheet, explanation.sheet_len, found + 2, explanation.work_len);
+    expect_bytes("lamp_explain", found, left, sizeof found);
+    compared++;
+    if (memcmp(&given, &wanted, sizeof given) == 0)
+        return;
+    faults++;
+    print_points("lamp_explain gives", given);
+    print_points("where lamp.h says", wanted);
+}
+
+/* A byte that is written with the value it had is not seen, so each sheet is explained over two values. */
+static void explain_sheets(void)
+{
+    for (size_t k = 0; k < sizeof explanations / sizeof explanations[0]; k++) {
+        expect_points(card, LENGTH_A, explanations[k], 0x5A);
+        expect_points(card, LENGTH_A, explanations[k], 0xA5);
+    }
+}
+
+/* A refusal of the card comes before those of the work buffer and of the sheet. */
+static void refuse_explaining(size_t length, enum lamp_refusal wanted)
+{
+    for (size_t k = 0; k < sizeof explanations / sizeof explanations[0]; k++) {
+        struct explanation refused = explanations[k];
+
+        refused.wanted = (struct lamp_points){(uint64_t)wanted, 0, 0, 0};
+        expect_points(card, length, refused, 0x5A);
+    }
 }
 
 /* The sittings that the acts are handed, and the list that they are lent. One submission of two is used. */
@@ -171,6 +256,7 @@ static void refuse_card(size_t length, enum lamp_refusal wanted)
     expect("lamp_plan_coarse", lamp_plan_coarse(card, length, area, 3, work, 30), wanted);
     expect("lamp_sheet", lamp_sheet(card, length, plan, 3, area, 9), wanted);
     expect("lamp_mark", lamp_mark(card, length, sheet, 9), wanted);
+    refuse_explaining(length, wanted);
 }
 
 /* Refusal 10: buffers that are too short. */
@@ -190,7 +276,6 @@ static void refuse_planning(void)
  * through slot 2, which has load 0: at step 1, since step 0 costs more. */
 static void plan_falling(void)
 {
-    static const uint8_t brighter[9] = {2, 2, 2, 1, LAMP_OFF, LAMP_OFF, 2, LAMP_OFF, LAMP_OFF};
     uint8_t falling[LENGTH_A] = {CARD_A};
 
     falling[17] = 3; /* the table 3 2 4 */
@@ -205,6 +290,8 @@ static void plan_falling(void)
     expect_bytes("lamp_sheet", area, brighter, 9);
     expect_cost("lamp_mark", lamp_mark(falling, LENGTH_A, brighter, 9), 33);
     expect_cost("lamp_mark", lamp_mark(falling, LENGTH_A, sheet, 9), 34); /* step 0 of slot 2 as it is handed in */
+    expect_points(falling, LENGTH_A, (struct explanation){{0, 0, 0, 0}, brighter, 9, 12}, 0x5A);
+    expect_points(falling, LENGTH_A, (struct explanation){{0, 1, 0, 0}, of_exact_plan, 9, 12}, 0x5A);
     expect("lamp_plan_coarse", lamp_plan_coarse(falling, LENGTH_A, area, 3, work, 29), LAMP_BUFFER_TOO_SHORT);
 }
 
@@ -436,6 +523,7 @@ int main(void)
     read_by_low_bits(UINT64_C(0x10000));
     read_by_low_bits(UINT64_C(0x8000000000000000));
     read_by_low_bits(UINT64_C(0xFFFFFFFFFFFF0000));
+    explain_sheets();
     plan_falling();
     refuse_handed_in();
     make_practice();
