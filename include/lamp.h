@@ -193,8 +193,9 @@
  *            switching cost.
  *   counts   is 0 exactly if no plan that serves costs less than the counts of the sheet as a plan.
  *
- * All this is proved, for every sheet that lamp_mark accepts. The sheets that lamp_sheet makes of the
- * planners' plans have spread 0 and swaps 0, and that of the exact plan has counts 0 too.
+ * So all three are 0 exactly if no sheet that serves costs less. All this is proved, for every sheet that
+ * lamp_mark accepts. Every sheet that lamp_sheet makes has spread 0 and swaps 0, whatever the plan, and that
+ * of the exact plan has counts 0 too.
  *
  * This sheet of the card in THE CARD above costs 37 points, 5 above the least:
  *     2 2 2
@@ -523,7 +524,7 @@ extern "C" {
  * use needs more in the first call that uses memset, because the dynamic linker then runs on the same
  * stack: 6,904 bytes were measured on one machine. Such a host may use memset once before, or be linked
  * with -Wl,-z,now. */
-#define LAMP_MAX_STACK 3840
+#define LAMP_MAX_STACK 4864
 
 /* What every call but lamp_explain and the acts of a sitting returns. */
 struct lamp_answer {

@@ -1,11 +1,9 @@
 //! The explanation of a sheet through the boundary with its whole outcome: its four numbers as C has them, and every byte of the area of
-//! which a part is lent to it as its work area. The call is declared here as include/lamp.h has it, so that the three numbers of a refusal
-//! are seen too.
-use lamp as _;
+//! which a part is lent to it as its work area.
+use lamp::calls;
 use std::ops::Range;
 
 /// The number of an answer, and the three numbers of an explanation.
-#[repr(C)]
 #[derive(Clone, Copy, Debug, Default, PartialEq, Eq)]
 pub struct Points {
     pub number: u64,
@@ -13,8 +11,6 @@ pub struct Points {
     pub swaps: u64,
     pub counts: u64,
 }
-
-const _: () = assert!(size_of::<Points>() == 32);
 
 impl Points {
     pub fn refused(number: u64) -> Self {
@@ -31,15 +27,10 @@ impl Points {
     }
 }
 
-extern "C" {
-    fn lamp_explain(
-        card: *const u8,
-        card_len: usize,
-        sheet: *const u8,
-        sheet_len: usize,
-        work: *mut u8,
-        work_len: usize,
-    ) -> Points;
+impl From<calls::Points> for Points {
+    fn from(given: calls::Points) -> Self {
+        Points { number: given.number, spread: given.spread, swaps: given.swaps, counts: given.counts }
+    }
 }
 
 /// The whole outcome of an explanation.
@@ -52,9 +43,7 @@ pub struct Outcome {
 /// The call is lent a part of the area; the outcome has the whole area.
 pub fn explain(card: &[u8], sheet: &[u8], area: &[u8], lent: Range<usize>) -> Outcome {
     let mut area = area.to_vec();
-    let work = &mut area[lent];
-    let (work_at, work_len) = (work.as_mut_ptr(), work.len());
-    let points = unsafe { lamp_explain(card.as_ptr(), card.len(), sheet.as_ptr(), sheet.len(), work_at, work_len) };
+    let points = calls::explain(card, sheet, &mut area[lent]).into();
     Outcome { points, area }
 }
 

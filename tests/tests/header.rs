@@ -55,7 +55,7 @@ fn words_without_fields_are_the_headers() {
 fn no_call_names_nine() {
     let header = read("include/lamp.h");
     let calls: Vec<&str> = header.split(" * Refusals: ").skip(1).map(|rest| rest.split("*/").next().unwrap()).collect();
-    assert_eq!(calls.len(), 16);
+    assert_eq!(calls.len(), 17);
     for refusals in calls {
         assert!(refusals.split(|c: char| !c.is_ascii_digit()).all(|number| number != "9"), "{refusals}");
     }
@@ -81,7 +81,7 @@ fn on_a_line(text: &str) -> String {
 fn every_call_is_bound() {
     let (header, binding) = (read("include/lamp.h"), read("tool/src/calls.rs"));
     let declared = on_a_line(&binding).replace("( ", "(").replace(", )", ")");
-    for (c, rust, count) in [("lamp_answer", "LampAnswer", 9), ("lamp_reply", "Reply", 7)] {
+    for (c, rust, count) in [("lamp_answer", "LampAnswer", 9), ("lamp_points", "Points", 1), ("lamp_reply", "Reply", 7)] {
         let start = format!("\nstruct {c} lamp_");
         let calls: Vec<&str> = header.split(start.as_str()).skip(1).collect();
         assert_eq!(calls.len(), count);
@@ -99,7 +99,7 @@ fn every_call_is_bound() {
 #[test]
 fn every_record_is_bound() {
     let (header, binding) = (read("include/lamp.h"), on_a_line(&read("tool/src/calls.rs")));
-    for (c, rust) in [("lamp_seat", "Seat"), ("lamp_sitting", "Sitting"), ("lamp_reply", "Reply")] {
+    for (c, rust) in [("lamp_points", "Points"), ("lamp_seat", "Seat"), ("lamp_sitting", "Sitting"), ("lamp_reply", "Reply")] {
         let body = header.split(&format!("\nstruct {c} {{\n")).nth(1).unwrap().split("\n};").next().unwrap();
         let fields = body.lines().map(|line| parameter(line.split(';').next().unwrap().trim()));
         let fields: Vec<String> = fields.map(|field| format!("pub {field},")).collect();

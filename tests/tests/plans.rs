@@ -5,6 +5,7 @@ use lamp_tests::boundary::{self, difference, mark, Answer, Outcome, Planner, BOT
 use lamp_tests::cards::{card_a, largest, lowest_at, small, Card};
 use lamp_tests::classes::Classes;
 use lamp_tests::plain::{self, Show, OFF};
+use lamp_tests::points;
 use lamp_tests::random::Random;
 use lamp_tests::searches::{least_plans, serving_sheets};
 use lamp_tests::shows;
@@ -288,6 +289,13 @@ fn other_answers(random: &mut Random, card: &Card, bytes: &[u8]) -> [Answer; 5] 
     ]
 }
 
+/// Explains a random sheet with a work area that is mostly long enough, and returns the number.
+fn explained_number(random: &mut Random, card: &Card, bytes: &[u8]) -> u64 {
+    let (modules, top, slots) = (u64::from(card.modules), u64::from(card.top), card.loads.len() as u64);
+    let (sheet, work) = (list(random, modules * slots, top), length(random, (modules + 1) * slots));
+    points::explain(bytes, &sheet, &vec![7; work], 0..work).points.number
+}
+
 /// The acts of a sitting that are lent a card, with a sitting that is open or not and a list of one seat, and their numbers.
 fn act_numbers(random: &mut Random, card: &Card, bytes: &[u8]) -> [u64; 2] {
     let (modules, top, slots) = (u64::from(card.modules), u64::from(card.top), card.loads.len() as u64);
@@ -322,6 +330,7 @@ fn no_call_gives_nine() {
             }
         }
         other_answers(&mut random, &card, &bytes).iter().for_each(|answer| classes.see_number(answer.number));
+        classes.see_number(explained_number(&mut random, &card, &bytes));
         act_numbers(&mut random, &card, &bytes).into_iter().for_each(|number| classes.see_number(number));
     }
     classes.require_all();

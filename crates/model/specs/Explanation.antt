@@ -70,3 +70,7 @@ NoBetterOrder i s = (r : List ℕ) → serves i r ≡ true → SameSteps i s r �
 -- plan.
 abbrev pub NoBetterPlan : Instance → (sheet : List ℕ) → Type 0
 NoBetterPlan i s = (plan : List ℕ) → Allowed i (allCounts (i .modules)) plan → planCost i (countsOf i s) ≤ planCost i plan
+
+-- No sheet that serves costs less.
+abbrev pub NoBetterSheet : Instance → (sheet : List ℕ) → Type 0
+NoBetterSheet i s = (r : List ℕ) → serves i r ≡ true → sheetCost i s ≤ sheetCost i r

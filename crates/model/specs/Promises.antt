@@ -19,7 +19,8 @@ use Rattle.model.specs.Instance.{instanceOf, headLength, cardLength, tab
 use Rattle.model.specs.Sheets.{serves, sheetOperatingCost, sheetSwitchingCost, sheetCost, countsOf}
 use Rattle.model.specs.Plans.{sheetOf, planCost}
 use Rattle.model.specs.Planners.{Planner, exact, workBytes, plannedCost}
-use Rattle.model.specs.Explanation.{countsOperatingCost, countsSwitchingCost, NoBetterSpread, NoBetterChoice, NoBetterOrder, NoBetterPlan}
+use Rattle.model.specs.Explanation.{countsOperatingCost, countsSwitchingCost, NoBetterSpread, NoBetterChoice, NoBetterOrder}
+use Rattle.model.specs.Explanation.{NoBetterPlan, NoBetterSheet}
 use Rattle.model.specs.Practice.{longestPractice}
 use Rattle.model.specs.Catalogue.{catalogueEntry}
 use Rattle.model.specs.Calls.{answer, Accepted, checkCard, planShow, markSheet, sheetBytes, requestOf, applies, firstRefusal}
@@ -139,8 +140,10 @@ AboveLeast card sheet points =
     costOf (answer (markSheet card sheet)))
 
 -- 'Each is zero exactly if changing that one thing alone saves nothing' (02 §7); of the swaps it is said of patterns and of sheets.
+-- All three are zero exactly if no sheet that serves costs less.
 pub record ZeroExactly (card sheet : List ℕ) (points : Points) : Type 0 where
   pub spread-zero : points .number ≡ 0 → points .spread ≡ 0 ↔ NoBetterSpread (instanceOf card) sheet
   pub swaps-zero : points .number ≡ 0 → points .swaps ≡ 0 ↔ NoBetterChoice (instanceOf card) sheet
   pub swaps-zero-sheets : points .number ≡ 0 → points .swaps ≡ 0 ↔ NoBetterOrder (instanceOf card) sheet
   pub counts-zero : points .number ≡ 0 → points .counts ≡ 0 ↔ NoBetterPlan (instanceOf card) sheet
+  pub all-zero : points .number ≡ 0 → points .spread + points .swaps + points .counts ≡ 0 ↔ NoBetterSheet (instanceOf card) sheet

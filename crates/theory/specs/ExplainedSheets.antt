@@ -5,7 +5,7 @@ use mathlib.Core.Path.{_≡_, refl, sym, ap, _∙_}
 use mathlib.Core.Bool.{true}
 use mathlib.Core.List.{List, [], _∷_}
 use native.Mathlib.Omega.{arith}
-use lib.ListN.{length}
+use lib.ListN.{length, take}
 use borrow.Author.Tests.{lt-ltb, le-ltb, ltb-false}
 use Rattle.lists.specs.Tests.{or-left}
 use Rattle.model.specs.declared.Refusal.{Refusal}
@@ -21,7 +21,7 @@ use Rattle.model.specs.Planners.{Planner, exact, workBytes, plannedBy}
 use Rattle.model.specs.Explanation.{excessOperatingCost, excessSwitchingCost, excessOfCounts}
 use Rattle.model.specs.Calls.{checkCard, planShow, markSheet, explainSheet, sheet, onCard, requestOf, refusals, firstRefusal, applies, successCost}
 use Rattle.model.specs.Calls.{answer, Accepted, workBuffer, buffersOf, anyShort, rightLength, entriesInRange, loadsServed, atExit, buffersAtExit}
-use Rattle.model.specs.Calls.{planAtExit, explainedWork, pointsWith, pointsOf}
+use Rattle.model.specs.Calls.{makeSheet, sheetBytes, sheetAtExit, planAtExit, explainedWork, pointsWith, pointsOf}
 use Rattle.model.specs.Promises.{madeSheet, ExplainsMarked, NoneNegative, AboveLeast, ZeroExactly}
 use Rattle.laws.specs.AnswerNumber.{number-zero}
 use Rattle.laws.specs.FirstRefusal.{first-passed, first-refused, first-through}
@@ -29,10 +29,11 @@ use Rattle.laws.specs.OnCard.{on-card-refused, on-card-passed, on-card-accepted
 use Rattle.theory.specs.Hypotheses.{Plannable, PlanFits}
 use Rattle.theory.specs.SheetLaws.{plan-sheet-serves}
 use Rattle.theory.specs.Condition3.{accepted-plannable, planned-fits}
-use Rattle.theory.specs.Explanations.{spread-whole, swaps-whole, counts-whole, points-together, spread-zero, swaps-zero, counts-zero}
+use Rattle.theory.specs.Explanations.{spread-whole, swaps-whole, counts-whole, points-together, spread-zero, swaps-zero, counts-zero, all-zero}
 use Rattle.theory.specs.Explanations.{plan-points, exact-points}
+use Rattle.theory.specs.Refusals.{succeeded}
 use Rattle.theory.specs.RearrangedSheets.{swaps-zero-sheets}
-use Rattle.theory.specs.Outcomes.{mark-tests, mark-accepts, mark-number, planner-on, planner-answer, plan-written}
+use Rattle.theory.specs.Outcomes.{mark-tests, mark-accepts, mark-number, made-on, made-fits, sheet-written, planner-on, planner-answer, plan-written}
 
 -- The answer of an explanation.
 module _ (c s w : List ℕ) where
@@ -149,6 +150,7 @@ module _ (c s w : List ℕ) where
         swaps-zero = λ e. rw (points-are e) (swaps-zero (ready e) s (accepted e .1));
         swaps-zero-sheets = λ e. rw (points-are e) (swaps-zero-sheets (ready e) s (accepted e .1));
         counts-zero = λ e. rw (points-are e) (counts-zero (ready e) s (accepted e .1));
+        all-zero = λ e. rw (points-are e) (all-zero (ready e) s (accepted e .1));
       }
 
 -- The sheets that our own plans make.
@@ -177,7 +179,17 @@ module _ (c w : List ℕ) (given : Accepted c) (room : workBytes exact (instance
       points-are c (sheetOf i (plannedBy exact i)) w zero ∙
       rw (plan-points (plannedBy exact i) fit .0, plan-points (plannedBy exact i) fit .1, exact-points ready)
 
--- 'The sheets of both planners': the sheet that the plan bytes of either planner make has spread 0 and swaps 0, and that of the exact planner
+-- The sheet that the sheet call makes of any plan has spread 0 and swaps 0.
+pub made-explained :
+    (c p x w : List ℕ) → numberOf (answer (makeSheet c p x)) ≡ 0 → workBytes exact (instanceOf c) ≤ length w →
+    let points = pointsOf c (take (sheetBytes (instanceOf c)) (sheetAtExit (makeSheet c p x))) w in
+    (points .number ≡ 0) × (points .spread ≡ 0) × (points .swaps ≡ 0)
+made-explained c p x w e room =
+    let made = succeeded (makeSheet c p x) e in
+    let given = made-on c p x made in
+    rw (sheet-written c p x e) (plan-explained c w given room p (made-fits c p x given made))
+
+-- The sheets of both planners: the sheet that the plan bytes of either planner make has spread 0 and swaps 0, and that of the exact planner
 -- counts 0 too.
 module _ (c p v w : List ℕ) (room : workBytes exact (instanceOf c) ≤ length w) where
   pub planner-explained :

@@ -17,12 +17,12 @@ use Rattle.model.specs.Sheets.{activeAt, countsOf}
 use Rattle.model.specs.Plans.{sheetOf, planCost}
 use Rattle.model.specs.Planners.{Planner, exact, allowedCounts, plannedBy, plannedCost}
 use Rattle.model.specs.Explanation.{countsOperatingCost, countsSwitchingCost, excessOperatingCost, excessSwitchingCost, excessOfCounts}
-use Rattle.model.specs.Explanation.{SameActive, NoBetterSpread, NoBetterChoice, NoBetterPlan}
+use Rattle.model.specs.Explanation.{SameActive, NoBetterSpread, NoBetterChoice, NoBetterPlan, NoBetterSheet}
 use Rattle.theory.specs.Hypotheses.{PlanFits, Plannable}
 use Rattle.theory.specs.CountCosts.{counts-cost-parts}
 use Rattle.theory.specs.SheetLaws.{counts-length, operating-at-least, switching-at-least, sheet-counts-fit, sheet-length}
-use Rattle.theory.specs.SheetLaws.{plan-counts, plan-operating-cost, plan-switching-cost, plan-cost-counts}
-use Rattle.theory.specs.Condition3.{exact-plan, planned-fits, sheet-counts-allowed}
+use Rattle.theory.specs.SheetLaws.{plan-counts, plan-operating-cost, plan-switching-cost, plan-cost-counts, plan-sheet-serves}
+use Rattle.theory.specs.Condition3.{exact-plan, exact-least, planned-fits, sheet-counts-allowed}
 use Rattle.theory.specs.BalancedSheets.{balancedSheet, balanced-serves, balanced-active, balanced-cost}
 
 -- Two lists of bytes with the same modules active in the same slots.
@@ -114,6 +114,14 @@ module _ {i : Instance} (ready : Plannable i) where
     counts-zero = (
       λ none r a. omega (arith, exact-plan ready .least r a),
       λ least. omega (arith, least _ (exact-plan ready .allowed)),
+    )
+
+    -- All three are 0 exactly if no sheet that serves costs less.
+    pub all-zero : excessOperatingCost i s + excessSwitchingCost i s + excessOfCounts i s ≡ 0 ↔ NoBetterSheet i s
+    unfolding allowedCounts planCost plannedBy
+    all-zero = (
+      λ none r f. omega (arith, points-together, exact-least ready r f),
+      λ least. let best = least _ (plan-sheet-serves i (plannedBy exact i) (planned-fits ready exact)) in omega (arith, points-together),
     )
 
   -- The sheets of both planners have spread 0 and swaps 0.

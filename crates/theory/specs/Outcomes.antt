@@ -84,7 +84,7 @@ module _ (c p s : List ℕ) where
   sheet-at-exit = refl
 
   -- A sheet call that answers a cost is on an accepted card.
-  made-on : {n : ℕ} → answer (makeSheet c p s) ≡ Cost n → Accepted c
+  pub made-on : {n : ℕ} → answer (makeSheet c p s) ≡ Cost n → Accepted c
   unfolding answer requestOf refusals
   made-on = on-card-accepted c _ _ _ _ _
 
@@ -126,17 +126,23 @@ module _ (c p s : List ℕ) where
         let rack = every-all (i .slots) (λ t. leb (getD p t 0) (i .modules)) (λ t h. le-leb _ _ (fit .in-rack t h)) in
         make-tests ∙ rw (le-ltb _ _ room, eq-eqb _ _ (fit .slotwise), rack, fit .served)
 
+  -- Where the sheet call gives number 0, the first m × T bytes of its buffer at exit are the plan's sheet.
+  pub sheet-written :
+      numberOf (answer (makeSheet c p s)) ≡ 0 → take (sheetBytes (instanceOf c)) (sheetAtExit (makeSheet c p s)) ≡ sheetOf (instanceOf c) p
+  sheet-written e =
+      rw sheet-at-exit
+      (written-taken (sheetBuffer (instanceOf c) p s) (sheetBytes (instanceOf c)) (succeeded (makeSheet c p s) e) (sheet-length (instanceOf c) p))
+
   -- The sheet of a plan that the sheet call accepts is marked at the same cost.
   pub made-marked :
       numberOf (answer (makeSheet c p s)) ≡ 0 →
       answer (markSheet c (take (sheetBytes (instanceOf c)) (sheetAtExit (makeSheet c p s)))) ≡ answer (makeSheet c p s)
   unfolding planCost successCost
   made-marked e =
-      let i = instanceOf c in
       let made = succeeded (makeSheet c p s) e in
       let fit = made-fits (made-on made) made in
-      rw (sheet-at-exit, written-taken (sheetBuffer i p s) (sheetBytes i) made (sheet-length i p))
-      (serves-marked c (sheetOf i p) (made-on made) (plan-sheet-serves i p fit) ∙ sym made)
+      rw (sheet-written e)
+      (serves-marked c (sheetOf (instanceOf c) p) (made-on made) (plan-sheet-serves (instanceOf c) p fit) ∙ sym made)
 
 -- The sheet call accepts the plan q with the buffer s, and marking accepts the sheet that it writes, both with the answer a.
 abbrev Marked : (c q s : List ℕ) → Answer → Type 0
