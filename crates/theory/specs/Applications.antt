@@ -24,8 +24,11 @@ use Rattle.columns.specs.Column.{countAtPlace, Ascending, GrowsBy}
 use Rattle.theory.specs.Hypotheses.{Plannable}
 use Rattle.theory.specs.SheetLaws.{sheet-at-least}
 use Rattle.theory.specs.Condition3.{exact-least, list-ratio, coarse-twice}
+use Rattle.theory.specs.Explanations.{spread-zero, swaps-zero}
 use Rattle.theory.specs.Counterexamples.{exampleE, steadySheet, steady-serves}
-use Rattle.model.specs.Planners.{exact, plannedCost}
+use Rattle.model.specs.Planners.{exact, allowedCounts, plannedCost}
+use Rattle.model.specs.Explanation.{countsOperatingCost, countsSwitchingCost, excessOperatingCost, excessSwitchingCost, excessOfCounts}
+use Rattle.model.specs.Explanation.{NoBetterSpread, NoBetterChoice}
 use Rattle.model.specs.Acts.{readLowest}
 use Rattle.model.specs.SittingState.{phaseOf}
 use Rattle.model.specs.Sittings.{replyOf, toldInTurn, leftBy, StartsAfresh, from-unopened, LentCard, EachAct, toldFrom}
@@ -91,6 +94,23 @@ costs-computed = (refl, refl, refl)
 -- The counts of the moved sheet cost no more than the sheet: 7 ≤ 10.
 pub sheet-at-least-applied : countsCost exampleE 0 (countsOf exampleE movedSheet) ≤ sheetCost exampleE movedSheet
 sheet-at-least-applied = sheet-at-least exampleE (example-plannable .convex) movedSheet moved-serves
+
+-- The moved sheet costs 10, which is 5 above the least: 3 points are swaps, and 2 are counts.
+moved-points :
+    (excessOperatingCost exampleE movedSheet ≡ 0) × (excessSwitchingCost exampleE movedSheet ≡ 3) × (excessOfCounts exampleE movedSheet ≡ 2)
+unfolding every sum tabulate rows keep flatMap canServe operatingCost allCounts allowedCounts stateAt stepCost changeCost sheetOperatingCost
+    sheetSwitchingCost sheetCost activeAt countsOf countAt moduleByte slotRow sheetOf planCost planServes plansInOrder cheapest cheapestOf
+    leastPlan leastOver firstOver leastFrom activeStep countsOperatingCost countsSwitchingCost excessOperatingCost excessSwitchingCost
+    excessOfCounts
+moved-points = (refl, refl, refl)
+
+-- So no sheet that serves with the same modules active in the same slots costs less than the moved one.
+pub spread-zero-applied : NoBetterSpread exampleE movedSheet
+spread-zero-applied = spread-zero example-plannable movedSheet moved-serves .0 (moved-points .0)
+
+-- And some pattern with the same counts has a lower switching cost.
+pub swaps-zero-applied : NoBetterChoice exampleE movedSheet → ⊥
+swaps-zero-applied least = absurd (omega (arith, swaps-zero example-plannable movedSheet moved-serves .1 least, moved-points .1))
 
 -- The exact plan costs no more than the steady sheet: 5 ≤ 5.
 pub exact-least-applied : leastCost exampleE (allCounts (exampleE .modules)) ≤ sheetCost exampleE steadySheet

@@ -1,7 +1,7 @@
 -- Shows and cards on which the conclusion of a theorem or of a clause fails without one of its hypotheses, or with a stronger conclusion.
 use Prim.Native.Nat.{ℕ, zero, suc, _+_, _*_, _≤_, _<_, max}
 use mathlib.Core.Path.{_≡_, refl}
-use mathlib.Core.Bool.{true}
+use mathlib.Core.Bool.{true, false}
 use mathlib.Core.List.{List, [], _∷_, _++_, flatMap, headD}
 use native.Mathlib.Omega.{arith}
 use lib.ListN.{length, getD, take, set}
@@ -16,9 +16,10 @@ use Rattle.model.specs.MoreLight.{leastFrom, activeStep}
 use Rattle.model.specs.Counts.{canServe, operatingCost, allCounts, powerOfTwo, coarseCounts, roundedCount}
 use Rattle.model.specs.Counts.{printedCases, caseValue, roundedByCases}
 use Rattle.model.specs.Sheets.{off, stateAt, sheetLength, sheetEntries, lightAt, sheetLight, serves, stepCost, changeCost}
-use Rattle.model.specs.Sheets.{sheetOperatingCost, sheetSwitchingCost, sheetCost}
+use Rattle.model.specs.Sheets.{sheetOperatingCost, sheetSwitchingCost, sheetCost, activeAt, countsOf}
 use Rattle.model.specs.Thesis.{countAt, slotCost, countsCost}
 use Rattle.model.specs.Plans.{moduleByte, slotRow, sheetOf, planCost, planServes, plansInOrder, cheapest, cheapestOf, leastPlan, leastCost}
+use Rattle.model.specs.Explanation.{countsOperatingCost}
 use Rattle.model.specs.Catalogue.{catalogueEntry, catalogueBytes}
 use Rattle.model.specs.Examples.{cardA}
 use Rattle.laws.specs.LeastSteps.{lowestStep}
@@ -66,6 +67,37 @@ row-needs-convex = (entry, lit< tt)
 pub greater-needs-convex : (activeStep peaked 1 ≡ 2) × (max 1 (lowestStep peaked) ≡ 1)
 unfolding leastOver firstOver leastFrom activeStep
 greater-needs-convex = (refl, refl)
+
+-- A show of two modules and one slot with load 2, with a table F(0) to F(2).
+abbrev withLoad : List ℕ → Instance
+withLoad f =
+    record {
+      modules = 2;
+      topStep = 2;
+      slots = 1;
+      powerUp = 0;
+      powerDown = 0;
+      table = λ k. getD f k 0;
+      load = λ t. 2;
+    }
+
+-- Without convexity a sheet that serves can cost less to operate than its counts, 3 and not 4: the difference would be cut off.
+pub spread-needs-convex :
+    let i = withLoad (0 ∷ 2 ∷ 3 ∷ []) in
+    let s : List ℕ = 0 ∷ 2 ∷ [] in
+    (serves i s ≡ true) × (sheetOperatingCost i s < countsOperatingCost i (countsOf i s))
+unfolding every sum tabulate stateAt sheetLength sheetEntries lightAt sheetLight serves stepCost sheetOperatingCost operatingCost leastOver
+    leastFrom activeAt countsOf countAt countsOperatingCost
+spread-needs-convex = (refl, lit< tt)
+
+-- So can a sheet with too little light on a convex table: 0 and not 2.
+pub spread-needs-light :
+    let i = withLoad (0 ∷ 1 ∷ 3 ∷ []) in
+    let s : List ℕ = 0 ∷ 0 ∷ [] in
+    (serves i s ≡ false) × (sheetOperatingCost i s < countsOperatingCost i (countsOf i s))
+unfolding every sum tabulate stateAt sheetLength sheetEntries lightAt sheetLight serves stepCost sheetOperatingCost operatingCost leastOver
+    leastFrom activeAt countsOf countAt countsOperatingCost
+spread-needs-light = (refl, lit< tt)
 
 -- Document 01's example E.
 abbrev pub exampleE : Instance
