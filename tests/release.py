@@ -15,7 +15,7 @@ from practice import practice_card
 ROOT = pathlib.Path(__file__).resolve().parent.parent
 SYSTEM = "/usr/bin:/bin"
 A = b"cost 32\nplan 3 1 1\nslot 1: 2 2 2\nslot 2: 0 - -\nslot 3: 2 - -\n"
-DAY = ["card", "check", "key", "picture", "page", "mark"]
+DAY = ["card", "check", "key", "picture", "page", "mark", "explain"]
 done = 0
 
 
