@@ -71,13 +71,13 @@ cardUp = cardOf 4 2 1 0 (1 ∷ 1 ∷ 4 ∷ []) (3 ∷ [])
 
 -- Tables that fall at first: the least is at steps 1 and 2, or at the top step alone, on a rack of four and on racks of two; and a table
 -- that is flat.
-abbrev cardFalls : List ℕ
+abbrev pub cardFalls : List ℕ
 cardFalls = cardOf 2 3 0 0 (5 ∷ 1 ∷ 1 ∷ 9 ∷ []) (0 ∷ 1 ∷ 4 ∷ 5 ∷ [])
 
 abbrev cardOfFour : List ℕ
 cardOfFour = cardOf 4 2 0 0 (20 ∷ 10 ∷ 1 ∷ []) (6 ∷ [])
 
-abbrev cardLeastAtTop : List ℕ
+abbrev pub cardLeastAtTop : List ℕ
 cardLeastAtTop = cardOf 2 2 1 1 (9 ∷ 5 ∷ 2 ∷ []) (3 ∷ 1 ∷ [])
 
 abbrev cardSteep : List ℕ
@@ -87,7 +87,7 @@ abbrev cardFlat : List ℕ
 cardFlat = cardOf 2 3 0 0 (4 ∷ 4 ∷ 4 ∷ 4 ∷ []) (0 ∷ 3 ∷ [])
 
 -- A sheet for the table that falls at first. It has just the load in every slot, with one module active at step 0.
-abbrev sheetFalls : List ℕ
+abbrev pub sheetFalls : List ℕ
 sheetFalls = 0 ∷ 255 ∷ 1 ∷ 255 ∷ 2 ∷ 2 ∷ 3 ∷ 2 ∷ []
 
 -- Example D's sheet for card A.

@@ -10,7 +10,7 @@ use Rattle.model.specs.Sheets.{stateAt, activeAt, countsOf}
 use Rattle.model.specs.Thesis.{countAt}
 use Rattle.model.specs.Explanation.{countsOperatingCost, countsSwitchingCost, excessOperatingCost, excessSwitchingCost, excessOfCounts}
 use Rattle.model.specs.Calls.{explainSheet, explainedWork, pointsWith, pointsOf}
-use Rattle.model.specs.Examples.{cardOf, cardA, cardE, cardI, sheetD, sevens, over, Example, agrees, AllHold, NoneHold}
+use Rattle.model.specs.Examples.{cardOf, cardA, cardE, cardI, cardFalls, cardLeastAtTop, sheetD, sheetFalls, sevens, over, Example, agrees, AllHold, NoneHold}
 
 -- What is seen of an explanation: its four numbers, and the work area at exit.
 unfoldable explained : (card sheet work : List ℕ) → List (List ℕ)
@@ -25,7 +25,7 @@ abbrev explains : String → (card sheet work : List ℕ) → (number spread swa
 explains n c s w number a b d left =
     record { name = n; found = explained c s w; expected = (number ∷ a ∷ b ∷ d ∷ []) ∷ left ∷ [] }
 
--- A row of a success on a card with T slots and m modules, with a work area of just the bytes asked for.
+-- A row of a success, with a work area of just the bytes asked for.
 abbrev points : String → (card sheet : List ℕ) → (asked spread swaps counts : ℕ) → Example
 points n c s asked a b d = explains n c s (sevens asked) 0 a b d (replicate asked 0)
 
@@ -40,13 +40,6 @@ sheetA = 2 ∷ 2 ∷ 2 ∷ 0 ∷ 255 ∷ 255 ∷ 2 ∷ 255 ∷ 255 ∷ []
 -- A sheet for card A with one module more than need be in the last slot: plan 3 1 2.
 abbrev sheetOfMore : List ℕ
 sheetOfMore = 2 ∷ 2 ∷ 2 ∷ 0 ∷ 255 ∷ 255 ∷ 1 ∷ 1 ∷ 255 ∷ []
-
--- A table that falls at first, and a sheet whose first module is dearer at step 0 than it would be at step 1.
-abbrev cardFalls : List ℕ
-cardFalls = cardOf 2 3 0 0 (5 ∷ 1 ∷ 1 ∷ 9 ∷ []) (0 ∷ 1 ∷ 4 ∷ 5 ∷ [])
-
-abbrev sheetFalls : List ℕ
-sheetFalls = 0 ∷ 255 ∷ 1 ∷ 255 ∷ 2 ∷ 2 ∷ 3 ∷ 2 ∷ []
 
 -- Four modules, of which two or three are active in a slot. In the sheet they go round: one more than need be goes on in the second slot and
 -- one in the third.
@@ -76,7 +69,7 @@ pointRows =
     points "a table that falls: more light and cheaper" cardFalls (set sheetFalls 0 2) 12 0 0 1 ∷
     points "swaps alone: modules go round" cardFour sheetRound 15 0 22 0 ∷
     points "no swap: the last module alone all through" (cardOf 2 2 3 9 (0 ∷ 1 ∷ 3 ∷ []) (2 ∷ 2 ∷ [])) (255 ∷ 2 ∷ 255 ∷ 2 ∷ []) 6 0 0 0 ∷
-    points "least at the top step" (cardOf 2 2 1 1 (9 ∷ 5 ∷ 2 ∷ []) (3 ∷ 1 ∷ [])) (2 ∷ 1 ∷ 255 ∷ 1 ∷ []) 6 6 0 0 ∷
+    points "least at the top step" cardLeastAtTop (2 ∷ 1 ∷ 255 ∷ 1 ∷ []) 6 6 0 0 ∷
     points "E: counts above the exact plan, not above the coarse one" cardE (replicate 24 1) 27 0 0 3 ∷
     explains "two bytes more than asked for" cardA sheetD (sevens 14) 0 0 5 0 (over 14 (replicate 12 0)) ∷
     points "no slots" cardI [] 0 0 0 0 ∷
