@@ -173,8 +173,8 @@
  *
  * WHERE THE POINTS WENT
  *
- * lamp_explain tells why a sheet that serves costs more than the least cost, in three numbers of points.
- * The counts of the sheet are how many modules it has active in each slot.
+ * lamp_explain tells where the points went that a sheet which serves costs above the least cost, in three
+ * numbers of points. The counts of the sheet are how many modules it has active in each slot.
  *
  *   spread   The running cost of the sheet, less the least running cost for its counts. The latter is the
  *            sum of what lamp_running_cost gives for the count and the load of each slot.
@@ -191,11 +191,15 @@
  *            less. Such a sheet may differ in the steps of these modules only.
  *   swaps    is 0 exactly if no choice of active modules, with the same count in each slot, has a lower
  *            switching cost.
- *   counts   is 0 exactly if no plan that serves costs less than the counts of the sheet as a plan.
+ *   counts   is 0 exactly if no plan that serves costs less than the counts of the sheet as a plan. With
+ *            other counts the modules and their steps are chosen anew: the sheet that lamp_sheet makes of
+ *            a plan costs the least of all sheets that serve with its counts, and counts is what that
+ *            sheet costs above the least cost.
  *
- * So all three are 0 exactly if no sheet that serves costs less. All this is proved, for every sheet that
- * lamp_mark accepts. Every sheet that lamp_sheet makes has spread 0 and swaps 0, whatever the plan, and that
- * of the exact plan has counts 0 too.
+ * So after a success all three are 0 exactly if no sheet that serves costs less. With a refusal they are 0
+ * too, so look at number first. All this is proved, for every sheet that lamp_mark accepts and every work
+ * buffer that is long enough. Every sheet that lamp_sheet makes has spread 0 and swaps 0, whatever the
+ * plan, and that of the exact plan has counts 0 too.
  *
  * This sheet of the card in THE CARD above costs 37 points, 5 above the least:
  *     2 2 2
@@ -219,11 +223,14 @@
  *     if (points.number == 0) {
  *         uint64_t cost = lamp_mark(card, card_len, sheet, sheet_len).cost;
  *         uint64_t least = cost - (points.spread + points.swaps + points.counts);
- *         printf("cost %" PRIu64 ", the least %" PRIu64 "\n", cost, least);
+ *         printf("cost %llu, the least %llu\n", (unsigned long long)cost, (unsigned long long)least);
+ *     } else {
+ *         printf("refused %u\n", (unsigned)points.number);
  *     }
  *
- * So whoever knows the cost of a sheet and its three numbers knows the least cost. A host that keeps a
- * sitting does not tell a candidate the three numbers before it is closed.
+ * counts alone tells the least cost to whoever has the card, since the cost of a plan can be worked out by
+ * hand. So a host that keeps a sitting explains no sheet to a candidate before the sitting is closed. The
+ * library keeps no sheet: a host that will explain one after closing keeps it.
  *
  *
  * PRACTICE CARDS
@@ -369,8 +376,8 @@
  *
  * What a caller is told is number, cost and marked. The sitting holds the least cost and is the host's to
  * keep: do not show it to a candidate. After an opening, plan holds a plan of least cost. It is not for a
- * candidate either. The list holds the lowest cost of every seat and is the host's to keep too. The numbers
- * that lamp_explain gives for a sheet tell the least cost, so they are for a candidate only after closing.
+ * candidate either. The list holds the lowest cost of every seat and is the host's to keep too. What
+ * lamp_explain gives for a sheet tells the least cost, so it is for a candidate only after closing.
  *
  * It is proved that no candidate is told the least cost by lamp_sitting_least before the sitting is
  * closed. For a host that keeps the rules above it is also proved that no lowest cost is below the least
@@ -504,7 +511,7 @@ extern "C" {
 #define LAMP_OFF 255
 
 /* The sizes that are enough for every card, for every start and for every top step, in bytes. A host whose buffers have
- * these sizes never gets refusal 10. */
+ * these sizes never gets refusal 10. The work of lamp_explain and of lamp_sitting_open is that of lamp_plan_exact. */
 #define LAMP_MAX_CARD 2869         /* a card of Q 200 and T 1,024: 17 + 4 * (200 + 1) + 2 * 1,024 */
 #define LAMP_MAX_PLAN 1024         /* a plan of T 1,024 */
 #define LAMP_MAX_EXACT_WORK 205824 /* work of lamp_plan_exact for m 200 and T 1,024: (200 + 1) * 1,024 */
@@ -673,7 +680,7 @@ struct lamp_answer lamp_sheet(const uint8_t *card, size_t card_len, const uint8_
 struct lamp_answer lamp_mark(const uint8_t *card, size_t card_len, const uint8_t *sheet, size_t sheet_len);
 
 /* Explains a sheet: tells where its points above the least cost went, in the three numbers that WHERE THE POINTS WENT
- * above describes. All three are 0 exactly if no sheet that serves the show costs less.
+ * above describes. After a success all three are 0 exactly if no sheet that serves the show costs less.
  *
  * Reads:     card, sheet. sheet_len must be m * T.
  * Writes:    work.

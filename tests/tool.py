@@ -221,30 +221,30 @@ def marks():
 D_EXPLAINED = b"""cost 37: this is what the sheet costs
 least 32: no sheet that serves the show costs less
 above 5: the sheet costs 5 points more than the least, for spread, swaps and counts together
-spread 0: no other steps for the same burning modules give enough light for less
-swaps 5: another choice of modules, as many in each slot, would warm up and cool down for 5 points less
-counts 0: the best sheet with as many burning modules in each slot costs the least
+spread 0: with the same modules active in the same slots, no other steps give enough light for less
+swaps 5: with as many modules active in each slot as here, another choice of which ones would save 5 points of warm-ups and cool-downs
+counts 0: the cheapest sheet with as many active modules in each slot as this one costs the least
 """
 MORE_EXPLAINED = b"""cost 43: this is what the sheet costs
 least 32: no sheet that serves the show costs less
 above 11: the sheet costs 11 points more than the least, for spread, swaps and counts together
-spread 1: other steps for the same burning modules would give enough light for 1 point less
-swaps 5: another choice of modules, as many in each slot, would warm up and cool down for 5 points less
-counts 5: even the best sheet with as many burning modules in each slot costs 5 points more than the least
+spread 1: with the same modules active in the same slots, other steps would give enough light for 1 point less
+swaps 5: with as many modules active in each slot as here, another choice of which ones would save 5 points of warm-ups and cool-downs
+counts 5: even the cheapest sheet with as many active modules in each slot as this one costs 5 points more than the least
 """
 SENTENCES = {
     "above": ("the sheet costs the least", "the sheet costs {} more than the least, for spread, swaps and counts together"),
     "spread": (
-        "no other steps for the same burning modules give enough light for less",
-        "other steps for the same burning modules would give enough light for {} less",
+        "with the same modules active in the same slots, no other steps give enough light for less",
+        "with the same modules active in the same slots, other steps would give enough light for {} less",
     ),
     "swaps": (
-        "no other choice of modules, as many in each slot, warms up and cools down for less",
-        "another choice of modules, as many in each slot, would warm up and cool down for {} less",
+        "with as many modules active in each slot as here, no other choice of which ones saves on warm-ups and cool-downs",
+        "with as many modules active in each slot as here, another choice of which ones would save {} of warm-ups and cool-downs",
     ),
     "counts": (
-        "the best sheet with as many burning modules in each slot costs the least",
-        "even the best sheet with as many burning modules in each slot costs {} more than the least",
+        "the cheapest sheet with as many active modules in each slot as this one costs the least",
+        "even the cheapest sheet with as many active modules in each slot as this one costs {} more than the least",
     ),
 }
 
@@ -254,7 +254,7 @@ def explained(least, *parts):
     above = sum(parts)
     text = f"cost {least + above}: this is what the sheet costs\nleast {least}: no sheet that serves the show costs less\n"
     for (name, (none, some)), number in zip(SENTENCES.items(), (above, *parts)):
-        points = f"{number:,} point{'' if number == 1 else 's'}"
+        points = f"{number} point{'' if number == 1 else 's'}"
         text += f"{name} {number}: {some.format(points) if number else none}\n"
     return text.encode()
 
@@ -295,7 +295,7 @@ def explanations():
         expect(f"the coarse sheet of {name}", lamp("explain", path, "-", data=coarse), 0, explained(least, 0, 0, cost - least))
     dear = lamp("explain", "-", sheet, data=card(up=500000000, down=500000000))
     expect("dear swaps", dear, 0, explained(3000000017, 0, 10**9, 0))
-    require("their points as the papers print them", b"\nswaps 1000000000: " in dear[1] and b" for 1,000,000,000 points less\n" in dear[1])
+    require("their points in one form on the line", b"\nswaps 1000000000: " in dear[1] and b" would save 1000000000 points of " in dear[1])
 
 
 def readme_explains(folder):

@@ -2,7 +2,6 @@
 use crate::calls::{self, Points};
 use crate::planning::{Planned, Planner};
 use crate::refusal::Refusal;
-use crate::words::several;
 
 /// A sheet's cost, the least cost, and the points between the two in their three parts.
 #[derive(Clone, Copy, Debug, PartialEq, Eq)]
@@ -23,12 +22,13 @@ pub fn of(planned: &Planned, card: &[u8], sheet: &[u8]) -> Result<Explanation, R
     Ok(Explanation { cost: marked?, least: planned.cost, points })
 }
 
-/// The sentence for no points, or the other one with so many points in the place of `{}`.
+/// The sentence for no points, or the other one with so many points in the place of `{}`, in the digits that begin the line.
 fn either(number: u64, none: &str, some: &str) -> String {
-    if number == 0 {
-        return none.to_string();
+    match number {
+        0 => none.to_string(),
+        1 => some.replace("{}", "1 point"),
+        _ => some.replace("{}", &format!("{number} points")),
     }
-    some.replace("{}", &several(number, "point"))
 }
 
 fn above(number: u64) -> String {
@@ -36,22 +36,25 @@ fn above(number: u64) -> String {
     either(number, "the sheet costs the least", some)
 }
 
-/// With the modules held that burn in each slot, this part is what the best steps save.
+/// With the modules held that are active in each slot, this part is what the best steps save.
 fn spread(number: u64) -> String {
-    let none = "no other steps for the same burning modules give enough light for less";
-    either(number, none, "other steps for the same burning modules would give enough light for {} less")
+    let none = "with the same modules active in the same slots, no other steps give enough light for less";
+    either(number, none, "with the same modules active in the same slots, other steps would give enough light for {} less")
 }
 
 /// With the counts held, this part is what the best choice of modules saves on switching.
 fn swaps(number: u64) -> String {
-    let none = "no other choice of modules, as many in each slot, warms up and cools down for less";
-    either(number, none, "another choice of modules, as many in each slot, would warm up and cool down for {} less")
+    let none = "with as many modules active in each slot as here, no other choice of which ones saves on warm-ups and cool-downs";
+    let some =
+        "with as many modules active in each slot as here, another choice of which ones would save {} of warm-ups and cool-downs";
+    either(number, none, some)
 }
 
-/// The best sheet with the same counts costs what they cost as a plan, and this part is what that is above the least cost.
+/// The cheapest sheet with the same counts costs what they cost as a plan, and this part is what that is above the least cost.
 fn counts(number: u64) -> String {
-    let none = "the best sheet with as many burning modules in each slot costs the least";
-    either(number, none, "even the best sheet with as many burning modules in each slot costs {} more than the least")
+    let none = "the cheapest sheet with as many active modules in each slot as this one costs the least";
+    let some = "even the cheapest sheet with as many active modules in each slot as this one costs {} more than the least";
+    either(number, none, some)
 }
 
 impl Explanation {

@@ -79,13 +79,14 @@ Prints the sheet's cost, the least cost and the points above it, or why the shee
 more light than its load, but not less, and each step is charged as it stands.";
 
 const EXPLAINS: &str = "\
-Prints the sheet's cost, the least cost and the points above it, as 'lamp mark' does, and the three parts of
-these points, each number with a sentence; or why the sheet is refused.
-    spread  what other steps for the same burning modules would save
-    swaps   what another choice of modules, as many in each slot, would save on switching
-    counts  what even the best sheet with as many burning modules in each slot costs above the least
-Spread and swaps are 0 exactly if nothing can be saved so, and counts is 0 exactly if no plan costs less than the
-sheet's counts do as a plan. All this tells the least cost, so it is for a candidate only after the sitting.";
+Prints the sheet's cost, the least cost and the points above it, the three numbers of 'lamp mark', and the three
+parts of these points, each number with a sentence; or why the sheet is refused.
+    spread  what other steps would save, with the same modules active in the same slots
+    swaps   what another choice of modules would save on switching, with as many active in each slot
+    counts  what even the cheapest sheet with as many active modules in each slot costs above the least
+Spread and swaps are 0 exactly if nothing can be saved so, and counts is 0 exactly if no plan that serves costs
+less than the sheet's counts do as a plan. All this tells the least cost, so it is for a candidate only after the
+sitting.";
 
 /// A command of the table below.
 const fn command(
