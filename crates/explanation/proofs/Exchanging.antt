@@ -10,8 +10,8 @@ use mir.Syntax.{w64}
 use mir.Val.{Fits}
 use borrow.Rule.Slice.PartMut.{midOf}
 use Rattle.lists.specs.Summing.{Summed, summed-none, summed-more, summed-all, summed-room}
-use Rattle.model.specs.Instance.{Instance, instanceOf}
-use Rattle.model.specs.Sheets.{activeAt, countsOf}
+use Rattle.model.specs.Instance.{instanceOf}
+use Rattle.model.specs.Sheets.{activeAt}
 use Rattle.laws.specs.Acceptance.{modules-range, slots-range}
 use Rattle.theory.specs.SheetLaws.{counts-length}
 use Rattle.card.specs.declared.Header.{Header}

@@ -1,13 +1,13 @@
 -- The rows of a sheet, as they are lent: their active modules are the sheet's counts, and those that go on are the sheet's.
 use Prim.Native.Nat.{ℕ, suc, _+_, _-_, _*_, _≤_, _<_}
-use mathlib.Core.Path.{_≡_, ap, ap₂, sym, _∙_}
+use mathlib.Core.Path.{_≡_, ap, ap₂}
 use mathlib.Core.List.{List}
 use native.Mathlib.Omega.{arith}
 use lib.ListN.{length, getD}
 use borrow.Rule.Slice.PartMut.{midOf}
 use Rattle.lists.specs.Sums.{sum-ext}
 use Rattle.lists.specs.Lists.{getD-tabulate}
-use Rattle.model.specs.Instance.{Instance, instanceOf}
+use Rattle.model.specs.Instance.{Instance}
 use Rattle.model.specs.Sheets.{stateAt, activeOf, activeAt, countsOf}
 use Rattle.theory.specs.Hypotheses.{activeIn}
 use Rattle.theory.specs.RowCosts.{active-le}

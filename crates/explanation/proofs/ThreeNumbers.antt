@@ -1,18 +1,17 @@
 -- The three numbers of a sheet that serves, from its cost, the modules that go on beyond the rises of its counts, the cost of its counts as a
 -- plan, and the exact planner's cost.
-use Prim.Native.Nat.{ℕ, _+_, _-_, _*_, _≤_, _<_}
-use mathlib.Core.Path.{_≡_, refl, ap, sym, _∙_}
+use Prim.Native.Nat.{ℕ, _+_, _-_, _*_, _≤_}
+use mathlib.Core.Path.{_≡_, sym, _∙_}
 use mathlib.Core.List.{List}
 use native.Mathlib.Nat.{mul-le-mul, mul-comm, sub-le, le-trans}
 use native.Mathlib.Omega.{arith}
-use lib.ListN.{length}
 use mir.Syntax.{w64}
 use mir.Val.{Fits}
 use borrow.Author.Tests.{eqb-true}
 use Rattle.lists.specs.Sums.{sum-at-most}
 use Rattle.model.specs.declared.Answer.the-variants.{Cost}
 use Rattle.model.specs.declared.Points.{Points}
-use Rattle.model.specs.Instance.{Instance, instanceOf}
+use Rattle.model.specs.Instance.{instanceOf}
 use Rattle.model.specs.Sheets.{sheetLength, sheetCost, countsOf}
 use Rattle.model.specs.Thesis.{switchingPrice, countsCost}
 use Rattle.model.specs.Plans.{planCost}
@@ -27,7 +26,7 @@ use Rattle.theory.specs.Condition3.{accepted-plannable}
 use Rattle.theory.specs.Explanations.{spread-whole, counts-whole}
 use Rattle.card.specs.declared.Header.{Header}
 use Rattle.sheets.specs.SheetRequires.{SheetSized, PlanReady}
-use Rattle.explanation.specs.Exchanges.{exchangedAfter, exchanged}
+use Rattle.explanation.specs.Exchanges.{exchanged}
 use Rattle.explanation.specs.ExplanationRequires.{CountsRoom, CountsKnown, Marked, PointsRoom}
 use Rattle.explanation.proofs.SheetRows.{exchanged-most}
 use Rattle.explanation.proofs.SwitchingExcess.{exchanged-cost}

@@ -9,7 +9,7 @@ use mir.Val.{Fits}
 use borrow.Rule.Slice.PartMut.{midOf}
 use Rattle.lists.specs.Lists.{tabulate}
 use Rattle.lists.specs.Filling.{Upto, upto-more, upto-all}
-use Rattle.model.specs.Instance.{Instance, instanceOf}
+use Rattle.model.specs.Instance.{instanceOf}
 use Rattle.model.specs.Sheets.{activeAt, countsOf}
 use Rattle.card.specs.declared.Header.{Header}
 use Rattle.sheets.specs.SheetRequires.{RowShort}

@@ -12,7 +12,6 @@ use Rattle.model.specs.declared.Refusal.{Refusal}
 use Rattle.model.specs.declared.Refusal.the-variants.{BufferTooShort, WrongLength, EntryRange, LoadNotServed}
 use Rattle.model.specs.declared.Answer.{Answer}
 use Rattle.model.specs.declared.Answer.the-variants.{Cost, Refused}
-use Rattle.model.specs.declared.Points.{Points}
 use Rattle.model.specs.Answers.{numberOf}
 use Rattle.model.specs.Instance.{Instance, instanceOf}
 use Rattle.model.specs.Sheets.{serves}

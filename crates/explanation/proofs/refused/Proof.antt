@@ -1,5 +1,3 @@
-use mathlib.Core.Path.{ap}
-use Rattle.model.specs.declared.Points.{Points}
 use borrow.Author.Needs.{needs}
 use Rattle.explanation.proofs.refused.Statement.{statement}
 use Rattle.explanation.proofs.refused.Tie as tie
