@@ -1,6 +1,6 @@
 //! Section 7 of document 02, written out plainly: where the points of a sheet went, and the refusals of the call that tells it.
 use crate::plain::{read_card, Show, OFF};
-use crate::points::{Outcome, Points};
+use crate::points::{self, Outcome, Points};
 use std::ops::Range;
 
 /// The running cost of a sheet: F of each step, as it stands in the sheet.
@@ -54,7 +54,7 @@ pub fn points(show: &Show, least: u64, sheet: &[u8]) -> Points {
     let counts = show.active(sheet);
     let spread = less(running_of_sheet(show, sheet), running_of_counts(show, &counts));
     let swaps = less(switching_of_sheet(show, sheet), switching_of_counts(show, &counts));
-    Points::explained(spread, swaps, less(show.sheet_cost(&show.sheet(&counts)), least))
+    points::of(spread, swaps, less(show.sheet_cost(&show.sheet(&counts)), least))
 }
 
 /// The least cost of a show, by a plain search over all counts.
@@ -71,13 +71,13 @@ pub fn asked(show: &Show) -> usize {
 fn answer(show: Result<&Show, u64>, sheet: &[u8], work_len: usize) -> Points {
     let show = match show {
         Ok(show) => show,
-        Err(number) => return Points::refused(number),
+        Err(number) => return points::refused(number),
     };
     if work_len < asked(show) {
-        return Points::refused(10);
+        return points::refused(10);
     }
     match show.sheet_refusal(sheet) {
-        Some(number) => Points::refused(number),
+        Some(number) => points::refused(number),
         None => points(show, least_cost(show), sheet),
     }
 }

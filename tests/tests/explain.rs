@@ -50,29 +50,29 @@ fn of_card_a(sheet: [u8; 9]) -> Points {
 /// Document 01's example D costs 37, and 43 with its last byte 0; the least cost is 32.
 #[test]
 fn example_d() {
-    assert_eq!(of_card_a(D), Points::explained(0, 5, 0));
+    assert_eq!(of_card_a(D), points::of(0, 5, 0));
     let mut active = D;
     active[8] = 0;
-    assert_eq!(of_card_a(active), Points::explained(1, 5, 5));
+    assert_eq!(of_card_a(active), points::of(1, 5, 5));
 }
 
 /// On card A each number alone is above 0, every two of them, all three, and none.
 #[test]
 fn each_number_alone() {
     let rows = [
-        ([0, OFF, OFF, 2, OFF, OFF], Points::explained(0, 0, 0)),
-        ([1, OFF, OFF, 2, OFF, OFF], Points::explained(1, 0, 0)),
-        ([OFF, 0, OFF, 2, OFF, OFF], Points::explained(0, 5, 0)),
-        ([OFF, OFF, OFF, 2, OFF, OFF], Points::explained(0, 0, 4)),
-        ([OFF, 2, OFF, 2, OFF, OFF], Points::explained(3, 5, 0)),
-        ([1, OFF, OFF, 2, 0, OFF], Points::explained(2, 0, 5)),
-        ([OFF, 0, OFF, 1, OFF, 1], Points::explained(0, 5, 5)),
-        ([OFF, 0, OFF, 2, OFF, 0], Points::explained(1, 5, 5)),
+        ([0, OFF, OFF, 2, OFF, OFF], points::of(0, 0, 0)),
+        ([1, OFF, OFF, 2, OFF, OFF], points::of(1, 0, 0)),
+        ([OFF, 0, OFF, 2, OFF, OFF], points::of(0, 5, 0)),
+        ([OFF, OFF, OFF, 2, OFF, OFF], points::of(0, 0, 4)),
+        ([OFF, 2, OFF, 2, OFF, OFF], points::of(3, 5, 0)),
+        ([1, OFF, OFF, 2, 0, OFF], points::of(2, 0, 5)),
+        ([OFF, 0, OFF, 1, OFF, 1], points::of(0, 5, 5)),
+        ([OFF, 0, OFF, 2, OFF, 0], points::of(1, 5, 5)),
     ];
     for (slots, wanted) in rows {
         let sheet = [&[2, 2, 2], &slots[..]].concat().try_into().unwrap();
         assert_eq!(of_card_a(sheet), wanted, "{sheet:?}");
-        assert_eq!(mark(&card_a(), &sheet).cost, 32 + wanted.sum(), "{sheet:?}");
+        assert_eq!(mark(&card_a(), &sheet).cost, 32 + wanted.together(), "{sheet:?}");
     }
 }
 
@@ -81,16 +81,16 @@ fn each_number_alone() {
 fn spread_is_above_the_least_and_not_above_the_load() {
     let card = small(2, &[5, 1, 9], &[0]);
     let explain = |sheet: [u8; 2]| compare(&card.bytes(), &sheet, &[7; 2 * BESIDE + 3], lent(3));
-    assert_eq!(explain([OFF, OFF]), Points::explained(0, 0, 0));
-    assert_eq!(explain([1, OFF]), Points::explained(0, 0, 1 + 5));
-    assert_eq!(explain([0, OFF]), Points::explained(4, 0, 1 + 5));
-    assert_eq!(explain([2, 0]), Points::explained(8 + 4, 0, 2 + 10));
+    assert_eq!(explain([OFF, OFF]), points::of(0, 0, 0));
+    assert_eq!(explain([1, OFF]), points::of(0, 0, 1 + 5));
+    assert_eq!(explain([0, OFF]), points::of(4, 0, 1 + 5));
+    assert_eq!(explain([2, 0]), points::of(8 + 4, 0, 2 + 10));
     // two modules with just the load of 2 can do no better than at step 1 each
     let card = Card { loads: vec![2], ..card };
     let explain = |sheet: [u8; 2]| compare(&card.bytes(), &sheet, &[7; 2 * BESIDE + 3], lent(3));
-    assert_eq!(explain([1, 1]), Points::explained(0, 0, 0));
-    assert_eq!(explain([2, 0]), Points::explained(9 + 5 - 2, 0, 0));
-    assert_eq!(explain([OFF, 2]), Points::explained(0, 0, 9 + 5 - 12));
+    assert_eq!(explain([1, 1]), points::of(0, 0, 0));
+    assert_eq!(explain([2, 0]), points::of(9 + 5 - 2, 0, 0));
+    assert_eq!(explain([OFF, 2]), points::of(0, 0, 9 + 5 - 12));
 }
 
 /// A swap costs both prices, in whichever slot it is, and also beside a count that rises or falls. Nothing is swapped before the first slot
@@ -215,7 +215,7 @@ impl Searched {
         let spread = cost - self.by_burning.at(&burning);
         let swaps = self.switching.at(&burning) - self.by_counts.at(&counts);
         assert_eq!(swaps, cost - self.by_steps.at(&steps(show, sheet)), "{show:?}, sheet {sheet:?}");
-        Points::explained(spread, swaps, self.plans.at(&counts) - self.plans.least())
+        points::of(spread, swaps, self.plans.at(&counts) - self.plans.least())
     }
 }
 
@@ -227,7 +227,7 @@ fn compare_sheets(classes: &mut Classes, card: &Card, show: &Show, searched: &Se
         let found = explained(&bytes, show, sheet);
         assert_eq!(found, searched.saved(show, sheet, *cost), "{card:?}, sheet {sheet:?}");
         assert_eq!(found, explanation::points(show, least, sheet), "{card:?}, sheet {sheet:?}");
-        assert_eq!(found.sum(), cost - least, "{card:?}, sheet {sheet:?}");
+        assert_eq!(found.together(), cost - least, "{card:?}, sheet {sheet:?}");
         count(classes, found);
     }
 }
@@ -243,7 +243,7 @@ fn explained_plan(card: &Card, show: &Show, plan: &[u8]) -> Points {
 /// The sheet of every plan that serves has spread 0 and swaps 0, and its counts are what the plan costs above the least.
 fn compare_plans(classes: &mut Classes, card: &Card, show: &Show, plans: &Least) {
     for (plan, cost) in &plans.0 {
-        assert_eq!(explained_plan(card, show, plan), Points::explained(0, 0, cost - plans.least()), "{card:?}, plan {plan:?}");
+        assert_eq!(explained_plan(card, show, plan), points::of(0, 0, cost - plans.least()), "{card:?}, plan {plan:?}");
     }
     compare_planners(classes, card, show);
 }
@@ -251,8 +251,8 @@ fn compare_plans(classes: &mut Classes, card: &Card, show: &Show, plans: &Least)
 /// The sheets of both planners have spread 0 and swaps 0, and that of the exact plan has counts 0.
 fn compare_planners(classes: &mut Classes, card: &Card, show: &Show) {
     let [(least, exact), (cost, coarse)] = BOTH.map(|planner| planned(planner, card));
-    assert_eq!(explained_plan(card, show, &exact), Points::explained(0, 0, 0), "{card:?}");
-    assert_eq!(explained_plan(card, show, &coarse), Points::explained(0, 0, cost - least), "{card:?}");
+    assert_eq!(explained_plan(card, show, &exact), points::of(0, 0, 0), "{card:?}");
+    assert_eq!(explained_plan(card, show, &coarse), points::of(0, 0, cost - least), "{card:?}");
     if cost > least {
         classes.see(COARSE_ABOVE);
     }
@@ -409,7 +409,7 @@ fn larger_shows() {
         let (area, lent) = random_area(&mut random, explanation::asked(&show));
         let found = compare(&card.bytes(), &sheet, &area, lent);
         let above = mark(&card.bytes(), &sheet).cost - planned(Planner::Exact, &card).0;
-        assert_eq!(found.sum(), above, "{card:?}, sheet {sheet:?}");
+        assert_eq!(found.together(), above, "{card:?}, sheet {sheet:?}");
         compare_planners(&mut classes, &card, &show);
         count(&mut classes, found);
         shows::classes(&card).into_iter().for_each(|name| classes.see(name));
@@ -433,13 +433,13 @@ fn largest_numbers() {
     let by_slot = |row: &dyn Fn(usize, usize) -> u8| -> Vec<u8> { (0..200 * 1_024).map(|at| row(at / 200, at % 200)).collect() };
     // every module burns at step 0 in every second slot
     let found = explain(&by_slot(&|slot, _| if slot % 2 == 0 { 0 } else { OFF }));
-    assert_eq!(found, Points::explained(0, 0, 512 * 200 * BOTH_PRICES));
+    assert_eq!(found, points::of(0, 0, 512 * 200 * BOTH_PRICES));
     // the two halves of the rack take turns, at the top step
     let found = explain(&by_slot(&|slot, module| if (module < 100) == (slot % 2 == 0) { 200 } else { OFF }));
-    assert_eq!(found, Points::explained(1_024 * 100 * 1_000_000, 1_023 * 100 * BOTH_PRICES, 100 * BOTH_PRICES));
+    assert_eq!(found, points::of(1_024 * 100 * 1_000_000, 1_023 * 100 * BOTH_PRICES, 100 * BOTH_PRICES));
     // every module burns through the show at the top step
     let found = explain(&vec![200; 200 * 1_024]);
-    assert_eq!(found, Points::explained(1_024 * 200 * 1_000_000, 0, 200 * BOTH_PRICES));
+    assert_eq!(found, points::of(1_024 * 200 * 1_000_000, 0, 200 * BOTH_PRICES));
 }
 
 /// The largest show against the plain rules, with a table that never falls and with one that does.
@@ -454,7 +454,7 @@ fn largest_shows() {
         let (area, lent) = random_area(&mut random, explanation::asked(&show));
         let found = compare(&card.bytes(), &sheet, &area, lent);
         assert_eq!(found.number, 0);
-        assert_eq!(found.sum(), mark(&card.bytes(), &sheet).cost - planned(Planner::Exact, &card).0);
+        assert_eq!(found.together(), mark(&card.bytes(), &sheet).cost - planned(Planner::Exact, &card).0);
     }
 }
 
@@ -508,7 +508,7 @@ fn refuse(classes: &mut Classes, faults: [&Fault; 3]) {
     let wanted = faults.iter().map(|(number, _)| *number).min().unwrap();
     for paint in [7, 255] {
         let area = vec![paint; 2 * BESIDE + request.work];
-        let expected = Outcome { points: Points::refused(wanted), area: area.clone() };
+        let expected = Outcome { points: points::refused(wanted), area: area.clone() };
         let found = points::explain(&request.card, &request.sheet, &area, lent(request.work));
         let text = || format!("faults {:?}, card {:?}, sheet {:?}", faults.map(|fault| fault.0), request.card, request.sheet);
         difference(&found, &expected).unwrap_or_else(|difference| panic!("{difference}; {}", text()));
@@ -553,11 +553,11 @@ fn expect_work(sheet: &[u8], length: usize, paint: u8, points: Points) {
 #[test]
 fn work_areas() {
     let refused =
-        [(11, D[1..].to_vec()), (12, vec![3; 9]), (13, vec![OFF; 9])].map(|(number, sheet)| (sheet, Points::refused(number)));
-    let sheets: Vec<(Vec<u8>, Points)> = [(D.to_vec(), Points::explained(0, 5, 0))].into_iter().chain(refused).collect();
+        [(11, D[1..].to_vec()), (12, vec![3; 9]), (13, vec![OFF; 9])].map(|(number, sheet)| (sheet, points::refused(number)));
+    let sheets: Vec<(Vec<u8>, Points)> = [(D.to_vec(), points::of(0, 5, 0))].into_iter().chain(refused).collect();
     for (sheet, points) in &sheets {
         for paint in [1, 255] {
-            (0..12).for_each(|length| expect_work(sheet, length, paint, Points::refused(10)));
+            (0..12).for_each(|length| expect_work(sheet, length, paint, points::refused(10)));
             (12..20).for_each(|length| expect_work(sheet, length, paint, *points));
         }
     }
@@ -568,11 +568,11 @@ fn work_areas() {
 fn no_slots() {
     for modules in [1, 3, 200] {
         let card = small(modules, &[4, 2, 9], &[]).bytes();
-        assert_eq!(points::explain(&card, &[], &[], 0..0), Outcome { points: Points::explained(0, 0, 0), area: Vec::new() });
-        assert_eq!(compare(&card, &[], &[7; 2 * BESIDE], lent(0)), Points::explained(0, 0, 0));
-        assert_eq!(compare(&card, &[], &[7; 2 * BESIDE + 5], lent(5)), Points::explained(0, 0, 0));
+        assert_eq!(points::explain(&card, &[], &[], 0..0), Outcome { points: points::of(0, 0, 0), area: Vec::new() });
+        assert_eq!(compare(&card, &[], &[7; 2 * BESIDE], lent(0)), points::of(0, 0, 0));
+        assert_eq!(compare(&card, &[], &[7; 2 * BESIDE + 5], lent(5)), points::of(0, 0, 0));
         for sheet in [&[OFF][..], &[254], &[0; 200]] {
-            assert_eq!(compare(&card, sheet, &[7; 2 * BESIDE + 5], lent(5)), Points::refused(11));
+            assert_eq!(compare(&card, sheet, &[7; 2 * BESIDE + 5], lent(5)), points::refused(11));
         }
     }
 }
@@ -629,7 +629,7 @@ fn random_requests() {
 #[test]
 fn falsified_outcomes_are_reported() {
     let expected = explanation::explain(&card_a(), &D, &[7; 2 * BESIDE + 14], lent(14));
-    assert_eq!(expected.points, Points::explained(0, 5, 0));
+    assert_eq!(expected.points, points::of(0, 5, 0));
     assert!(difference(&expected, &expected).is_ok());
     let falsify: [fn(&mut Outcome); 8] = [
         |outcome| outcome.points.number = 1,

@@ -23,6 +23,13 @@ pub struct Points {
     pub counts: u64,
 }
 
+impl Points {
+    /// The three parts together: after a success the sheet's cost above the least.
+    pub fn together(&self) -> u64 {
+        self.spread + self.swaps + self.counts
+    }
+}
+
 /// A seat of a sitting. An empty one is all zero.
 #[repr(C)]
 #[derive(Clone, Copy, Debug, Default, PartialEq, Eq)]

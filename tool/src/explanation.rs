@@ -17,8 +17,7 @@ pub fn of(planned: &Planned, card: &[u8], sheet: &[u8]) -> Result<Explanation, R
     let points = calls::explain(card, sheet, &mut Planner::Exact.work(&planned.show));
     let marked = calls::mark(card, sheet);
     let asked = marked.map_or_else(|refusal| (refusal.number(), 0), |cost| (0, cost - planned.cost));
-    let together = points.spread + points.swaps + points.counts;
-    assert_eq!((points.number, together), asked, "the three parts are not the points above the least cost");
+    assert_eq!((points.number, points.together()), asked, "the three parts are not the points above the least cost");
     Ok(Explanation { cost: marked?, least: planned.cost, points })
 }
 
