@@ -9,7 +9,7 @@ use lib.ListN.{length, getD}
 use mir.Syntax.{w64}
 use mir.Val.{Fits}
 use borrow.Rule.Slice.PartMut.{midOf}
-use Rattle.lists.specs.Summing.{Summed, summed-none, summed-more, summed-all, summed-room}
+use Rattle.lists.specs.Summing.{Summed, summed-more, summed-all, summed-room}
 use Rattle.model.specs.Instance.{instanceOf}
 use Rattle.model.specs.Sheets.{activeAt}
 use Rattle.laws.specs.Acceptance.{modules-range, slots-range}
@@ -25,9 +25,6 @@ use Rattle.explanation.proofs.SheetRows.{row-starts-is, rise-below, exc
 -- After t turns the total is that of the first t changes from a slot to the next.
 abbrev pub Counted : (s sheet : List ℕ) → (t total : ℕ) → Type 0
 Counted s sheet = Summed (instanceOf s .slots - 1) (exchangedAfter (instanceOf s) sheet)
-
-pub counted-none : (s sheet : List ℕ) → Counted s sheet 0 0
-counted-none s sheet = summed-none _ _
 
 module _ {s : List ℕ} {h : Header} {sheet counts : List ℕ} {t total : ℕ} (known : CountsKnown s h sheet counts) (inv : Counted s sheet t total) where
   pub next-fits : Fits w64 (t + 1)

@@ -27,7 +27,7 @@ use Rattle.explanation.specs.ExplanationRequires.{Marked, PointsRoom, Wo
 -- The front of the array of counts, as it is lent on.
 module _ {s : List ℕ} {h : Header} (r : Ready s h) {counts : List ℕ} (array : CountsArray counts) where
   pub slots-within : h .slots ≤ length counts
-  slots-within = omega (arith, slots-range s (r .accepted), r .header .slots-is, array .size)
+  slots-within = omega (arith, slots-range s (r .accepted))
 
   pub slots-counted : h .slots ≡ length (take (h .slots) counts)
   slots-counted = sym (length-take-le (h .slots) counts slots-within)

@@ -7,6 +7,7 @@ use native.Mathlib.Omega.{arith}
 use lib.ListN.{length, getD}
 use borrow.Author.Tests.{eq-eqb, ne-eqb}
 use Rattle.model.specs.Sheets.{off, isOff, activeOf}
+use Rattle.theory.specs.RowCosts.{at-most-one}
 use Rattle.explanation.specs.Exchanges.{startOf}
 
 -- A module that was off goes on if it is active.
@@ -17,18 +18,13 @@ start-off {a} b e is = is ∙ rw (eq-eqb a off e)
 pub start-none : {a : ℕ} (b : ℕ) → (a ≡ off → ⊥) → 0 ≡ startOf a b
 start-none {a} b active = rw (ne-eqb a off active)
 
--- A module counts at most 1.
-either : (x : Bool) → cond x 0 1 ≤ 1
-either true = omega arith
-either false = omega arith
-
 -- Each byte of a row counts at most 1 as active, and as going on.
 pub active-each : (row : List ℕ) (k : ℕ) → k < length row → activeOf (getD row k 0) ≤ 1
-active-each row k h = either (isOff (getD row k 0))
+active-each row k h = at-most-one (isOff (getD row k 0))
 
 pub start-each : (before row : List ℕ) (k : ℕ) → k < length row → startOf (getD before k 0) (getD row k 0) ≤ 1
 start-each before row k h = go (isOff (getD before k 0))
   where
     go : (x : Bool) → cond x (activeOf (getD row k 0)) 0 ≤ 1
-    go true = either (isOff (getD row k 0))
+    go true = at-most-one (isOff (getD row k 0))
     go false = omega arith

@@ -42,7 +42,7 @@ module _ (i : Instance) (s : List ℕ) where
 
   -- No more than the rack go on beyond the rise.
   pub exchanged-most : (t : ℕ) → exchangedAfter i s t ≤ i .modules
-  unfolding exchangedAfter startsAfter activeIn startedIn
+  unfolding exchangedAfter startsAfter startedIn
   exchanged-most t =
       omega (
         arith,

@@ -45,10 +45,11 @@ module _ {s : List ℕ} {h : Header} {sheet : List ℕ} {cost : ℕ} (m : Marked
   pub counts-room : {counts work : List ℕ} → PointsRoom s h counts work → CountsRoom s h sheet counts
   counts-room room = record { sized = sheet-sized; slotwise = room .plan-size }
 
+  price-most : h .powerUp + h .powerDown ≤ 1000000000
+  price-most = omega (arith, up-range s (m .ready .accepted), down-range s (m .ready .accepted))
+
   pub price-fits : Fits w64 (h .powerUp + h .powerDown)
-  price-fits =
-      let accepted = m .ready .accepted in
-      record { fits = omega (arith, up-range s accepted, down-range s accepted, m .ready .header .up-is, m .ready .header .down-is) }
+  price-fits = record { fits = omega (arith, price-most) }
 
   -- At most the bytes of a sheet go on beyond the rises.
   exchanged-small : exchanged (instanceOf s) sheet ≤ 1024 * 200
@@ -74,11 +75,8 @@ module _ {s : List ℕ} {h : Header} {sheet : List ℕ} {cost : ℕ} (m : Marked
     module _ {x : ℕ} (x-is : x ≡ exchanged (instanceOf s) sheet) where
       pub swaps-fits : Fits w64 (x * (h .powerUp + h .powerDown))
       swaps-fits =
-          let accepted = m .ready .accepted in
-          let price : h .powerUp + h .powerDown ≤ 1000000000 =
-          omega (arith, up-range s accepted, down-range s accepted, m .ready .header .up-is, m .ready .header .down-is) in
           let few : x ≤ 1024 * 200 = omega (arith, exchanged-small) in
-          record { fits = omega (arith, mul-le-mul few price) }
+          record { fits = omega (arith, mul-le-mul few price-most) }
 
       -- The switching price for each of them is what the sheet's switching costs above that of its counts.
       swaps-are : x * (h .powerUp + h .powerDown) ≡ switchingPrice (instanceOf s) * exchanged (instanceOf s) sheet
@@ -97,7 +95,6 @@ module _ {s : List ℕ} {h : Header} {sheet : List ℕ} {cost : ℕ} (m : Marked
         above-planned =
             omega (
               arith,
-              m .cost-is,
               planned-parts,
               swaps-are,
               exchanged-cost (instanceOf s) sheet,

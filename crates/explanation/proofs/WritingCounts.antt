@@ -28,7 +28,7 @@ module _
   -- Another turn.
   module _ (below : t < length counts) where
     in-show : t < instanceOf s .slots
-    in-show = omega (arith, inv .size, room .slotwise)
+    in-show = omega arith
 
     pub row-end : t * h .modules + h .modules ≤ length sheet
     row-end = row-there (room .sized .ready) in-show (omega (arith, room .sized .size))

@@ -15,7 +15,7 @@ ghost use Rattle.model.specs.Sittings.{replyOf, seatsAtExit};
 ghost use Rattle.model.specs.Promises.{OwnSheet, AtMostTimes, MarkedAlike, AcceptsExactly, WritesAccepted, AlwaysEnough, HiddenTillClosed, WritesTable};
 ghost use Rattle.model.specs.Promises.{ExplainsMarked, NoneNegative, AboveLeast, ZeroExactly};
 
-// What every call returns: a refusal's number and cost 0, or number 0 and the cost.
+// What every call but the explanation and the acts of a sitting returns: a refusal's number and cost 0, or number 0 and the cost.
 #[repr(C)]
 pub struct LampAnswer {
     pub number: u64,

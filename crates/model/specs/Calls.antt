@@ -377,7 +377,8 @@ tableAtExit c = getD (buffersAtExit c) 0 []
 unfoldable pub explainedWork : Call → List ℕ
 explainedWork c = getD (buffersAtExit c) 0 []
 
--- The whole outcome: number and cost, then each lent buffer in the order of the parameters.
+-- The whole outcome: number and cost, then each lent buffer in the order of the parameters. What an explanation returns beside its number is
+-- in `pointsOf` below.
 unfoldable pub outcome : Call → List (List ℕ)
 outcome c = (numberOf (answer c) ∷ costOf (answer c) ∷ []) ∷ buffersAtExit c
 

@@ -13,7 +13,7 @@ use Rattle.model.specs.Plans.{Allowed, planCost}
 use Rattle.model.specs.Planners.{exact, plannedCost}
 
 -- The operating cost of counts: 'the least running cost for its own counts' is 01's running cost of each slot's count and load, with G in
--- place of F (02 §2).
+-- place of F (02 §2), summed over the slots. That no sheet with these counts has a lower one is `running-least` in theory.
 unfoldable pub countsOperatingCost : Instance → (counts : List ℕ) → ℕ
 countsOperatingCost i p = sum (i .slots) (λ t. operatingCost i (countAt 0 p (suc t)) (i .load t))
 
@@ -37,7 +37,7 @@ excessSwitchingCost i s = sheetSwitchingCost i s - countsSwitchingCost i (counts
 unfoldable pub excessOfCounts : Instance → (sheet : List ℕ) → ℕ
 excessOfCounts i s = planCost i (countsOf i s) - plannedCost exact i
 
--- Two sheets have the same modules active in the same slots.
+-- Two sheets have the same modules active in the same slots. Slot t (from 0) is time t + 1, here and below.
 abbrev pub SameActive : Instance → (s r : List ℕ) → Type 0
 SameActive i s r = (t k : ℕ) → t < i .slots → k < i .modules → isOff (stateAt i r (suc t) k) ≡ isOff (stateAt i s (suc t) k)
 

@@ -69,6 +69,8 @@ pointRows =
     points "a table that falls: more light and cheaper" cardFalls (set sheetFalls 0 2) 12 0 0 1 ∷
     points "swaps alone: modules go round" cardFour sheetRound 15 0 22 0 ∷
     points "no swap: the last module alone all through" (cardOf 2 2 3 9 (0 ∷ 1 ∷ 3 ∷ []) (2 ∷ 2 ∷ [])) (255 ∷ 2 ∷ 255 ∷ 2 ∷ []) 6 0 0 0 ∷
+    points "no module in a dark slot: 1 of spread, 9 of counts" cardA (set (set sheetA 3 255) 7 0) 12 1 0 9 ∷
+    points "counts alone: one module too few, of ten, in one slot" (cardOf 10 2 0 0 (0 ∷ 1 ∷ 4 ∷ []) (2 ∷ [])) (2 ∷ replicate 9 255) 11 0 0 2 ∷
     points "least at the top step" cardLeastAtTop (2 ∷ 1 ∷ 255 ∷ 1 ∷ []) 6 6 0 0 ∷
     points "E: counts above the exact plan, not above the coarse one" cardE (replicate 24 1) 27 0 0 3 ∷
     explains "two bytes more than asked for" cardA sheetD (sevens 14) 0 0 5 0 (over 14 (replicate 12 0)) ∷
@@ -91,6 +93,7 @@ refusedRows =
     refuses "a short area before a step above Q" cardA (set sheetD 0 3) (sevens 11) 10 ∷
     refuses "a sheet of 8 bytes" cardA (take 8 sheetD) (sevens 12) 11 ∷
     refuses "a sheet of 10 bytes" cardA (sheetD ++ (255 ∷ [])) (sevens 12) 11 ∷
+    refuses "a short sheet before a step above Q and too little light" cardA (take 8 (set (set sheetD 0 1) 7 3)) (sevens 12) 11 ∷
     refuses "a step above Q in the last slot before too little light in the first" cardA (set (set sheetD 0 1) 8 3) (sevens 12) 12 ∷
     refuses "too little light" cardA (set sheetD 0 1) (sevens 13) 13 ∷
     []
@@ -100,10 +103,10 @@ explanationWrong : List Example
 explanationWrong =
     points "the counts' running cost with F" cardFalls sheetFalls 12 0 0 1 ∷
     points "F in the cost of the counts as a plan too" cardFalls sheetFalls 12 0 0 5 ∷
-    points "swaps by counts (D)" cardA sheetD 12 0 0 5 ∷
+    points "the swaps charged to the counts (D)" cardA sheetD 12 0 0 5 ∷
     points "the change of the counts after the last slot left out (D)" cardA sheetD 12 0 7 0 ∷
     points "counts above the coarse plan (E)" cardE (replicate 24 1) 27 0 0 0 ∷
-    points "counts above the sheet's least plan alone (A)" cardA sheetOfMore 12 0 0 0 ∷
+    points "the sheet's own counts taken for the least (A)" cardA sheetOfMore 12 0 0 0 ∷
     points "the warm-up of a swap alone (D)" cardA sheetD 12 0 3 0 ∷
     refuses "11 before 10" cardA (take 8 sheetD) (sevens 11) 11 ∷
     explains "the work area not cleared" cardA sheetD (sevens 12) 0 0 5 0 (sevens 12) ∷

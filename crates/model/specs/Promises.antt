@@ -1,7 +1,7 @@
--- What the contracts of the calls promise beyond their outcome, about the call's own number and cost and its own bytes at exit: of the
--- sheet call, marking and the planners conditions 2 and 3 of the tender, where the sheets are all lists that serve, of the practice call
--- what document 02, §1, says of its cards, of reading the least cost what §4 says of it, of the catalogue call what its bytes are in a card, and of the explanation of
--- a sheet what §7 says of its three numbers.
+-- What the contracts of the calls promise beyond their outcome, about the call's own number and cost or points and its own bytes at exit: of
+-- the sheet call, marking and the planners conditions 2 and 3 of the tender, where the sheets are all lists that serve, of the practice call
+-- what document 02, §1, says of its cards, of reading the least cost what §4 says of it, of the catalogue call what its bytes are in a card,
+-- and of the explanation of a sheet what §7 says of its three numbers.
 use Prim.Native.Nat.{ℕ, _+_, _*_, _≤_}
 use mathlib.Core.Path.{_≡_}
 use mathlib.Core.Bool.{true, false}
@@ -129,15 +129,16 @@ pub record NoneNegative (card sheet : List ℕ) (points : Points) : Type 0 where
       points .number ≡ 0 →
       plannedCost exact (instanceOf card) + points .counts ≡ planCost (instanceOf card) (countsOf (instanceOf card) sheet)
 
--- 'together they are the cost above the least' (02 §7): the exact planner's cost, with all buffers that are long enough, and the three numbers
--- are the cost that marking gives.
+-- 'together they are the cost above the least' (02 §7): with all buffers that are long enough the exact planner gives a cost, and this cost and the
+-- three numbers are the cost that marking gives.
 abbrev pub AboveLeast : (card sheet : List ℕ) → Points → Type 0
 AboveLeast card sheet points =
     points .number ≡ 0 →
     WithRoom exact card
     (λ plan work.
-    costOf (answer (planShow exact card plan work)) + (points .spread + points .swaps + points .counts) ≡
-    costOf (answer (markSheet card sheet)))
+    (numberOf (answer (planShow exact card plan work)) ≡ 0) ×
+    (costOf (answer (planShow exact card plan work)) + (points .spread + points .swaps + points .counts) ≡
+    costOf (answer (markSheet card sheet))))
 
 -- 'Each is zero exactly if changing that one thing alone saves nothing' (02 §7); of the swaps it is said of patterns and of sheets.
 -- All three are zero exactly if no sheet that serves costs less.

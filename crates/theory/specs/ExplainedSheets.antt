@@ -19,7 +19,7 @@ use Rattle.model.specs.Plans.{sheetOf}
 use Rattle.model.specs.Planners.{Planner, exact, workBytes, plannedBy}
 use Rattle.model.specs.Explanation.{excessOperatingCost, excessSwitchingCost, excessOfCounts}
 use Rattle.model.specs.Calls.{checkCard, planShow, markSheet, explainSheet, sheet, onCard, requestOf, refusals, firstRefusal, applies, successCost}
-use Rattle.model.specs.Calls.{answer, Accepted, workBuffer, buffersOf, anyShort, rightLength, entriesInRange, loadsServed, atExit, buffersAtExit}
+use Rattle.model.specs.Calls.{answer, Accepted, workBuffer, buffersOf, anyShort, atExit, buffersAtExit}
 use Rattle.model.specs.Calls.{makeSheet, sheetBytes, sheetAtExit, planAtExit, explainedWork, pointsWith, pointsOf}
 use Rattle.model.specs.Promises.{madeSheet, ExplainsMarked, NoneNegative, AboveLeast, ZeroExactly}
 use Rattle.laws.specs.AnswerNumber.{number-zero}
@@ -74,7 +74,7 @@ module _ (c s w : List ℕ) where
       as-marking :
           answer (explainSheet c s w) ≡
           firstRefusal (applies (onCard c [] (sheet s))) (WrongLength ∷ EntryRange ∷ LoadNotServed ∷ []) (Cost 0)
-      unfolding firstRefusal applies rightLength entriesInRange loadsServed buffersOf anyShort
+      unfolding firstRefusal applies buffersOf anyShort
       as-marking = explain-tests ∙ rw (le-ltb _ _ room)
 
       pub explain-unmarked : {x : Refusal} → answer (markSheet c s) ≡ Refused x → answer (explainSheet c s w) ≡ Refused x
@@ -139,7 +139,7 @@ module _ (c s w : List ℕ) where
   above-least e p v plan-room work-room =
       let planned = planner-answer exact c p v (accepted e .0) plan-room work-room in
       let marked = mark-accepts c s (accepted e .0) .1 (accepted e .1) in
-      rw (points-are e, planned, marked) (points-together (ready e) s (accepted e .1))
+      (ap numberOf planned, rw (points-are e, planned, marked) (points-together (ready e) s (accepted e .1)))
 
   pub zero-exactly : ZeroExactly c s (pointsOf c s w)
   unfolding pointsWith
@@ -174,7 +174,7 @@ module _ (c w : List ℕ) (given : Accepted c) (room : workBytes exact (instance
       let i = instanceOf c in
       let ready = accepted-plannable c given in
       let fit = planned-fits ready exact in
-      let (zero, spread, swaps) = plan-explained (plannedBy exact i) fit in
+      let zero = plan-explained (plannedBy exact i) fit .0 in
       points-are c (sheetOf i (plannedBy exact i)) w zero ∙
       rw (plan-points (plannedBy exact i) fit .0, plan-points (plannedBy exact i) fit .1, exact-points ready)
 

@@ -15,7 +15,7 @@ use Rattle.model.specs.Instance.{Instance}
 use Rattle.model.specs.Sheets.{isOff, stateAt, sheetLength, serves, changeCost, sheetOperatingCost, sheetSwitchingCost, sheetCost}
 use Rattle.model.specs.Sheets.{activeAt, countsOf}
 use Rattle.model.specs.Plans.{sheetOf, planCost}
-use Rattle.model.specs.Planners.{Planner, exact, allowedCounts, plannedBy, plannedCost}
+use Rattle.model.specs.Planners.{exact, allowedCounts, plannedBy, plannedCost}
 use Rattle.model.specs.Explanation.{countsOperatingCost, countsSwitchingCost, excessOperatingCost, excessSwitchingCost, excessOfCounts}
 use Rattle.model.specs.Explanation.{SameActive, NoBetterSpread, NoBetterChoice, NoBetterPlan, NoBetterSheet}
 use Rattle.theory.specs.Hypotheses.{PlanFits, Plannable}
@@ -61,6 +61,10 @@ module _ {i : Instance} (ready : Plannable i) where
     -- Its operating cost is at least that of its counts.
     pub spread-whole : countsOperatingCost i (countsOf i s) ≤ sheetOperatingCost i s
     spread-whole = operating-at-least i (ready .convex) s e
+
+    -- 'the least running cost for its own counts': no sheet that serves with these counts costs less to operate.
+    pub running-least : (r : List ℕ) → serves i r ≡ true → countsOf i r ≡ countsOf i s → countsOperatingCost i (countsOf i s) ≤ sheetOperatingCost i r
+    running-least r f same = rw same at (operating-at-least i (ready .convex) r f)
 
     -- Its switching cost is at least that of its counts.
     pub swaps-whole : countsSwitchingCost i (countsOf i s) ≤ sheetSwitchingCost i s
@@ -123,12 +127,6 @@ module _ {i : Instance} (ready : Plannable i) where
       λ none r f. omega (arith, points-together, exact-least ready r f),
       λ least. let best = least _ (plan-sheet-serves i (plannedBy exact i) (planned-fits ready exact)) in omega (arith, points-together),
     )
-
-  -- The sheets of both planners have spread 0 and swaps 0.
-  pub planner-points :
-      (k : Planner) →
-      (excessOperatingCost i (sheetOf i (plannedBy k i)) ≡ 0) × (excessSwitchingCost i (sheetOf i (plannedBy k i)) ≡ 0)
-  planner-points k = plan-points (plannedBy k i) (planned-fits ready k)
 
   -- The exact planner's sheet has counts 0 too.
   pub exact-points : excessOfCounts i (sheetOf i (plannedBy exact i)) ≡ 0

@@ -1,7 +1,7 @@
 -- The theorems, a module a subject. Every statement is over instances and lists of any size. The end theorems are in SheetLaws,
--- Enumeration, Average, CountLists, Condition3, Explanations, RearrangedSheets, SmallestPlans, Refusals, Outcomes, CourseBook, LongInput,
--- Generator and PracticeCards, and the other modules lead to them. Counterexamples shows that their hypotheses are needed, and Applications that
--- they can be met. RelatedCards and BookExamples show that the hypotheses of CourseBook can be met, and that sharper forms of its facts fail.
+-- Enumeration, Average, CountLists, Condition3, Explanations, RearrangedSheets, SmallestPlans, Refusals, Outcomes, ExplainedSheets,
+-- CourseBook, LongInput, Generator and PracticeCards, and the other modules lead to them. Counterexamples shows that their hypotheses are needed,
+-- and Applications that they can be met. RelatedCards and BookExamples show that the hypotheses of CourseBook can be met, and that sharper forms of its facts fail.
 pub mod Hypotheses
 pub mod RowCosts
 pub mod Switching

@@ -3,7 +3,7 @@ use Prim.Native.Nat.{ℕ, zero, suc, _-_, _*_, _≤_, _<_}
 use mathlib.Core.Path.{_≡_, refl, sym, ap, _∙_}
 use mathlib.Core.Bool.{true, false, cond}
 use mathlib.Core.List.{List}
-use mathlib.Core.Logic.{_↔_, ⊎-elim}
+use mathlib.Core.Logic.{_↔_, Iff·trans, ⊎-elim}
 use lib.Dec.{eqb}
 use borrow.Author.Tests.{eq-eqb, ne-eqb, eqb-true}
 use native.Mathlib.Nat.{not-suc-le-zero, le-of-suc-le-suc, eq-or-lt-of-le, add-sub-of-le, mul-zero}
@@ -158,4 +158,4 @@ module _ {i : Instance} (ready : Plannable i) (s : List ℕ) (e : serves i s ≡
 
   -- The swaps are 0 exactly if no sheet that serves, with the same steps in each slot, costs less.
   pub swaps-zero-sheets : excessSwitchingCost i s ≡ 0 ↔ NoBetterOrder i s
-  swaps-zero-sheets = (λ z. choice-order .0 (swaps-zero ready s e .0 z), λ least. swaps-zero ready s e .1 (choice-order .1 least))
+  swaps-zero-sheets = Iff·trans (swaps-zero ready s e) choice-order

@@ -84,14 +84,15 @@ entry-le i b steps e =
     (λ (g : (isOff b ≡ false) × (b ≤ i .topStep)). omega arith)
     (entry-cases i b e)
 
+-- A byte counts at most 1 as active.
+pub at-most-one : (x : Bool) → cond x 0 1 ≤ 1
+at-most-one true = omega arith
+at-most-one false = omega arith
+
 -- No more modules are active than there are.
 pub active-le : (m : ℕ) (b : ℕ → ℕ) → activeIn m b ≤ m
 unfolding activeIn
 active-le m b = omega (arith, sum-at-most m (λ k h. at-most-one (isOff (b k))))
-  where
-    at-most-one : (x : Bool) → cond x 0 1 ≤ 1
-    at-most-one true = omega arith
-    at-most-one false = omega arith
 
 -- Rows of entries.
 module _ (i : Instance) where

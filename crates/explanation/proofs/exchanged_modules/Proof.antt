@@ -1,7 +1,8 @@
 use Prim.Native.Nat.{_-_}
 use native.Mathlib.Omega.{arith}
 use lib.ListN.{length}
-use Rattle.explanation.proofs.Exchanging.{Counted, counted-none, next-fits, start-fits, row-fits, end-fits, row-end, next-end}
+use Rattle.lists.specs.Summing.{summed-none}
+use Rattle.explanation.proofs.Exchanging.{Counted, next-fits, start-fits, row-fits, end-fits, row-end, next-end}
 use Rattle.explanation.proofs.Exchanging.{next-short, rows-paired, rise-there, total-fits, change-counted, all-counted}
 use Rattle.explanation.proofs.exchanged_modules.Statement.{statement}
 use Rattle.explanation.proofs.exchanged_modules.Tie as tie
@@ -13,7 +14,7 @@ abbrev μ-loop : tie.MeasureT-loop
 μ-loop card sheet counts modules total₀ t₀ total t = length counts - t
 
 loop-holds : tie.Need-loop-holds Inv-loop μ-loop
-loop-holds c = counted-none _ _
+loop-holds c = summed-none _ _
 
 add-loop : tie.Need-add-loop Inv-loop μ-loop
 add-loop c = search next-fits
