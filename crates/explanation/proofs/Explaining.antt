@@ -13,7 +13,8 @@ use Rattle.model.specs.declared.Points.{Points}
 use Rattle.model.specs.Answers.{numberOf, costOf}
 use Rattle.model.specs.Instance.{instanceOf}
 use Rattle.model.specs.Planners.{exact, workBytes}
-use Rattle.model.specs.Calls.{markSheet, explainSheet, answer, atExit, explainedWork, noPoints, pointsWith, pointsOf}
+use Rattle.model.specs.Calls.{markSheet, explainSheet, answer, atExit}
+use Rattle.model.specs.ExplainedPoints.{explainedWork, noPoints, pointsWith, pointsOf}
 use Rattle.laws.specs.Acceptance.{slots-range}
 use Rattle.theory.specs.Outcomes.{mark-number, mark-accepts}
 use Rattle.theory.specs.ExplainedSheets.{work-left, explain-refused, explain-short, explain-unmarked, explain-marked}

@@ -17,7 +17,7 @@ use Rattle.model.specs.Thesis.{switchingPrice, countsCost}
 use Rattle.model.specs.Plans.{planCost}
 use Rattle.model.specs.Planners.{exact, plannedCost}
 use Rattle.model.specs.Explanation.{countsOperatingCost, countsSwitchingCost, excessOperatingCost, excessSwitchingCost, excessOfCounts}
-use Rattle.model.specs.Calls.{pointsWith}
+use Rattle.model.specs.ExplainedPoints.{pointsWith}
 use Rattle.laws.specs.Acceptance.{modules-range, slots-range, up-range, down-range}
 use Rattle.theory.specs.Hypotheses.{Plannable, PlanFits}
 use Rattle.theory.specs.CountCosts.{counts-cost-parts}

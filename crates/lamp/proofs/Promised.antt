@@ -19,7 +19,8 @@ use Rattle.model.specs.Plans.{sheetOf}
 use Rattle.model.specs.Planners.{Planner, exact, ratioOf, plannedBy, plannedCost}
 use Rattle.model.specs.Calls.{NumbersOf, Gives, Accepted, planShow, makeSheet, markSheet, practiceCard, catalogueTable, answer, successCost}
 use Rattle.model.specs.Calls.{planBuffer, planAtExit, workAtExit, sheetAtExit, cardAtExit, tableAtExit}
-use Rattle.model.specs.Calls.{actIn, requestOf, refusals, buffersAtExit, buffersOf, actBuffers, explainSheet, explainedWork, pointsOf}
+use Rattle.model.specs.Calls.{actIn, requestOf, refusals, buffersAtExit, buffersOf, actBuffers, explainSheet}
+use Rattle.model.specs.ExplainedPoints.{explainedWork, pointsOf}
 use Rattle.model.specs.Acts.{Act, openSitting, readLeast, opened, unopened, isClosed}
 use Rattle.model.specs.SittingState.{factsOf, stateOf, phaseOf}
 use Rattle.model.specs.Sittings.{answerTo, markedWith, told, toldBy, replyWith, replyOf}

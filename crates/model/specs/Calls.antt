@@ -15,15 +15,13 @@ use Rattle.model.specs.declared.Refusal.the-variants.{LoadRange, NotMono
 use Rattle.model.specs.declared.Refusal.the-variants.{ZeroStart, NotPermitted, SeatUnavailable, AllowanceSpent}
 use Rattle.model.specs.declared.Answer.{Answer}
 use Rattle.model.specs.declared.Answer.the-variants.{Cost, Refused}
-use Rattle.model.specs.declared.Points.{Points}
-use Rattle.model.specs.Answers.{refusalNumber, numberOf, costOf}
+use Rattle.model.specs.Answers.{numberOf, costOf}
 use Rattle.model.specs.Instance.{Instance, instanceOf, headLength, markOf, cardMark, versionOf, cardVersion, cardLength, cardBytes}
 use Rattle.model.specs.Instance.{tableSize, rackNumber, convex, neverFalls, pricesInRange, loadsInRange}
 use Rattle.model.specs.Counts.{canServe, operatingCost, roundedCount}
 use Rattle.model.specs.Sheets.{sheetLength, sheetEntries, sheetLight, sheetCost}
 use Rattle.model.specs.Plans.{planServes, planCost, sheetOf}
 use Rattle.model.specs.Planners.{Planner, exact, workBytes, plannedBy, plannedCost}
-use Rattle.model.specs.Explanation.{excessOperatingCost, excessSwitchingCost, excessOfCounts}
 use Rattle.model.specs.Practice.{practiceShow}
 use Rattle.model.specs.Catalogue.{catalogueBytes}
 use Rattle.model.specs.declared.Seat.{Seat}
@@ -373,12 +371,8 @@ cardAtExit c = getD (buffersAtExit c) 0 []
 unfoldable pub tableAtExit : Call → List ℕ
 tableAtExit c = getD (buffersAtExit c) 0 []
 
--- The work buffer of an explanation at exit, which is the only one lent to it.
-unfoldable pub explainedWork : Call → List ℕ
-explainedWork c = getD (buffersAtExit c) 0 []
-
 -- The whole outcome: number and cost, then each lent buffer in the order of the parameters. What an explanation returns beside its number is
--- in `pointsOf` below.
+-- in ExplainedPoints.
 unfoldable pub outcome : Call → List (List ℕ)
 outcome c = (numberOf (answer c) ∷ costOf (answer c) ∷ []) ∷ buffersAtExit c
 
@@ -390,17 +384,3 @@ pub record NumbersOf (a : Answer) (number cost : ℕ) : Type 0 where
 -- What a contract says of a result's two numbers: they are those of the call's answer.
 abbrev pub Gives : Call → (number cost : ℕ) → Type 0
 Gives c = NumbersOf (answer c)
-
--- What a refused explanation returns: 'Refused, all three are 0.'
-abbrev pub noPoints : Refusal → Points
-noPoints x = record { number = refusalNumber x; spread = 0; swaps = 0; counts = 0 }
-
--- What the explanation of a sheet returns with an answer: with a success the three numbers of 02 §7.
-unfoldable pub pointsWith : Answer → Instance → (sheet : List ℕ) → Points
-pointsWith (Cost n) i s =
-    record { number = 0; spread = excessOperatingCost i s; swaps = excessSwitchingCost i s; counts = excessOfCounts i s }
-pointsWith (Refused x) i s = noPoints x
-
--- What the explanation of a sheet returns.
-unfoldable pub pointsOf : (card sheet work : List ℕ) → Points
-pointsOf c s w = pointsWith (answer (explainSheet c s w)) (instanceOf c) s

@@ -13,7 +13,8 @@ use Rattle.model.specs.Plans.{Allowed, planCost}
 use Rattle.model.specs.Planners.{exact, plannedCost}
 
 -- The operating cost of counts: 'the least running cost for its own counts' is 01's running cost of each slot's count and load, with G in
--- place of F (02 §2), summed over the slots. That no sheet with these counts has a lower one is `running-least` in theory.
+-- place of F (02 §2), summed over the slots. That no sheet that serves with these counts has a lower one is `running-least` in
+-- theory.
 unfoldable pub countsOperatingCost : Instance → (counts : List ℕ) → ℕ
 countsOperatingCost i p = sum (i .slots) (λ t. operatingCost i (countAt 0 p (suc t)) (i .load t))
 
@@ -62,7 +63,7 @@ howOften i s t b = sum (i .modules) (λ k. cond (eqb (stateAt i s (suc t) k) b) 
 abbrev pub SameSteps : Instance → (s r : List ℕ) → Type 0
 SameSteps i s r = (t b : ℕ) → t < i .slots → howOften i r t b ≡ howOften i s t b
 
--- The same of sheets: of all sheets that serve, with the same steps in each slot, which other modules may have, none costs less.
+-- The same of sheets: of all sheets that serve, with the same steps in each slot, though perhaps on other modules, none costs less.
 abbrev pub NoBetterOrder : Instance → (sheet : List ℕ) → Type 0
 NoBetterOrder i s = (r : List ℕ) → serves i r ≡ true → SameSteps i s r → sheetCost i s ≤ sheetCost i r
 

@@ -14,6 +14,7 @@ pub mod Catalogue
 pub mod Acts
 pub mod SittingState
 pub mod Calls
+pub mod ExplainedPoints
 pub mod Sittings
 pub mod Promises
 pub mod RelatedShows

@@ -20,7 +20,8 @@ use Rattle.model.specs.Planners.{Planner, exact, workBytes, plannedBy}
 use Rattle.model.specs.Explanation.{excessOperatingCost, excessSwitchingCost, excessOfCounts}
 use Rattle.model.specs.Calls.{checkCard, planShow, markSheet, explainSheet, sheet, onCard, requestOf, refusals, firstRefusal, applies, successCost}
 use Rattle.model.specs.Calls.{answer, Accepted, workBuffer, buffersOf, anyShort, atExit, buffersAtExit}
-use Rattle.model.specs.Calls.{makeSheet, sheetBytes, sheetAtExit, planAtExit, explainedWork, pointsWith, pointsOf}
+use Rattle.model.specs.Calls.{makeSheet, sheetBytes, sheetAtExit, planAtExit}
+use Rattle.model.specs.ExplainedPoints.{explainedWork, pointsWith, pointsOf}
 use Rattle.model.specs.Promises.{madeSheet, ExplainsMarked, NoneNegative, AboveLeast, ZeroExactly}
 use Rattle.laws.specs.AnswerNumber.{number-zero}
 use Rattle.laws.specs.FirstRefusal.{first-passed, first-refused, first-through}
