@@ -10,7 +10,8 @@ use Rattle.model.specs.declared.Refusal.the-variants.{WrongLength, EntryRange, 
 use Rattle.model.specs.declared.Answer.the-variants.{Cost, Refused}
 use Rattle.model.specs.Instance.{instanceOf}
 use Rattle.model.specs.Sheets.{sheetLength, sheetEntries, sheetLight, sheetCost}
-use Rattle.model.specs.Calls.{markSheet, requestOf, refusals, applies, rightLength, entriesInRange, loadsServed, firstRefusal, sheetBytes, answer}
+use Rattle.model.specs.HandedIn.{rightLength, entriesInRange, loadsServed}
+use Rattle.model.specs.Calls.{markSheet, requestOf, refusals, applies, firstRefusal, sheetBytes, answer}
 use Rattle.laws.specs.OnCard.{on-card-refused}
 use Rattle.theory.specs.Outcomes.{mark-tests}
 use Rattle.card.specs.declared.Header.{Header}

@@ -12,7 +12,8 @@ use Rattle.model.specs.declared.Refusal.the-variants.{EntryRange, LoadNotServed
 use Rattle.model.specs.declared.Answer.the-variants.{Cost, Refused}
 use Rattle.model.specs.Instance.{instanceOf}
 use Rattle.model.specs.Counts.{canServe, operatingCost}
-use Rattle.model.specs.Calls.{runningCost, pair, onCard, requestOf, refusals, applies, entriesInRange, loadsServed, firstRefusal, successCost}
+use Rattle.model.specs.HandedIn.{pair, entriesInRange, loadsServed}
+use Rattle.model.specs.Calls.{runningCost, onCard, requestOf, refusals, applies, firstRefusal, successCost}
 use Rattle.model.specs.Calls.{answer}
 use Rattle.laws.specs.OnCard.{on-card-refused, on-card-passed}
 use Rattle.card.specs.declared.Header.{Header}

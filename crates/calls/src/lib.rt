@@ -31,6 +31,7 @@ pub fn refusal_number(x: Refusal) -> u64
         Refusal::NotPermitted => 15,
         Refusal::SeatUnavailable => 16,
         Refusal::AllowanceSpent => 17,
+        Refusal::CountList => 18,
     }
 }
 

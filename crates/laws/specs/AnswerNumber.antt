@@ -5,7 +5,7 @@ use native.Mathlib.Omega.{arith}
 use Rattle.model.specs.declared.Refusal.{Refusal}
 use Rattle.model.specs.declared.Refusal.the-variants.{NotACard, Version, RackSize, SlotCount, CardLength, PriceRange, NotConvex, LoadRange}
 use Rattle.model.specs.declared.Refusal.the-variants.{NotMonotone, BufferTooShort, WrongLength, EntryRange, LoadNotServed, ZeroStart}
-use Rattle.model.specs.declared.Refusal.the-variants.{NotPermitted, SeatUnavailable, AllowanceSpent}
+use Rattle.model.specs.declared.Refusal.the-variants.{NotPermitted, SeatUnavailable, AllowanceSpent, CountList}
 use Rattle.model.specs.declared.Answer.{Answer}
 use Rattle.model.specs.declared.Answer.the-variants.{Cost, Refused}
 use Rattle.model.specs.Answers.{refusalNumber, numberOf, costOf}
@@ -29,6 +29,7 @@ refusal-some ZeroStart = omega arith
 refusal-some NotPermitted = omega arith
 refusal-some SeatUnavailable = omega arith
 refusal-some AllowanceSpent = omega arith
+refusal-some CountList = omega arith
 
 -- An answer with the number 0 is a cost.
 pub number-zero : (a : Answer) → numberOf a ≡ 0 → a ≡ Cost (costOf a)

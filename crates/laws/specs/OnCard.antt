@@ -5,7 +5,8 @@ use mathlib.Core.List.{List, _++_}
 use Rattle.model.specs.declared.Refusal.{Refusal}
 use Rattle.model.specs.declared.Answer.{Answer}
 use Rattle.model.specs.declared.Answer.the-variants.{Cost, Refused}
-use Rattle.model.specs.Calls.{Buffer, HandedIn, checkCard, requestOf, Moment, onCardAt, applies, cardRefusals, refusals, firstRefusal, successCost}
+use Rattle.model.specs.HandedIn.{HandedIn}
+use Rattle.model.specs.Calls.{Buffer, checkCard, requestOf, Moment, onCardAt, applies, cardRefusals, refusals, firstRefusal, successCost}
 use Rattle.model.specs.Calls.{answer, Accepted}
 use Rattle.laws.specs.FirstRefusal.{first-append, first-refused, first-through}
 

@@ -14,7 +14,8 @@ use Rattle.lists.specs.Tests.{and-both, every-all}
 use Rattle.model.specs.declared.Answer.the-variants.{Cost}
 use Rattle.model.specs.Instance.{cardBytes, cardLength, inOrder, pricesInRange, tableInRange, convex, convexAt, loadsInRange}
 use Rattle.model.specs.Practice.{drawn, practiceDifference, practiceEntry, practiceShow, longestPractice}
-use Rattle.model.specs.Calls.{Accepted, practiceCard, answer, requestOf, refusals, firstRefusal, applies, startsAtZero, buffersOf, anyShort, successCost}
+use Rattle.model.specs.HandedIn.{startsAtZero}
+use Rattle.model.specs.Calls.{Accepted, practiceCard, answer, requestOf, refusals, firstRefusal, applies, buffersOf, anyShort, successCost}
 use Rattle.laws.specs.Tables.{NeverFalls}
 use Rattle.laws.specs.Encoding.{in-order-accepted}
 

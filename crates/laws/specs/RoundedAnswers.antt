@@ -11,7 +11,8 @@ use Rattle.model.specs.declared.Refusal.the-variants.{RackSize, EntryRange}
 use Rattle.model.specs.declared.Answer.the-variants.{Cost, Refused}
 use Rattle.model.specs.Instance.{rackNumber}
 use Rattle.model.specs.Counts.{roundedCount, roundedByCases}
-use Rattle.model.specs.Calls.{roundCount, requestOf, refusals, applies, entriesInRange, firstRefusal, successCost, answer}
+use Rattle.model.specs.HandedIn.{entriesInRange}
+use Rattle.model.specs.Calls.{roundCount, requestOf, refusals, applies, firstRefusal, successCost, answer}
 use Rattle.laws.specs.Acceptance.{rack-range}
 use Rattle.laws.specs.RoundedCounts.{rounded-by-cases}
 

@@ -1,27 +1,29 @@
 -- Every call's whole outcome: its answer, and the bytes of each lent buffer at exit (document 01, 'Refused', 'The plans'; 02 §1, §2,
--- §4, §5, §7).
+-- §4, §5, §7, §8).
 use Prim.Native.Nat.{ℕ, _*_}
 use mathlib.Core.Path.{_≡_}
 use mathlib.Core.Bool.{Bool, true, false, cond, not, _||_}
 use mathlib.Core.List.{List, [], _∷_, _++_, map}
 use mathlib.Core.Option.{Option·getD}
 use lib.ListN.{length, getD, replicate}
-use lib.Dec.{leb, ltb, eqb}
-use Rattle.lists.specs.Tests.{every, allOf}
+use lib.Dec.{ltb, eqb}
+use Rattle.lists.specs.Tests.{allOf}
 use Rattle.lists.specs.Lists.{sameList, writtenOver}
 use Rattle.model.specs.declared.Refusal.{Refusal}
 use Rattle.model.specs.declared.Refusal.the-variants.{NotACard, Version, RackSize, SlotCount, CardLength, PriceRange, NotConvex}
 use Rattle.model.specs.declared.Refusal.the-variants.{LoadRange, NotMonotone, BufferTooShort, WrongLength, EntryRange, LoadNotServed}
-use Rattle.model.specs.declared.Refusal.the-variants.{ZeroStart, NotPermitted, SeatUnavailable, AllowanceSpent}
+use Rattle.model.specs.declared.Refusal.the-variants.{ZeroStart, NotPermitted, SeatUnavailable, AllowanceSpent, CountList}
 use Rattle.model.specs.declared.Answer.{Answer}
 use Rattle.model.specs.declared.Answer.the-variants.{Cost, Refused}
 use Rattle.model.specs.Answers.{numberOf, costOf}
 use Rattle.model.specs.Instance.{Instance, instanceOf, headLength, markOf, cardMark, versionOf, cardVersion, cardLength, cardBytes}
 use Rattle.model.specs.Instance.{tableSize, rackNumber, convex, neverFalls, pricesInRange, loadsInRange}
-use Rattle.model.specs.Counts.{canServe, operatingCost, roundedCount}
-use Rattle.model.specs.Sheets.{sheetLength, sheetEntries, sheetLight, sheetCost}
-use Rattle.model.specs.Plans.{planServes, planCost, sheetOf}
-use Rattle.model.specs.Planners.{Planner, exact, workBytes, plannedBy, plannedCost}
+use Rattle.model.specs.Counts.{operatingCost, roundedCount}
+use Rattle.model.specs.Sheets.{sheetCost}
+use Rattle.model.specs.Plans.{planCost, sheetOf}
+use Rattle.model.specs.Planners.{Planner, exact, coarse, listed, workBytes, plannedBy, plannedCost}
+use Rattle.model.specs.HandedIn.{HandedIn, nothing, pair, plan, sheet, inRack, fromStart, countList}
+use Rattle.model.specs.HandedIn.{rightLength, entriesInRange, loadsServed, startsAtZero, countsInRules}
 use Rattle.model.specs.Practice.{practiceShow}
 use Rattle.model.specs.Catalogue.{catalogueBytes}
 use Rattle.model.specs.declared.Seat.{Seat}
@@ -44,53 +46,6 @@ pub data Call : Type 0 where
   explainSheet : (card sheet work : List ℕ) → Call
   actIn : (sitting : Sitting) (seats : List Seat) (act : Act) → Call
 
--- What a call is asked about: a count and a load, a plan or a sheet, each handed in with a card, a count in a rack of a given size, or
--- the start of a practice show.
-pub data HandedIn : Type 0 where
-  nothing : HandedIn
-  pair : (count load : ℕ) → HandedIn
-  plan : (bytes : List ℕ) → HandedIn
-  sheet : (bytes : List ℕ) → HandedIn
-  inRack : (count modules : ℕ) → HandedIn
-  fromStart : (start : ℕ) → HandedIn
-
--- What is handed in has the right length. Refusal 11: 'handed-in plan not T bytes, sheet not m × T'.
-unfoldable pub rightLength : Instance → HandedIn → Bool
-rightLength i nothing = true
-rightLength i (pair n l) = true
-rightLength i (plan p) = eqb (length p) (i .slots)
-rightLength i (sheet s) = sheetLength i s
-rightLength i (inRack n m) = true
-rightLength i (fromStart s) = true
-
--- The entries of what is handed in are in range. Refusal 12: 'a count above m, or a sheet byte from Q + 1 to 254'.
-unfoldable pub entriesInRange : Instance → HandedIn → Bool
-entriesInRange i nothing = true
-entriesInRange i (pair n l) = leb n (i .modules)
-entriesInRange i (plan p) = every (i .slots) (λ t. leb (getD p t 0) (i .modules))
-entriesInRange i (sheet s) = sheetEntries i s
-entriesInRange i (inRack n m) = leb n m
-entriesInRange i (fromStart s) = true
-
--- What is handed in serves the loads. Refusal 13: 'a slot's steps don't sum to its load; or a plan's count, or the count given to
--- running cost, can't serve its load', where 'marking and 13 look for too little light only' (02 §2).
-unfoldable pub loadsServed : Instance → HandedIn → Bool
-loadsServed i nothing = true
-loadsServed i (pair n l) = canServe i n l
-loadsServed i (plan p) = planServes i p
-loadsServed i (sheet s) = sheetLight i s
-loadsServed i (inRack n m) = true
-loadsServed i (fromStart s) = true
-
--- A practice show is asked for by start 0. Refusal 14: 'Start 0 would repeat itself for ever and gets 14' (02 §1).
-unfoldable pub startsAtZero : HandedIn → Bool
-startsAtZero nothing = false
-startsAtZero (pair n l) = false
-startsAtZero (plan p) = false
-startsAtZero (sheet s) = false
-startsAtZero (inRack n m) = false
-startsAtZero (fromStart s) = eqb s 0
-
 -- A lent buffer (01: 'area'): its bytes at entry, how many of them are asked for, and what a success writes from the first byte on.
 pub record Buffer : Type 0 where
   pub entry : List ℕ
@@ -101,8 +56,8 @@ pub record Buffer : Type 0 where
 abbrev pub planBuffer : Planner → Instance → List ℕ → Buffer
 planBuffer k i p = record { entry = p; asked = i .slots; writes = plannedBy k i }
 
--- The work buffer of a planner: 'a work area of at least (m + 1)T bytes for exact, 10T for coarse'; 'the work bytes asked for are
--- zero'.
+-- The work buffer of a planner: 'a work area of at least (m + 1)T bytes for exact, 10T for coarse', with a list 'one byte for each entry and
+-- slot' (02 §8); 'the work bytes asked for are zero'.
 abbrev pub workBuffer : Planner → Instance → List ℕ → Buffer
 workBuffer k i w = record { entry = w; asked = workBytes k i; writes = replicate (workBytes k i) 0 }
 
@@ -205,11 +160,17 @@ actRequest f (readLeast d) = onSitting f (readLeast d)
 actRequest f (readLowest d c) = onSitting f (readLowest d c)
 actRequest f (readUsed d) = onSitting f (readUsed d)
 
+-- What is handed to a planner with the card: a list of allowed counts and its ratio, or nothing.
+abbrev pub handedTo : Planner → HandedIn
+handedTo exact = nothing
+handedTo coarse = nothing
+handedTo (listed l r) = countList l r
+
 -- What the refusals of each call look at.
 unfoldable pub requestOf : Call → Request
 requestOf (checkCard c) = onCard c [] nothing
 requestOf (runningCost c n l) = onCard c [] (pair n l)
-requestOf (planShow k c p w) = onCard c (buffersOf (planShow k c p w)) nothing
+requestOf (planShow k c p w) = onCard c (buffersOf (planShow k c p w)) (handedTo k)
 requestOf (makeSheet c p s) = onCard c (buffersOf (makeSheet c p s)) (plan p)
 requestOf (markSheet c s) = onCard c [] (sheet s)
 requestOf (roundCount n m) = onRack n m
@@ -241,10 +202,18 @@ applies r ZeroStart = startsAtZero (r .handed)
 applies r NotPermitted = onAct notPermitted (r .moment)
 applies r SeatUnavailable = onAct seatUnavailable (r .moment)
 applies r AllowanceSpent = onAct allowanceSpent (r .moment)
+applies r CountList = not (countsInRules (shown r) (r .handed))
 
 -- 'All calls on a card check 1 to 8.'
 abbrev pub cardRefusals : List Refusal
 cardRefusals = NotACard ∷ Version ∷ RackSize ∷ SlotCount ∷ CardLength ∷ PriceRange ∷ NotConvex ∷ LoadRange ∷ []
+
+-- The refusals that a planner adds to those of the card, in the order in which they are tested: 'the two planners add 10'; 'A list or r against
+-- these rules gets 18, after 8 and before 10' (02 §8).
+abbrev pub plannerRefusals : Planner → List Refusal
+plannerRefusals exact = BufferTooShort ∷ []
+plannerRefusals coarse = BufferTooShort ∷ []
+plannerRefusals (listed l r) = CountList ∷ BufferTooShort ∷ []
 
 -- The refusals of each act, in the order in which they are tested: opening is answered as the exact planner and then by 15 and 17 (which comes
 -- 'after 1 to 10'); 'each answered as marking does', where 15, 16 and 17 'for hand-ins .. are tested in this order before 11 to 13'.
@@ -259,13 +228,13 @@ actRefusals (readLowest d c) = NotPermitted ∷ SeatUnavailable ∷ []
 actRefusals (readUsed d) = NotPermitted ∷ []
 
 -- The refusals of each call, in the order in which they are tested: 'Running cost adds 12 and 13; the sheet adds 10 to 13; marking adds 11
--- to 13; the two planners add 10'; 'the coarse planner takes every accepted table and 9 is never given' (02 §2); a practice card '14, before
--- 10' (02 §1); of the catalogue module's table 'Q outside 1 to 200 gets 3, a short area 10' (02 §5); the explanation of a sheet
--- adds marking's 11 to 13, and 'takes the exact planner's work area; one too short gets 10' (02 §7).
+-- to 13'; 'the coarse planner takes every accepted table and 9 is never given' (02 §2); a practice card '14, before 10' (02 §1);
+-- of the catalogue module's table 'Q outside 1 to 200 gets 3, a short area 10' (02 §5); the explanation of a sheet adds marking's 11 to 13, and
+-- 'takes the exact planner's work area; one too short gets 10' (02 §7).
 unfoldable pub refusals : Call → List Refusal
 refusals (checkCard c) = cardRefusals
 refusals (runningCost c n l) = cardRefusals ++ (EntryRange ∷ LoadNotServed ∷ [])
-refusals (planShow k c p w) = cardRefusals ++ (BufferTooShort ∷ [])
+refusals (planShow k c p w) = cardRefusals ++ plannerRefusals k
 refusals (makeSheet c p s) = cardRefusals ++ (BufferTooShort ∷ WrongLength ∷ EntryRange ∷ LoadNotServed ∷ [])
 refusals (markSheet c s) = cardRefusals ++ (WrongLength ∷ EntryRange ∷ LoadNotServed ∷ [])
 refusals (roundCount n m) = RackSize ∷ EntryRange ∷ []
@@ -284,12 +253,18 @@ actOwnOrder (readLeast d) = false
 actOwnOrder (readLowest d c) = false
 actOwnOrder (readUsed d) = false
 
+-- A planner with a list has an order of its own: 18 stands before 10.
+abbrev pub plannerOwnOrder : Planner → Bool
+plannerOwnOrder exact = false
+plannerOwnOrder coarse = false
+plannerOwnOrder (listed l r) = true
+
 -- The calls for which a paragraph of document 02 sets an order among refusals that is not that of their numbers: 'that order holds
 -- instead of the lowest number, in condition 1 too' (02 §1). The list of every other call ascends.
 unfoldable pub ownOrder : Call → Bool
 ownOrder (checkCard c) = false
 ownOrder (runningCost c n l) = false
-ownOrder (planShow k c p w) = false
+ownOrder (planShow k c p w) = plannerOwnOrder k
 ownOrder (makeSheet c p s) = false
 ownOrder (markSheet c s) = false
 ownOrder (roundCount n m) = false

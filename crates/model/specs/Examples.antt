@@ -17,6 +17,7 @@ use Rattle.model.specs.Answers.{numberOf, costOf}
 use Rattle.model.specs.Instance.{Instance, instanceOf, cardBytes, cardLength, convexAt, convex, neverFalls, tableInRange}
 use Rattle.model.specs.Instance.{pricesInRange, loadsInRange}
 use Rattle.model.specs.MoreLight.{leastFrom, activeStep}
+use Rattle.model.specs.CountRules.{strictlyAscends, gapsGrowBy, keepsRules}
 use Rattle.model.specs.Counts.{canServe, operatingCost, allCounts, powerOfTwo, coarseCounts, roundedCount, printedCases, caseValue}
 use Rattle.model.specs.Counts.{Case, _to_, roundedByCases}
 use Rattle.model.specs.Sheets.{stateAt, sheetLength, sheetEntries, lightAt, sheetLight, stepCost, changeCost}
@@ -28,8 +29,9 @@ use Rattle.model.specs.Listing.{catalogueLines}
 use Rattle.model.specs.Practice.{xorLeft, xorRight, draw, drawn, practiceDifference, practiceEntry, practiceShow, longestPractice}
 use Rattle.model.specs.Catalogue.{catalogueEntry, followsRule, catalogueBytes}
 use Rattle.model.specs.Calls.{Call, checkCard, runningCost, planShow, makeSheet, markSheet, roundCount, practiceCard}
-use Rattle.model.specs.Calls.{rightLength, entriesInRange, loadsServed, startsAtZero, buffersOf, anyShort, requestOf, applies, refusals, firstRefusal}
-use Rattle.model.specs.Calls.{successCost, answer, atExit, buffersAtExit, planAtExit, cardAtExit, tableAtExit, outcome}
+use Rattle.model.specs.HandedIn.{rightLength, entriesInRange, loadsServed, startsAtZero}
+use Rattle.model.specs.Calls.{buffersOf, anyShort, requestOf, applies, refusals, firstRefusal}
+use Rattle.model.specs.Calls.{successCost, answer, atExit, buffersAtExit, planAtExit, workAtExit, cardAtExit, tableAtExit, outcome}
 
 -- A show: modules, top step, prices, table, loads.
 abbrev pub showOf : (m q up down : ℕ) → (table loads : List ℕ) → Instance
@@ -66,7 +68,7 @@ abbrev pub cardI : List ℕ
 cardI = cardOf 3 2 3 2 (1 ∷ 2 ∷ 4 ∷ []) []
 
 -- The card of 01's plausible error of rounding each exact count up.
-abbrev cardUp : List ℕ
+abbrev pub cardUp : List ℕ
 cardUp = cardOf 4 2 1 0 (1 ∷ 1 ∷ 4 ∷ []) (3 ∷ [])
 
 -- Tables that fall at first: the least is at steps 1 and 2, or at the top step alone, on a rack of four and on racks of two; and a table
@@ -284,9 +286,9 @@ unfolding sameLists sameList every allOf sum tabulate rows keep littleEndian byt
     sheetLength sheetEntries lightAt sheetLight stepCost changeCost sheetOperatingCost sheetSwitchingCost sheetCost leastOver firstOver
     leastFrom activeStep moduleByte slotRow sheetOf planCost planServes plansInOrder cheapest cheapestOf leastPlan allowedCounts
     workBytes plannedBy xorLeft xorRight draw drawn practiceDifference practiceEntry practiceShow rightLength entriesInRange loadsServed
-    startsAtZero buffersOf anyShort requestOf applies refusals firstRefusal successCost answer atExit buffersAtExit planAtExit
-    cardAtExit tableAtExit outcome flatMap headD digits decimal costLine planLine stepText slotLine listing refusedLine printedFor printed
-    catalogueEntry followsRule catalogueBytes catalogueLines
+    startsAtZero strictlyAscends gapsGrowBy keepsRules buffersOf anyShort requestOf applies refusals firstRefusal
+    successCost answer atExit buffersAtExit planAtExit workAtExit cardAtExit tableAtExit outcome flatMap headD
+    digits decimal costLine planLine stepText slotLine listing refusedLine printedFor printed catalogueEntry followsRule catalogueBytes catalogueLines
 agrees e = sameLists (e .found) (e .expected)
 
 -- A type that nothing proves: where a row does not hold, the check's error shows it with the row's name.
@@ -313,7 +315,7 @@ holds-equal e v = same-lists-equal (e .found) (e .expected) (go (sameLists (e .f
 abbrev pub numbers : Call → List ℕ
 numbers c = numberOf (answer c) ∷ []
 
-abbrev costs : Call → List ℕ
+abbrev pub costs : Call → List ℕ
 costs c = costOf (answer c) ∷ []
 
 -- Two fields of w bytes of a card, each in the other's place.

@@ -4,6 +4,7 @@ pub mod Answers
 pub mod Instance
 pub mod MoreLight
 pub mod Counts
+pub mod CountRules
 pub mod Sheets
 pub mod Thesis
 pub mod Plans
@@ -13,6 +14,7 @@ pub mod Practice
 pub mod Catalogue
 pub mod Acts
 pub mod SittingState
+pub mod HandedIn
 pub mod Calls
 pub mod ExplainedPoints
 pub mod Sittings
@@ -24,3 +26,4 @@ pub mod RelatedExamples
 pub mod SittingExamples
 pub mod CatalogueExamples
 pub mod ExplanationExamples
+pub mod CountListExamples

@@ -1,30 +1,37 @@
--- The planners as data: what the exact and the coarse planner differ in stands in tables (document 01, 'The plans').
+-- The planners as data: what they differ in stands in tables (document 01, 'The plans'; 02 §8).
 use Prim.Native.Nat.{ℕ, _+_, _*_}
 use mathlib.Core.List.{List}
+use lib.ListN.{length}
 use Rattle.model.specs.Instance.{Instance}
 use Rattle.model.specs.Counts.{allCounts, coarseCounts}
 use Rattle.model.specs.Plans.{leastPlan, leastCost}
 
--- The two planners.
+-- The planners: the exact and the coarse one, and one over a list of counts that is handed in with a ratio (02 §8: 'A rack that switches in
+-- groups').
 pub data Planner : Type 0 where
   exact : Planner
   coarse : Planner
+  listed : (counts : List ℕ) (ratio : ℕ) → Planner
 
--- The counts allowed a planner in a rack of m: 'all from 0 to m or the coarse ones'.
+-- The counts allowed a planner in a rack of m: 'all from 0 to m or the coarse ones', or those of its list: 'The plan limited to the list'.
 unfoldable pub allowedCounts : Planner → (m : ℕ) → List ℕ
 allowedCounts exact m = allCounts m
 allowedCounts coarse m = coarseCounts m
+allowedCounts (listed l r) m = l
 
--- The work bytes that a planner asks for: 'at least (m + 1)T bytes for exact, 10T for coarse'.
+-- The work bytes that a planner asks for: 'at least (m + 1)T bytes for exact, 10T for coarse', and with a list 'one byte for each entry and
+-- slot'.
 unfoldable pub workBytes : Planner → Instance → ℕ
 workBytes exact i = (i .modules + 1) * i .slots
 workBytes coarse i = 10 * i .slots
+workBytes (listed l r) i = length l * i .slots
 
 -- How many times the least cost of a sheet a planner's cost may be (document 00, condition 3): the exact planner's is the least, the
--- coarse one's 'at most twice the least'.
+-- coarse one's 'at most twice the least', that of a list with the ratio r 'at most r times the least over all sheets'.
 abbrev pub ratioOf : Planner → ℕ
 ratioOf exact = 1
 ratioOf coarse = 2
+ratioOf (listed l r) = r
 
 -- The plan that a planner writes: 'each plan is least among the plans that serve every load with the counts allowed it'.
 unfoldable pub plannedBy : Planner → Instance → List ℕ

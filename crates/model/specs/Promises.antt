@@ -15,7 +15,7 @@ use Rattle.model.specs.declared.Sitting.{Sitting}
 use Rattle.model.specs.declared.Reply.{Reply}
 use Rattle.model.specs.declared.Points.{Points}
 use Rattle.model.specs.Answers.{numberOf, costOf}
-use Rattle.model.specs.Instance.{instanceOf, headLength, cardLength, tableSize, tableOf, tableInRange, neverFalls, priceBound}
+use Rattle.model.specs.Instance.{Instance, instanceOf, headLength, cardLength, tableSize, tableOf, tableInRange, neverFalls, priceBound}
 use Rattle.model.specs.Sheets.{serves, sheetOperatingCost, sheetSwitchingCost, sheetCost, countsOf}
 use Rattle.model.specs.Plans.{sheetOf, planCost}
 use Rattle.model.specs.Planners.{Planner, exact, workBytes, plannedCost}
@@ -23,7 +23,8 @@ use Rattle.model.specs.Explanation.{countsOperatingCost, countsSwitching
 use Rattle.model.specs.Explanation.{NoBetterPlan, NoBetterSheet}
 use Rattle.model.specs.Practice.{longestPractice}
 use Rattle.model.specs.Catalogue.{catalogueEntry}
-use Rattle.model.specs.Calls.{answer, Accepted, checkCard, planShow, markSheet, sheetBytes, requestOf, applies, firstRefusal}
+use Rattle.model.specs.HandedIn.{countsInRules}
+use Rattle.model.specs.Calls.{answer, Accepted, checkCard, planShow, markSheet, sheetBytes, handedTo, requestOf, applies, firstRefusal}
 
 -- The sheet that the first T bytes of a plan buffer make.
 abbrev pub madeSheet : List ℕ → List ℕ → List ℕ
@@ -36,7 +37,8 @@ pub record OwnSheet (card plan : List ℕ) (number cost : ℕ) : Type 0 where
   pub sheet-costs : number ≡ 0 → sheetCost (instanceOf card) (madeSheet card plan) ≡ cost
 
 -- The cost is at most r times what any sheet that serves costs: with r = 1 'every other sheet that serves the show costs at least as
--- much', with r = 2 'at most twice the least that a sheet serving the show costs'; both 'now range over sheets with enough light' (02 §2).
+-- much', with r = 2 'at most twice the least that a sheet serving the show costs'; both 'now range over sheets with enough light' (02 §2); with
+-- the ratio of a list 'at most r times the least over all sheets' (02 §8).
 abbrev pub AtMostTimes : ℕ → (card : List ℕ) → (number cost : ℕ) → Type 0
 AtMostTimes r card number cost =
     number ≡ 0 → (s : List ℕ) → serves (instanceOf card) s ≡ true → cost ≤ r * sheetCost (instanceOf card) s
@@ -56,6 +58,10 @@ pub record AcceptsExactly (card sheet : List ℕ) (number : ℕ) : Type 0 where
 abbrev pub frontCard : List ℕ → List ℕ
 frontCard area = take (cardLength (instanceOf area)) area
 
+-- A planner's list of counts and its ratio keep the rules for a show's rack (02 §8). The exact and the coarse planner have no list to be judged.
+abbrev pub KeepsRules : Planner → Instance → Type 0
+KeepsRules k i = countsInRules i (handedTo k) ≡ true
+
 -- Something holds with every plan and work buffer that is long enough for a planner and a card.
 abbrev pub WithRoom : Planner → (card : List ℕ) → ((plan work : List ℕ) → Type 0) → Type 0
 WithRoom k card holds =
@@ -65,11 +71,11 @@ WithRoom k card holds =
 abbrev pub AlwaysPlanned : Planner → (card : List ℕ) → Type 0
 AlwaysPlanned k card = WithRoom k card (λ plan work. numberOf (answer (planShow k card plan work)) ≡ 0)
 
--- 'Every card it writes is accepted, also by the coarse planner' (02 §1): the card at the front of the area at exit is accepted, either
--- planner plans it, and it is no longer than the longest practice card.
+-- 'Every card it writes is accepted, also by the coarse planner' (02 §1): the card at the front of the area at exit is accepted, both
+-- planners plan it, and so does one with a list that keeps the rules, and it is no longer than the longest practice card.
 pub record WritesAccepted (area : List ℕ) (number : ℕ) : Type 0 where
   pub accepted : number ≡ 0 → Accepted (frontCard area)
-  pub planned : number ≡ 0 → (k : Planner) → AlwaysPlanned k (frontCard area)
+  pub planned : number ≡ 0 → (k : Planner) → KeepsRules k (instanceOf (frontCard area)) → AlwaysPlanned k (frontCard area)
   pub at-most : number ≡ 0 → length (frontCard area) ≤ longestPractice
 
 -- An area as long as the longest practice card is enough for every start from 1 on.

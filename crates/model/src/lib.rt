@@ -36,6 +36,8 @@ pub enum Refusal {
     SeatUnavailable,
     // 17, an allowance that is spent or outside its range (02 §4)
     AllowanceSpent,
+    // 18, a list of allowed counts, or its ratio, against the rules (02 §8)
+    CountList,
 }
 
 // The answer of a call: a cost (the rounded count in its place), or a refusal.

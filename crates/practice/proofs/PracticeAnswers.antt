@@ -11,7 +11,8 @@ use Rattle.model.specs.declared.Answer.{Answer}
 use Rattle.model.specs.declared.Answer.the-variants.{Cost, Refused}
 use Rattle.model.specs.Instance.{cardBytes, cardLength, loadPlace}
 use Rattle.model.specs.Practice.{practiceShow}
-use Rattle.model.specs.Calls.{practiceCard, startsAtZero, buffersOf, anyShort, requestOf, applies, refusals, firstRefusal, answer}
+use Rattle.model.specs.HandedIn.{startsAtZero}
+use Rattle.model.specs.Calls.{practiceCard, buffersOf, anyShort, requestOf, applies, refusals, firstRefusal, answer}
 use Rattle.model.specs.Calls.{cardBuffer, atExit, buffersAtExit, cardAtExit}
 use Rattle.laws.specs.Encoding.{card-bytes-length}
 use Rattle.laws.specs.PracticeAccepted.{practice-given}

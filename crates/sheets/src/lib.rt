@@ -7,7 +7,7 @@ ghost use Rattle.model.specs.Instance.{instanceOf};
 ghost use Rattle.model.specs.Sheets.{isEntry, stepOf, sheetEntries, sheetLight, sheetCost};
 ghost use Rattle.model.specs.Plans.{moduleByte, sheetOf, planServes};
 ghost use Rattle.model.specs.Thesis.{slotCost, countsCost};
-ghost use Rattle.model.specs.Calls.{entriesInRange, plan as handedPlan};
+ghost use Rattle.model.specs.HandedIn.{entriesInRange, plan as handedPlan};
 ghost use Rattle.card.specs.Checking.{Ready};
 ghost use Rattle.counts.specs.Serving.{Served};
 ghost use Rattle.sheets.specs.Marks.{rowLight, byteCost, bytesCost, allOff, byteAt, stopCost, rowStopCost};

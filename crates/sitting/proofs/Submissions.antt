@@ -18,7 +18,8 @@ use Rattle.model.specs.Sheets.{sheetCost}
 use Rattle.model.specs.Acts.{submitSheet, notPermitted, seatUnavailable, allowanceSpent}
 use Rattle.model.specs.Acts.{Event, nothingDone, submissionCounted, submissionRefused, actDone, actRefused, eventOf}
 use Rattle.model.specs.SittingState.{emptySeat, markedRecord, sittingAfter}
-use Rattle.model.specs.Calls.{checkCard, markSheet, sheet, onCard, applies, onAct, requestOf, cardRefusals, refusals, firstRefusal}
+use Rattle.model.specs.HandedIn.{sheet}
+use Rattle.model.specs.Calls.{checkCard, markSheet, onCard, applies, onAct, requestOf, cardRefusals, refusals, firstRefusal}
 use Rattle.model.specs.Calls.{actRequest, actRefusals, actCost, answer, Accepted}
 use Rattle.model.specs.Sittings.{answerTo, markedBy, markedWith, told, replyWith}
 use Rattle.lists.specs.Numbers.{true-or-false}

@@ -18,7 +18,8 @@ use Rattle.model.specs.Sheets.{serves}
 use Rattle.model.specs.Plans.{sheetOf}
 use Rattle.model.specs.Planners.{Planner, exact, workBytes, plannedBy}
 use Rattle.model.specs.Explanation.{excessOperatingCost, excessSwitchingCost, excessOfCounts}
-use Rattle.model.specs.Calls.{checkCard, planShow, markSheet, explainSheet, sheet, onCard, requestOf, refusals, firstRefusal, applies, successCost}
+use Rattle.model.specs.HandedIn.{sheet}
+use Rattle.model.specs.Calls.{checkCard, planShow, markSheet, explainSheet, onCard, requestOf, refusals, firstRefusal, applies, successCost}
 use Rattle.model.specs.Calls.{answer, Accepted, workBuffer, buffersOf, anyShort, atExit, buffersAtExit}
 use Rattle.model.specs.Calls.{makeSheet, sheetBytes, sheetAtExit, planAtExit}
 use Rattle.model.specs.ExplainedPoints.{explainedWork, pointsWith, pointsOf}

@@ -18,9 +18,11 @@ use Rattle.model.specs.Instance.{instanceOf}
 use Rattle.model.specs.Sheets.{serves, sheetCost}
 use Rattle.model.specs.Plans.{sheetOf, planCost}
 use Rattle.model.specs.Planners.{Planner, workBytes, plannedBy, plannedCost}
-use Rattle.model.specs.Calls.{checkCard, planShow, makeSheet, markSheet, nothing, plan, sheet, onCard, requestOf}
+use Rattle.model.specs.HandedIn.{nothing, plan, sheet}
+use Rattle.model.specs.Calls.{checkCard, planShow, makeSheet, markSheet, onCard, requestOf}
 use Rattle.model.specs.Calls.{Buffer, planBuffer, workBuffer, sheetBuffer, sheetBytes, buffersOf, anyShort}
-use Rattle.model.specs.Calls.{rightLength, entriesInRange, loadsServed, applies, refusals, firstRefusal, successCost, answer, Accepted}
+use Rattle.model.specs.HandedIn.{rightLength, entriesInRange, loadsServed}
+use Rattle.model.specs.Calls.{applies, refusals, firstRefusal, successCost, answer, Accepted}
 use Rattle.model.specs.Calls.{atExit, buffersAtExit, planAtExit, workAtExit, sheetAtExit}
 use Rattle.laws.specs.AnswerNumber.{number-zero}
 use Rattle.laws.specs.FirstRefusal.{first-passed}

@@ -5,7 +5,7 @@ use lib.Dec.{leb}
 use borrow.Author.Needs.{needs}
 use Rattle.lists.specs.Tests.{Passed, passed-none, passed-more, passed-all, passed-not}
 use Rattle.model.specs.Instance.{instanceOf}
-use Rattle.model.specs.Calls.{entriesInRange}
+use Rattle.model.specs.HandedIn.{entriesInRange}
 use Rattle.sheets.proofs.Loads.{in-slots, no-more-slots, rack-failed, rack-passed}
 use Rattle.sheets.proofs.plan_in_rack.Statement.{statement}
 use Rattle.sheets.proofs.plan_in_rack.Tie as tie

@@ -1,0 +1,31 @@
+-- A list of allowed counts that a customer gives, with its ratio, and the rules for both (document 02, §8).
+use Prim.Native.Nat.{ℕ, _+_, _-_, _*_}
+use mathlib.Core.Bool.{Bool, _&&_}
+use mathlib.Core.List.{List}
+use lib.ListN.{length, getD}
+use lib.Dec.{leb, ltb, eqb}
+use Rattle.lists.specs.Tests.{every}
+
+-- The gap after entry j (from 0): how much higher the next entry is. Where it is not higher, the gap is 0.
+abbrev pub gapAfter : List ℕ → ℕ → ℕ
+gapAfter l j = getD l (j + 1) 0 - getD l j 0
+
+-- 'strictly ascending': each entry is below the next one.
+unfoldable pub strictlyAscends : List ℕ → Bool
+strictlyAscends l = every (length l - 1) (λ j. ltb (getD l j 0) (getD l (j + 1) 0))
+
+-- 'each gap is at most r times the gap before it'.
+unfoldable pub gapsGrowBy : (r : ℕ) → List ℕ → Bool
+gapsGrowBy r l = every (length l - 2) (λ j. leb (gapAfter l (j + 1)) (r * gapAfter l j))
+
+-- A list of allowed counts and a ratio r keep the rules in a rack of m, a line a rule: 'two to 201 entries', 'begins with 0', 'ends with m',
+-- 'strictly ascending', 'r from 1 to 200', 'The first entry after 0 is at most r', 'each gap is at most r times the gap before it'.
+unfoldable pub keepsRules : (counts : List ℕ) (r m : ℕ) → Bool
+keepsRules l r m =
+    (leb 2 (length l) && leb (length l) 201) &&
+    (eqb (getD l 0 0) 0 &&
+    (eqb (getD l (length l - 1) 0) m &&
+    (strictlyAscends l &&
+    ((leb 1 r && leb r 200) &&
+    (leb (getD l 1 0) r &&
+    gapsGrowBy r l)))))
