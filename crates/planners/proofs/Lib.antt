@@ -1,3 +1,3 @@
 mod Fronts
-mod Planned
+pub mod Planned
 pub mod Planning

@@ -1,22 +1,26 @@
--- The search's plan over an ascending list of allowed counts is the least plan, and over a planner's counts the planner's plan.
+-- The search's plan over an ascending list of allowed counts is the least plan, and over the counts of a planner that keeps the rules the
+-- planner's plan.
 use Prim.Native.Nat.{ℕ, _+_, _*_, _≤_}
-use mathlib.Core.Path.{_≡_, _∙_, ap}
+use mathlib.Core.Path.{_≡_, refl, _∙_, ap}
 use mathlib.Core.List.{List}
-use native.Mathlib.Nat.{mul-le-mul-right, le-trans}
+use native.Mathlib.Nat.{mul-le-mul-right, le-refl, le-trans}
 use native.Mathlib.Omega.{arith}
 use lib.ListN.{length, take}
 use Rattle.lists.specs.Lists.{length-tabulate, writtenOver}
 use Rattle.model.specs.Instance.{Instance, instanceOf}
 use Rattle.model.specs.Counts.{allCounts}
 use Rattle.model.specs.Plans.{leastPlan, leastCost}
-use Rattle.model.specs.Planners.{Planner, exact, coarse, allowedCounts, workBytes, plannedBy, plannedCost}
+use Rattle.model.specs.Planners.{Planner, exact, coarse, listed, allowedCounts, workBytes, plannedBy, plannedCost}
+use Rattle.model.specs.Promises.{KeepsRules}
 use Rattle.laws.specs.Acceptance.{modules-range}
 use Rattle.columns.specs.Column.{searchedPlan, searchedCost}
-use Rattle.theory.specs.CountLists.{planner-counts-ascending}
+use Rattle.theory.specs.CountLists.{rules-hold, planner-rules}
 use Rattle.theory.specs.Condition3.{accepted-plannable, searched-plan}
 use Rattle.card.specs.declared.Header.{Header}
 use Rattle.card.specs.Checking.{Ready}
-use Rattle.counts.specs.AllowedCounts.{CountsRoom}
+use Rattle.counts.specs.declared.PlannerKind.{PlannerKind}
+use Rattle.counts.specs.declared.PlannerKind.the-variants.{Exact, Coarse}
+use Rattle.counts.specs.AllowedCounts.{CountsRoom, plannerOf}
 use Rattle.counts.proofs.CountsWritten.{coarse-ten}
 use Rattle.search.specs.SearchRequires.{Searchable}
 use Rattle.planners.specs.PlannerRequires.{Buffers, PlanOver, NumberRoom}
@@ -42,46 +46,54 @@ module _ {s : List ℕ} {h : Header} {counts plan work : List ℕ} (p : PlanOver
       let best = searched-plan (accepted-plannable s (p .room .ready .accepted)) counts (p .allowed .ascending) in
       (c ∙ best .1, (m ∙ best .0, z))
 
--- A planner has at most 201 counts, and its work bytes hold one for each count and slot.
-few-counts : (k : Planner) (m : ℕ) → 1 ≤ m → m ≤ 200 → length (allowedCounts k m) ≤ 201
+-- A planner that keeps the rules has at most 201 counts, and its work bytes hold one for each count and slot.
+few-counts : (k : Planner) (i : Instance) → 1 ≤ i .modules → i .modules ≤ 200 → KeepsRules k i → length (allowedCounts k (i .modules)) ≤ 201
 unfolding allowedCounts allCounts
-few-counts exact m some most = omega (arith, length-tabulate (m + 1) (λ n. n))
-few-counts coarse m some most = omega (arith, coarse-ten m some most)
+few-counts exact i some most keeps = omega (arith, length-tabulate (i .modules + 1) (λ n. n))
+few-counts coarse i some most keeps = omega (arith, coarse-ten (i .modules) some most)
+few-counts (listed l r) i some most keeps = rules-hold l r (i .modules) keeps .1
 
 work-enough : (k : Planner) (i : Instance) → 1 ≤ i .modules → i .modules ≤ 200 →
     length (allowedCounts k (i .modules)) * i .slots ≤ workBytes k i
 unfolding allowedCounts allCounts workBytes
 work-enough exact i some most = rw (length-tabulate (i .modules + 1) (λ n. n)) (omega arith)
 work-enough coarse i some most = mul-le-mul-right (i .slots) (coarse-ten (i .modules) some most)
+work-enough (listed l r) i some most = le-refl (length l * i .slots)
 
--- A planner's counts at the front of the numbers, filled in by the header's rack, are those of the card's rack.
+-- The counts allowed a planner that keeps the rules, as a list that is searched.
 module _
-    (k : Planner) {s : List ℕ} {h : Header} {plan work : List ℕ} (b : Buffers k s h plan work) (old : List ℕ) {new : List ℕ} {n : ℕ}
-    (size : n ≡ length (allowedCounts k (h .modules))) (filled : new ≡ writtenOver (allowedCounts k (h .modules)) old) where
-  front-planner : take n new ≡ allowedCounts k (instanceOf s .modules)
-  front-planner = front-is _ old size filled ∙ ap (allowedCounts k) (b .ready .header .modules-is)
-
-  pub over-front : PlanOver s h (take n new) plan work
-  over-front =
+    (k : Planner) {s : List ℕ} {h : Header} {plan work : List ℕ} (b : Buffers k s h plan work) (keeps : KeepsRules k (instanceOf s))
+    {counts : List ℕ} (are : counts ≡ allowedCounts k (instanceOf s .modules)) where
+  pub over-counts : PlanOver s h counts plan work
+  over-counts =
+      let i = instanceOf s in
       let (some, most) = modules-range s (b .ready .accepted) in
-      let few = few-counts k (instanceOf s .modules) some most in
-      rw front-planner
+      let few = few-counts k i some most keeps in
+      rw are
       (record {
         room =
-            record {
-              ready = b .ready;
-              plan-size = b .plan-size;
-              work-room = le-trans (work-enough k (instanceOf s) some most) (b .work-room);
-            };
-        allowed = record { ascending = planner-counts-ascending k (instanceOf s .modules) some; bytes = omega arith };
+            record { ready = b .ready; plan-size = b .plan-size; work-room = le-trans (work-enough k i some most) (b .work-room) };
+        allowed = record { ascending = planner-rules k i some keeps .ascending; bytes = omega arith };
         short = few;
       })
 
-  pub planned-front :
-      {cost : ℕ} {made cleared cleared′ : List ℕ} → LeastFound (instanceOf s) (take n new) cost made cleared cleared′ →
+  pub planned-over :
+      {cost : ℕ} {made cleared cleared′ : List ℕ} → LeastFound (instanceOf s) counts cost made cleared cleared′ →
       (cost ≡ plannedCost k (instanceOf s)) × ((made ≡ plannedBy k (instanceOf s)) × (cleared ≡ cleared′))
   unfolding plannedBy
-  planned-front found = rw (← front-planner) found
+  planned-over found = rw (← are) found
+
+-- The planner of a kind has no list to be judged.
+pub kind-keeps : (kind : PlannerKind) (i : Instance) → KeepsRules (plannerOf kind) i
+kind-keeps Exact i = refl
+kind-keeps Coarse i = refl
+
+-- The counts of a kind at the front of the numbers, filled in by the header's rack, are those of the card's rack.
+pub front-counts :
+    (kind : PlannerKind) {s : List ℕ} {h : Header} → Ready s h → (old : List ℕ) {new : List ℕ} {n : ℕ} →
+    n ≡ length (allowedCounts (plannerOf kind) (h .modules)) → new ≡ writtenOver (allowedCounts (plannerOf kind) (h .modules)) old →
+    take n new ≡ allowedCounts (plannerOf kind) (instanceOf s .modules)
+front-counts kind r old size filled = front-is _ old size filled ∙ ap (allowedCounts (plannerOf kind)) (r .header .modules-is)
 
 -- The counts of a header's rack fit into the room for the largest one.
 pub rack-fits : (s : List ℕ) {h : Header} {numbers : List ℕ} → Ready s h → NumberRoom numbers → CountsRoom numbers (h .modules)

@@ -16,31 +16,32 @@ use Rattle.model.specs.declared.Answer.the-variants.{Cost, Refused}
 use Rattle.model.specs.Instance.{instanceOf}
 use Rattle.model.specs.Planners.{Planner, workBytes, plannedBy, plannedCost}
 use Rattle.model.specs.Calls.{planShow, answer, buffersOf, anyShort, planAtExit, workAtExit, atExit}
+use Rattle.model.specs.Promises.{KeepsRules}
 use Rattle.theory.specs.Outcomes.{planner-refused, planner-short, planner-cost, best-fits, plan-at-exit, work-at-exit}
 use Rattle.card.specs.declared.Header.{Header}
 use Rattle.card.specs.declared.Checked.{Checked}
 use Rattle.card.specs.declared.Checked.the-variants.{Invalid}
 use Rattle.card.specs.Checking.{Ready, checkedOf}
 use Rattle.card.proofs.Groups.{refused-answer}
-use Rattle.planners.specs.PlannerRequires.{Buffers, roomFor}
+use Rattle.planners.specs.PlannerRequires.{Buffers, hasRoom, roomFor}
 
--- The test on the lengths of a planner's areas.
-module _ (k : Planner) (s : List ℕ) {h : Header} (r : Ready s h) (p w : ℕ) where
-  pub no-plan-room : p < h .slots → false ≡ roomFor k (instanceOf s) p w
-  unfolding roomFor
+-- The test on the lengths of two areas.
+module _ (s : List ℕ) {h : Header} (r : Ready s h) (n p w : ℕ) where
+  pub no-plan-room : p < h .slots → false ≡ hasRoom n (instanceOf s) p w
+  unfolding hasRoom
   no-plan-room less = rw (lt-ltb p (instanceOf s .slots) (omega (arith, r .header .slots-is)))
 
-  module _ (plan-long : h .slots ≤ p) {n : ℕ} (n-is : n ≡ workBytes k (instanceOf s)) where
+  module _ (plan-long : h .slots ≤ p) where
     no-short : ltb p (instanceOf s .slots) ≡ false
     no-short = le-ltb p (instanceOf s .slots) (omega (arith, r .header .slots-is))
 
-    pub no-work-room : w < n → false ≡ roomFor k (instanceOf s) p w
-    unfolding roomFor
-    no-work-room less = rw (no-short, lt-ltb w (workBytes k (instanceOf s)) (omega arith))
+    pub no-work-room : w < n → false ≡ hasRoom n (instanceOf s) p w
+    unfolding hasRoom
+    no-work-room less = rw (no-short, lt-ltb w n less)
 
-    pub both-room : n ≤ w → true ≡ roomFor k (instanceOf s) p w
-    unfolding roomFor
-    both-room long = rw (no-short, le-ltb w (workBytes k (instanceOf s)) (omega arith))
+    pub both-room : n ≤ w → true ≡ hasRoom n (instanceOf s) p w
+    unfolding hasRoom
+    both-room long = rw (no-short, le-ltb w n long)
 
 -- An answer and two buffers are those of a planner at exit.
 abbrev pub Planned : Planner → (s p w : List ℕ) → Answer → (plan work : List ℕ) → Type 0
@@ -58,7 +59,7 @@ module _ (k : Planner) (s p w : List ℕ) where
 
   -- The test on the lengths of the buffers finds one that is too short where there is one.
   pub room-short : anyShort (buffersOf (planShow k s p w)) ≡ not (roomFor k (instanceOf s) (length p) (length w))
-  unfolding buffersOf anyShort roomFor
+  unfolding buffersOf anyShort hasRoom
   room-short = either (ltb (length p) (instanceOf s .slots)) (ltb (length w) (workBytes k (instanceOf s)))
     where
       either : (a b : Bool) → (a || (b || false)) ≡ not (not a && not b)
@@ -68,13 +69,14 @@ module _ (k : Planner) (s p w : List ℕ) where
 
   module _ {h : Header} (r : Ready s h) where
     -- Where a buffer is too short, the planner is refused.
-    pub plan-short : roomFor k (instanceOf s) (length p) (length w) ≡ false → Planned k s p w (Refused BufferTooShort) p w
-    plan-short less = planned-kept (planner-short k s p w (r .accepted) (room-short ∙ ap not less))
+    pub plan-short :
+        KeepsRules k (instanceOf s) → roomFor k (instanceOf s) (length p) (length w) ≡ false → Planned k s p w (Refused BufferTooShort) p w
+    plan-short keeps less = planned-kept (planner-short k s p w (r .accepted) keeps (room-short ∙ ap not less))
 
     module _ (room : roomFor k (instanceOf s) (length p) (length w) ≡ true) where
       -- The plan buffer has a byte for each slot.
       pub plan-room : h .slots ≤ length p
-      unfolding roomFor
+      unfolding hasRoom
       plan-room =
           let long : instanceOf s .slots ≤ length p = ltb-false _ _ (not-true _ (and-left _ _ room)) in
           omega (arith, r .header .slots-is)
@@ -82,7 +84,7 @@ module _ (k : Planner) (s p w : List ℕ) where
       module _ {n : ℕ} (n-is : n ≡ workBytes k (instanceOf s)) where
         -- The work buffer has the bytes asked for.
         pub work-room : n ≤ length w
-        unfolding roomFor
+        unfolding hasRoom
         work-room =
             let long : workBytes k (instanceOf s) ≤ length w =
             ltb-false _ _ (not-true _ (and-right (not (ltb (length p) (instanceOf s .slots))) _ room)) in
@@ -97,22 +99,22 @@ module _ (k : Planner) (s p w : List ℕ) where
               work-room = omega (arith, length-take-le n w work-room);
             }
 
-        cost-given : answer (planShow k s p w) ≡ Cost (plannedCost k (instanceOf s))
-        cost-given = planner-cost k s p w (r .accepted) (room-short ∙ ap not room)
+        cost-given : KeepsRules k (instanceOf s) → answer (planShow k s p w) ≡ Cost (plannedCost k (instanceOf s))
+        cost-given keeps = planner-cost k s p w (r .accepted) keeps (room-short ∙ ap not room)
 
         -- After a success the parts have come back as the planner's plan and as zeros.
         pub plan-done :
-            {cost : ℕ} {plan work : List ℕ} →
+            {cost : ℕ} {plan work : List ℕ} → KeepsRules k (instanceOf s) →
             (cost ≡ plannedCost k (instanceOf s)) ×
             ((plan ≡ plannedBy k (instanceOf s)) × (work ≡ replicate (length (take n w)) 0)) →
             Planned k s p w (Cost cost) (plan ++ drop (h .slots) p) (work ++ drop n w)
         unfolding atExit
-        plan-done (cost-is, (plan-is, cleared)) =
-            let size = best-fits k s (r .accepted) .slotwise ∙ sym (r .header .slots-is) in
+        plan-done keeps (cost-is, (plan-is, cleared)) =
+            let size = best-fits k s (r .accepted) keeps .slotwise ∙ sym (r .header .slots-is) in
             let zeros = length-take-le n w work-room ∙ n-is in (
-              ap Cost cost-is ∙ sym cost-given,
+              ap Cost cost-is ∙ sym (cost-given keeps),
               (
-                rw (plan-at-exit k s p w, cost-given, plan-is, size),
-                rw (work-at-exit k s p w, cost-given, cleared, zeros, length-replicate {A = ℕ} (workBytes k (instanceOf s)) 0, n-is),
+                rw (plan-at-exit k s p w, cost-given keeps, plan-is, size),
+                rw (work-at-exit k s p w, cost-given keeps, cleared, zeros, length-replicate {A = ℕ} (workBytes k (instanceOf s)) 0, n-is),
               ),
             )

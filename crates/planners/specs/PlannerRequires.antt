@@ -31,6 +31,10 @@ pub record PlanOver (s : List ℕ) (h : Header) (counts plan work : List ℕ) : 
 pub record NumberRoom (numbers : List ℕ) : Type 0 where
   pub room : length numbers ≡ 201
 
+-- Areas of these lengths have a byte for each slot and so many work bytes.
+unfoldable pub hasRoom : (asked : ℕ) → Instance → (plan work : ℕ) → Bool
+hasRoom n i p w = not (ltb p (i .slots)) && not (ltb w n)
+
 -- Areas of these lengths have the bytes that a planner asks for.
-unfoldable pub roomFor : Planner → Instance → (plan work : ℕ) → Bool
-roomFor k i p w = not (ltb p (i .slots)) && not (ltb w (workBytes k i))
+abbrev pub roomFor : Planner → Instance → (plan work : ℕ) → Bool
+roomFor k i = hasRoom (workBytes k i) i

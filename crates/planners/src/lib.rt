@@ -12,7 +12,7 @@ ghost use Rattle.model.specs.Planners.{workBytes, plannedBy, plannedCost};
 ghost use Rattle.model.specs.Calls.{planShow, answer, planAtExit, workAtExit};
 ghost use Rattle.card.specs.Checking.{Ready};
 ghost use Rattle.counts.specs.AllowedCounts.{plannerOf};
-ghost use Rattle.planners.specs.PlannerRequires.{PlanOver, NumberRoom, Buffers, roomFor};
+ghost use Rattle.planners.specs.PlannerRequires.{PlanOver, NumberRoom, Buffers, hasRoom, roomFor};
 
 // The least plan over a list of allowed counts and its cost, with room for a column.
 fn least_with_column(
@@ -34,7 +34,7 @@ fn least_with_column(
 }
 
 // The least plan over a list of allowed counts and its cost.
-fn least_over(card: &[u8], h: Header, counts: &[u64], plan: &mut [u8], work: &mut [u8]) -> u64
+pub fn least_over(card: &[u8], h: Header, counts: &[u64], plan: &mut [u8], work: &mut [u8]) -> u64
     requires { ⌜ PlanOver (now card) h (now counts) (now plan) (now work) ⌝ }
     ensures { λ r. ⌜ r ≡ leastCost (instanceOf (now (card .entry))) (now (counts .entry)) ⌝ }
     ensures { λ _. ⌜ now (plan .exit) ≡ leastPlan (instanceOf (now (card .entry))) (now (counts .entry)) ⌝ }
@@ -85,20 +85,28 @@ pub fn work_bytes(kind: PlannerKind, card: &[u8], h: Header) -> usize
     }
 }
 
-// Whether areas of these lengths have the bytes that a planner asks for.
-pub fn room_for(kind: PlannerKind, card: &[u8], h: Header, plan: usize, work: usize) -> bool
+// Whether areas of these lengths have a byte for each slot and the work bytes asked for.
+pub fn has_room(card: &[u8], h: Header, asked: usize, plan: usize, work: usize) -> bool
     requires { ⌜ Ready (now card) h ⌝ }
-    ensures { λ r. ⌜ r ≡ roomFor (plannerOf kind) (instanceOf (now (card .entry))) plan work ⌝ }
+    ensures { λ r. ⌜ r ≡ hasRoom asked (instanceOf (now (card .entry))) plan work ⌝ }
 {
     let slots = h.slots as usize;
     if plan < slots {
         return false;
     }
-    let asked = work_bytes(kind, card, h);
     if work < asked {
         return false;
     }
     true
+}
+
+// Whether areas of these lengths have the bytes that a planner asks for.
+pub fn room_for(kind: PlannerKind, card: &[u8], h: Header, plan: usize, work: usize) -> bool
+    requires { ⌜ Ready (now card) h ⌝ }
+    ensures { λ r. ⌜ r ≡ roomFor (plannerOf kind) (instanceOf (now (card .entry))) plan work ⌝ }
+{
+    let asked = work_bytes(kind, card, h);
+    has_room(card, h, asked, plan, work)
 }
 
 // A planner on an accepted card.

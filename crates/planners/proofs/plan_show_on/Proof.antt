@@ -1,6 +1,7 @@
 use mathlib.Core.Path.{sym}
 use lib.Seq.{length-take-le}
 use Rattle.lists.specs.Tests.{test-failed, test-passed}
+use Rattle.planners.proofs.Planned.{kind-keeps}
 use Rattle.planners.proofs.Planning.{plan-short, plan-room, work-room, parts-lent, plan-done}
 use borrow.Author.Needs.{needs}
 use Rattle.planners.proofs.plan_show_on.Statement.{statement}
@@ -12,7 +13,8 @@ room-for-requires c κs = search needs
 returns : tie.Need-returns
 returns c =
     let start = c .before .before .before .before .before in
-    plan-short _ _ (start .args .plan .now) (start .args .work .now) (start .pre) (test-failed (c .before .room-for .ensures) (c .if1 .taken))
+    plan-short _ _ (start .args .plan .now) (start .args .work .now) (start .pre) (kind-keeps (start .args .kind) _)
+    (test-failed (c .before .room-for .ensures) (c .if1 .taken))
 
 work-bytes-requires : tie.Need-work-bytes-requires
 work-bytes-requires c κs = search needs
@@ -53,7 +55,7 @@ returns-2 c =
     let tested = asked .before in
     let start = tested .before .before .before .before .before in
     plan-done _ _ (start .args .plan .now) (start .args .work .now) (start .pre) (test-passed (tested .before .room-for .ensures) (tested .if1 .left)) (asked .work-bytes .ensures)
-    (c .before .before .before .before .plan-by .ensures)
+    (kind-keeps (start .args .kind) _) (c .before .before .before .before .plan-by .ensures)
 
 pub plan-show-on-spec : {M : Type 1} → statement M
 plan-show-on-spec = tie.close (tie.spec room-for-requires returns work-bytes-requires slice-relend-prefix-plan-by slice-aggregate-plan-by

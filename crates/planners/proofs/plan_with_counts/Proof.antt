@@ -1,6 +1,6 @@
 use Rattle.model.specs.Planners.{allowedCounts}
 use Rattle.planners.proofs.Fronts.{front-within, front-length}
-use Rattle.planners.proofs.Planned.{rack-fits, over-front, planned-front}
+use Rattle.planners.proofs.Planned.{rack-fits, over-counts, planned-over, kind-keeps, front-counts}
 use borrow.Author.Needs.{needs}
 use Rattle.planners.proofs.plan_with_counts.Statement.{statement}
 use Rattle.planners.proofs.plan_with_counts.Tie as tie
@@ -19,7 +19,7 @@ least-over-requires c κs =
     let filled = c .before .before .before .before .before in
     let start = filled .before .before .before .before .before .before in
     let e = filled .fill-counts .ensures in
-    over-front _ (start .pre .0) _ (e .0) (e .1)
+    over-counts _ (start .pre .0) (kind-keeps (start .args .kind) _) (front-counts (start .args .kind) (start .pre .0 .ready) _ (e .0) (e .1))
 
 returns : tie.Need-returns
 returns c =
@@ -27,7 +27,8 @@ returns c =
     let filled = done .before .before .before .before .before .before in
     let start = filled .before .before .before .before .before .before in
     let e = filled .fill-counts .ensures in
-    planned-front _ (start .pre .0) _ (e .0) (e .1) (done .least-over .ensures)
+    planned-over _ (start .pre .0) (kind-keeps (start .args .kind) _) (front-counts (start .args .kind) (start .pre .0 .ready) _ (e .0) (e .1))
+    (done .least-over .ensures)
 
 pub plan-with-counts-spec : {M : Type 1} → statement M
 plan-with-counts-spec =
