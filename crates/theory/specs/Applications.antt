@@ -1,13 +1,13 @@
 -- The hypotheses of the theorems can be met: they hold of document 01's example E, of a show whose table falls, of the whole sitting of
 -- the examples, and of card A with the catalogue module's table.
-use Prim.Native.Nat.{ℕ, _+_, _*_, _≤_}
+use Prim.Native.Nat.{ℕ, _*_, _≤_}
 use mathlib.Core.Path.{_≡_, refl}
 use mathlib.Core.Bool.{true}
 use mathlib.Core.List.{List, [], _∷_, _++_, flatMap}
 use native.Mathlib.Omega.{arith}
-use lib.Dec.{leb, ltb}
+use lib.Dec.{leb}
 use lib.ListN.{getD, take, drop, replicate}
-use borrow.Author.Tests.{leb-true, ltb-true}
+use borrow.Author.Tests.{leb-true}
 use Rattle.lists.specs.Tests.{every, every-at, allOf}
 use Rattle.lists.specs.Sums.{sum}
 use Rattle.lists.specs.Ranges.{leastOver, firstOver}
@@ -16,13 +16,14 @@ use Rattle.lists.specs.Bytes.{littleEndian, bytesOf}
 use Rattle.model.specs.Instance.{Instance, instanceOf, headLength, loadPlace, tableSize, tableOf, cardLength, loadsInRange}
 use Rattle.model.specs.MoreLight.{leastFrom, activeStep}
 use Rattle.model.specs.Counts.{canServe, operatingCost, allCounts, powerOfTwo, coarseCounts}
+use Rattle.model.specs.CountRules.{strictlyAscends, gapsGrowBy, keepsRules}
 use Rattle.model.specs.Sheets.{off, stateAt, sheetLength, sheetEntries, lightAt, sheetLight, serves, stepCost, changeCost}
 use Rattle.model.specs.Sheets.{sheetOperatingCost, sheetSwitchingCost, sheetCost, activeAt, countsOf}
 use Rattle.model.specs.Thesis.{countAt, slotCost, countsCost}
 use Rattle.model.specs.Plans.{moduleByte, slotRow, sheetOf, planCost, planServes, plansInOrder, cheapest, cheapestOf, leastPlan, leastCost}
-use Rattle.columns.specs.Column.{countAtPlace, Ascending, GrowsBy}
 use Rattle.theory.specs.Hypotheses.{Plannable}
 use Rattle.theory.specs.SheetLaws.{sheet-at-least}
+use Rattle.theory.specs.CountLists.{InRules, rules-hold}
 use Rattle.theory.specs.Condition3.{exact-least, list-ratio, coarse-twice}
 use Rattle.theory.specs.Explanations.{spread-zero, swaps-zero}
 use Rattle.theory.specs.Counterexamples.{exampleE, steadySheet, steady-serves}
@@ -67,21 +68,9 @@ moved-serves = refl
 abbrev wideCounts : List ℕ
 wideCounts = 0 ∷ 2 ∷ 6 ∷ 8 ∷ []
 
-wide-ascending : Ascending wideCounts (exampleE .modules)
-unfolding every
-wide-ascending =
-    record {
-      two = omega arith;
-      first = refl;
-      last = refl;
-      rises =
-          λ j h. ltb-true _ _ (every-at 3 (λ j. ltb (countAtPlace wideCounts j) (countAtPlace wideCounts (j + 1))) refl j (omega arith));
-    }
-
-wide-gaps : GrowsBy 2 wideCounts
-unfolding every
-wide-gaps j h =
-    leb-true _ _ (every-at 3 (λ j. leb (countAtPlace wideCounts (j + 1)) (2 * (countAtPlace wideCounts j + 1))) refl j (omega arith))
+wide-rules : InRules wideCounts 2 (exampleE .modules)
+unfolding every strictlyAscends gapsGrowBy keepsRules
+wide-rules = rules-hold wideCounts 2 (exampleE .modules) refl .0
 
 -- The moved sheet costs 10 and its counts 7, and the least cost over the wide counts is 6.
 costs-computed :
@@ -118,8 +107,7 @@ exact-least-applied = exact-least example-plannable steadySheet steady-serves
 
 -- The least plan over the wide counts costs at most twice as much as the steady sheet: 6 ≤ 10.
 pub list-ratio-applied : leastCost exampleE wideCounts ≤ 2 * sheetCost exampleE steadySheet
-list-ratio-applied =
-    list-ratio example-plannable wideCounts wide-ascending 2 (omega arith) wide-gaps steadySheet steady-serves
+list-ratio-applied = list-ratio example-plannable wideCounts 2 wide-rules steadySheet steady-serves
 
 -- The coarse plan costs at most twice as much as the steady sheet: 8 ≤ 10.
 pub coarse-twice-applied : leastCost exampleE (coarseCounts (exampleE .modules)) ≤ 2 * sheetCost exampleE steadySheet

@@ -17,6 +17,7 @@ use Rattle.model.specs.Sheets.{sheetOperatingCost, sheetSwitchingCost, sheetCos
 use Rattle.model.specs.Plans.{moduleByte, slotRow, sheetOf, planCost, planServes, plansInOrder, cheapest, cheapestOf, leastPlan}
 use Rattle.model.specs.Planners.{Planner, exact, coarse, allowedCounts, plannedBy, plannedCost}
 use Rattle.model.specs.Calls.{Accepted}
+use Rattle.model.specs.Promises.{KeepsRules}
 use Rattle.model.specs.RelatedShows.{Agree, loadsOf, Reversed, LargerRack, Concatenated, PlannedAt, PlannedAs}
 use Rattle.model.specs.Examples.{showOf, cardOf}
 use Rattle.laws.specs.Encoding.{SameShow, in-order-fits, in-order-accepted, card-bytes-show}
@@ -59,12 +60,12 @@ module _ (f : Rates) where
 
   -- What is computed of a show in order gives what a planner gives its card.
   given :
-      (k : Planner) (m : ℕ) (l : List ℕ) {x : ℕ} {p : List ℕ} → inOrder (show m l) ≡ true → plannedCost k (instanceOf (card f m l)) ≡ x →
-      plannedBy k (instanceOf (card f m l)) ≡ p → Given k (card f m l) x p
-  given k m l order cost plan =
+      (k : Planner) (m : ℕ) (l : List ℕ) {x : ℕ} {p : List ℕ} → inOrder (show m l) ≡ true → KeepsRules k (instanceOf (card f m l)) →
+      plannedCost k (instanceOf (card f m l)) ≡ x → plannedBy k (instanceOf (card f m l)) ≡ p → Given k (card f m l) x p
+  given k m l order keeps cost plan =
       let c = card f m l in
       let accepted = in-order-accepted (show m l) order in
-      record { accepted = accepted; cost = rw cost at (planned-at k c accepted); plan = rw plan at (planned-as k c accepted) }
+      record { accepted = accepted; cost = rw cost at (planned-at k c accepted keeps); plan = rw plan at (planned-as k c accepted keeps) }
 
   -- What is read from the card of a show in order is the show.
   written : (m : ℕ) (l : List ℕ) → inOrder (show m l) ≡ true → SameShow (show m l) (instanceOf (card f m l))
@@ -162,34 +163,34 @@ book-examples =
     record {
       reversed = (
         reversed-cards ratesA 3 loadsA refl refl,
-        given ratesA exact 3 loadsA refl refl refl,
-        given ratesA exact 3 (reverse loadsA) refl refl refl,
+        given ratesA exact 3 loadsA refl refl refl refl,
+        given ratesA exact 3 (reverse loadsA) refl refl refl refl,
       );
       larger = (
         larger-cards dearStep 2 3 (4 ∷ []) (omega arith) refl refl,
         larger-cards dearStep 3 4 (4 ∷ []) (omega arith) refl refl,
-        given dearStep exact 2 (4 ∷ []) refl refl refl,
-        given dearStep exact 3 (4 ∷ []) refl refl refl,
-        given dearStep exact 4 (4 ∷ []) refl refl refl,
+        given dearStep exact 2 (4 ∷ []) refl refl refl refl,
+        given dearStep exact 3 (4 ∷ []) refl refl refl refl,
+        given dearStep exact 4 (4 ∷ []) refl refl refl refl,
       );
       larger-coarse = (
         larger-cards powerUpOnly 3 4 (3 ∷ []) (omega arith) refl refl,
-        given powerUpOnly exact 3 (3 ∷ []) refl refl refl,
-        given powerUpOnly exact 4 (3 ∷ []) refl refl refl,
-        given powerUpOnly coarse 3 (3 ∷ []) refl refl refl,
-        given powerUpOnly coarse 4 (3 ∷ []) refl refl refl,
+        given powerUpOnly exact 3 (3 ∷ []) refl refl refl refl,
+        given powerUpOnly exact 4 (3 ∷ []) refl refl refl refl,
+        given powerUpOnly coarse 3 (3 ∷ []) refl refl refl refl,
+        given powerUpOnly coarse 4 (3 ∷ []) refl refl refl refl,
       );
       concatenated = (
         concatenated-cards ratesA 3 loadsA (3 ∷ []) refl refl refl,
-        given ratesA exact 3 (3 ∷ []) refl refl refl,
-        given ratesA exact 3 (loadsA ++ (3 ∷ [])) refl refl refl,
+        given ratesA exact 3 (3 ∷ []) refl refl refl refl,
+        given ratesA exact 3 (loadsA ++ (3 ∷ [])) refl refl refl refl,
       );
       concatenated-equal = (
         concatenated-cards tableOnly 1 (1 ∷ []) (1 ∷ []) refl refl refl,
-        given tableOnly exact 1 (1 ∷ []) refl refl refl,
-        given tableOnly exact 1 (1 ∷ 1 ∷ []) refl refl refl,
+        given tableOnly exact 1 (1 ∷ []) refl refl refl refl,
+        given tableOnly exact 1 (1 ∷ 1 ∷ []) refl refl refl refl,
       );
-      several-least = (given tableOnly exact 2 (2 ∷ 2 ∷ []) refl refl refl, refl, refl, refl, refl);
+      several-least = (given tableOnly exact 2 (2 ∷ 2 ∷ []) refl refl refl refl, refl, refl, refl, refl);
     }
 
 -- The coarse planner is not one by which more modules never cost more.

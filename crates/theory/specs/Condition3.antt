@@ -1,5 +1,5 @@
--- Condition 3: the least plan over all counts costs no more than any sheet that serves, and over the coarse counts at most twice that. The
--- sheets are those with enough light (02 §2).
+-- Condition 3: over a list of allowed counts that keeps the rules with the ratio r (02 §8) the least plan costs at most r times as much as any
+-- sheet that serves. For all counts r is 1, and for the coarse ones 2. The sheets are those with enough light (02 §2).
 use Prim.Native.Nat.{ℕ, _*_, _≤_}
 use mathlib.Core.Path.{_≡_, refl, sym, ap, _∙_}
 use mathlib.Core.Bool.{true}
@@ -11,11 +11,12 @@ use Rattle.model.specs.Counts.{allCounts, coarseCounts}
 use Rattle.model.specs.Sheets.{serves, sheetCost, countsOf}
 use Rattle.model.specs.Thesis.{countsCost}
 use Rattle.model.specs.Plans.{Allowed, LeastPlan, sheetOf, planCost, leastPlan, leastCost}
-use Rattle.model.specs.Planners.{Planner, exact, coarse, allowedCounts, ratioOf, plannedBy, plannedCost}
+use Rattle.model.specs.Planners.{Planner, ratioOf, plannedBy, plannedCost}
 use Rattle.model.specs.Calls.{Accepted}
+use Rattle.model.specs.Promises.{KeepsRules}
 use Rattle.laws.specs.Acceptance.{modules-range, top-range, load-range, table-convex}
 use Rattle.laws.specs.CountMembers.{all-member}
-use Rattle.columns.specs.Column.{searchedPlan, searchedCost, Ascending, GrowsBy}
+use Rattle.columns.specs.Column.{searchedPlan, searchedCost, Ascending}
 use Rattle.laws.specs.Tables.{convex-test}
 use Rattle.theory.specs.Hypotheses.{PlanFits, Plannable, LeastByCounts}
 use Rattle.theory.specs.SheetLaws.{sheet-counts-fit, sheet-at-least, plan-sheet-serves, plan-cost-counts}
@@ -23,7 +24,7 @@ use Rattle.columns.specs.Places.{count-fits}
 use Rattle.theory.specs.Least.{searched-least, searched-cost}
 use Rattle.theory.specs.Enumeration.{least-plan, least-plan-unique}
 use Rattle.theory.specs.Ratio.{ratio}
-use Rattle.theory.specs.CountLists.{all-ascending, coarse-ascending, planner-counts-ascending, coarse-doubling}
+use Rattle.theory.specs.CountLists.{InRules, rules-grow, all-rules, coarse-rules, planner-rules}
 
 module _ {i : Instance} (ready : Plannable i) where
   -- Plans over any list of allowed counts.
@@ -73,14 +74,14 @@ module _ {i : Instance} (ready : Plannable i) where
     unfolding planCost
     least-sheet = (plan-sheet-serves i (leastPlan i counts) least-plan-fits, refl)
 
-  -- The plan of either planner has a sheet that can be written.
-  pub planned-fits : (k : Planner) → PlanFits i (plannedBy k i)
+  -- The plan of every planner that keeps the rules has a sheet that can be written.
+  pub planned-fits : (k : Planner) → KeepsRules k i → PlanFits i (plannedBy k i)
   unfolding plannedBy
-  planned-fits k = least-plan-fits _ (planner-counts-ascending k (i .modules) (ready .some))
+  planned-fits k keeps = least-plan-fits _ (planner-rules k i (ready .some) keeps .ascending)
 
   -- There is a least plan over all counts.
   pub exact-plan : LeastPlan i (allCounts (i .modules)) (leastPlan i (allCounts (i .modules)))
-  exact-plan = least-plan i (allCounts (i .modules)) (all-ascending (i .modules) (ready .some)) (ready .loads)
+  exact-plan = least-plan i (allCounts (i .modules)) (all-rules (i .modules) (ready .some) .ascending) (ready .loads)
 
   -- The counts of a sheet that serves are a plan over all counts.
   pub sheet-counts-allowed : (s : List ℕ) → serves i s ≡ true → Allowed i (allCounts (i .modules)) (countsOf i s)
@@ -93,32 +94,30 @@ module _ {i : Instance} (ready : Plannable i) where
   sheet-counts-cost s e =
       omega (arith, plan-cost-counts i (countsOf i s) (sheet-counts-fit i s (ready .steps) e), sheet-at-least i (ready .convex) s e)
 
-  -- Condition 3, exact: no sheet that serves costs less than the least plan over all counts (thesis 3.8).
-  pub exact-least : (s : List ℕ) → serves i s ≡ true → leastCost i (allCounts (i .modules)) ≤ sheetCost i s
-  exact-least s e = omega (arith, exact-plan .least (countsOf i s) (sheet-counts-allowed s e), sheet-counts-cost s e)
-
-  -- Over a list that grows by r the least plan costs at most r times as much as any sheet that serves (thesis 5.5 and 5.11, for whole
-  -- ratios), whether the table falls or not.
+  -- The one theorem of the ratio: over a list that keeps the rules with the ratio r the least plan costs at most r times as much as any sheet
+  -- that serves (thesis 5.5 and 5.11, for whole ratios), whether the table falls or not.
   pub list-ratio :
-      (counts : List ℕ) → Ascending counts (i .modules) → (r : ℕ) → 1 ≤ r → GrowsBy r counts →
+      (counts : List ℕ) (r : ℕ) → InRules counts r (i .modules) →
       (s : List ℕ) → serves i s ≡ true → leastCost i counts ≤ r * sheetCost i s
-  list-ratio counts asc r one gaps s e =
+  list-ratio counts r rules s e =
+      let asc = rules .ascending in
       let fit = sheet-counts-fit i s (ready .steps) e in
-      let bound = ratio i counts 0 asc (ready .loads) r one gaps (countsOf i s) (fit .in-rack) (fit .served) in
+      let bound = ratio i counts 0 asc (ready .loads) r (rules .ratio) (rules-grow rules) (countsOf i s) (fit .in-rack) (fit .served) in
       omega (arith, searched-plan counts asc .1, mul-le-mul-left r (sheet-at-least i (ready .convex) s e))
+
+  -- Condition 3, exact: no sheet that serves costs less than the least plan over all counts (thesis 3.8), whose ratio is 1.
+  pub exact-least : (s : List ℕ) → serves i s ≡ true → leastCost i (allCounts (i .modules)) ≤ sheetCost i s
+  exact-least s e = omega (arith, list-ratio _ 1 (all-rules (i .modules) (ready .some)) s e)
 
   -- Condition 3, coarse: the least plan over the coarse counts costs at most twice as much as any sheet that serves (thesis 5.8).
   pub coarse-twice : (s : List ℕ) → serves i s ≡ true → leastCost i (coarseCounts (i .modules)) ≤ 2 * sheetCost i s
-  coarse-twice =
-      list-ratio (coarseCounts (i .modules)) (coarse-ascending (i .modules) (ready .some)) 2 (omega arith)
-      (coarse-doubling (i .modules) (ready .some))
+  coarse-twice = list-ratio _ 2 (coarse-rules (i .modules) (ready .some))
 
 -- Condition 3: a planner's cost is at most its ratio times what any sheet that serves costs.
 pub planner-bound :
-    (k : Planner) {i : Instance} → Plannable i → (s : List ℕ) → serves i s ≡ true → plannedCost k i ≤ ratioOf k * sheetCost i s
-unfolding allowedCounts
-planner-bound exact ready s e = omega (arith, exact-least ready s e)
-planner-bound coarse ready s e = coarse-twice ready s e
+    (k : Planner) {i : Instance} → Plannable i → KeepsRules k i → (s : List ℕ) → serves i s ≡ true →
+    plannedCost k i ≤ ratioOf k * sheetCost i s
+planner-bound k {i} ready keeps = list-ratio ready _ (ratioOf k) (planner-rules k i (ready .some) keeps)
 
 -- An accepted card meets the hypotheses.
 pub accepted-plannable : (c : List ℕ) → Accepted c → Plannable (instanceOf c)

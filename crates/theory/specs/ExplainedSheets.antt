@@ -34,7 +34,8 @@ use Rattle.theory.specs.Explanations.{spread-whole, swaps-whole, counts-
 use Rattle.theory.specs.Explanations.{plan-points, exact-points}
 use Rattle.theory.specs.Refusals.{succeeded}
 use Rattle.theory.specs.RearrangedSheets.{swaps-zero-sheets}
-use Rattle.theory.specs.Outcomes.{mark-tests, mark-accepts, mark-number, made-on, made-fits, sheet-written, planner-on, planner-answer, plan-written}
+use Rattle.theory.specs.Outcomes.{mark-tests, mark-accepts, mark-number, made-on, made-fits, sheet-written, best-fits}
+use Rattle.theory.specs.Outcomes.{planner-on, planner-keeps, planner-answer, plan-written}
 
 -- The answer of an explanation.
 module _ (c s w : List ℕ) where
@@ -139,7 +140,7 @@ module _ (c s w : List ℕ) where
   pub above-least : AboveLeast c s (pointsOf c s w)
   unfolding pointsWith
   above-least e p v plan-room work-room =
-      let planned = planner-answer exact c p v (accepted e .0) plan-room work-room in
+      let planned = planner-answer exact c p v (accepted e .0) refl plan-room work-room in
       let marked = mark-accepts c s (accepted e .0) .1 (accepted e .1) in
       (ap numberOf planned, rw (points-are e, planned, marked) (points-together (ready e) s (accepted e .1)))
 
@@ -175,7 +176,7 @@ module _ (c w : List ℕ) (given : Accepted c) (room : workBytes exact (instance
   exact-explained =
       let i = instanceOf c in
       let ready = accepted-plannable c given in
-      let fit = planned-fits ready exact in
+      let fit = planned-fits ready exact refl in
       let zero = plan-explained (plannedBy exact i) fit .0 in
       points-are c (sheetOf i (plannedBy exact i)) w zero ∙
       rw (plan-points (plannedBy exact i) fit .0, plan-points (plannedBy exact i) fit .1, exact-points ready)
@@ -190,16 +191,17 @@ made-explained c p x w e room =
     let given = made-on c p x made in
     rw (sheet-written c p x e) (plan-explained c w given room p (made-fits c p x given made))
 
--- The sheets of both planners: the sheet that the plan bytes of either planner make has spread 0 and swaps 0, and that of the exact planner
--- counts 0 too.
+-- The sheets of the planners: the sheet that the plan bytes of a planner make has spread 0 and swaps 0, and that of the exact planner counts 0
+-- too.
 module _ (c p v w : List ℕ) (room : workBytes exact (instanceOf c) ≤ length w) where
   pub planner-explained :
       (k : Planner) → numberOf (answer (planShow k c p v)) ≡ 0 →
       let points = pointsOf c (madeSheet c (planAtExit (planShow k c p v))) w in
       (points .number ≡ 0) × (points .spread ≡ 0) × (points .swaps ≡ 0)
   planner-explained k e =
-      let given = planner-on k c p v (number-zero _ e) in
-      rw (plan-written k c p v e) (plan-explained c w given room _ (planned-fits (accepted-plannable c given) k))
+      let planned = number-zero _ e in
+      let given = planner-on k c p v planned in
+      rw (plan-written k c p v e) (plan-explained c w given room _ (best-fits k c given (planner-keeps k c p v planned)))
 
   pub exact-planner-explained :
       numberOf (answer (planShow exact c p v)) ≡ 0 →

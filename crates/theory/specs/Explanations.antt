@@ -125,10 +125,10 @@ module _ {i : Instance} (ready : Plannable i) where
     unfolding allowedCounts planCost plannedBy
     all-zero = (
       λ none r f. omega (arith, points-together, exact-least ready r f),
-      λ least. let best = least _ (plan-sheet-serves i (plannedBy exact i) (planned-fits ready exact)) in omega (arith, points-together),
+      λ least. let best = least _ (plan-sheet-serves i (plannedBy exact i) (planned-fits ready exact refl)) in omega (arith, points-together),
     )
 
   -- The exact planner's sheet has counts 0 too.
   pub exact-points : excessOfCounts i (sheetOf i (plannedBy exact i)) ≡ 0
   unfolding excessOfCounts plannedBy
-  exact-points = rw (plan-counts i (plannedBy exact i) (planned-fits ready exact)) (omega arith)
+  exact-points = rw (plan-counts i (plannedBy exact i) (planned-fits ready exact refl)) (omega arith)

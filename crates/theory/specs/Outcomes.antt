@@ -10,20 +10,20 @@ use lib.Seq.{take-at}
 use borrow.Author.Tests.{leb-true, le-leb, le-ltb, ltb-false, eqb-true, eq-eqb, not-false}
 use Rattle.lists.specs.Tests.{every-at, every-all, or-left}
 use Rattle.model.specs.declared.Refusal.{Refusal}
-use Rattle.model.specs.declared.Refusal.the-variants.{BufferTooShort, WrongLength, EntryRange, LoadNotServed}
+use Rattle.model.specs.declared.Refusal.the-variants.{BufferTooShort, WrongLength, EntryRange, LoadNotServed, CountList}
 use Rattle.model.specs.declared.Answer.{Answer}
 use Rattle.model.specs.declared.Answer.the-variants.{Cost, Refused}
 use Rattle.model.specs.Answers.{numberOf}
 use Rattle.model.specs.Instance.{instanceOf}
 use Rattle.model.specs.Sheets.{serves, sheetCost}
 use Rattle.model.specs.Plans.{sheetOf, planCost}
-use Rattle.model.specs.Planners.{Planner, workBytes, plannedBy, plannedCost}
-use Rattle.model.specs.HandedIn.{nothing, plan, sheet}
-use Rattle.model.specs.Calls.{checkCard, planShow, makeSheet, markSheet, onCard, requestOf}
+use Rattle.model.specs.Planners.{Planner, exact, coarse, listed, workBytes, plannedBy, plannedCost}
+use Rattle.model.specs.HandedIn.{plan, sheet, rightLength, entriesInRange, loadsServed, countsInRules}
+use Rattle.model.specs.Calls.{checkCard, planShow, makeSheet, markSheet, onCard, handedTo, requestOf}
 use Rattle.model.specs.Calls.{Buffer, planBuffer, workBuffer, sheetBuffer, sheetBytes, buffersOf, anyShort}
-use Rattle.model.specs.HandedIn.{rightLength, entriesInRange, loadsServed}
-use Rattle.model.specs.Calls.{applies, refusals, firstRefusal, successCost, answer, Accepted}
+use Rattle.model.specs.Calls.{applies, plannerRefusals, refusals, firstRefusal, successCost, answer, Accepted}
 use Rattle.model.specs.Calls.{atExit, buffersAtExit, planAtExit, workAtExit, sheetAtExit}
+use Rattle.model.specs.Promises.{KeepsRules}
 use Rattle.laws.specs.AnswerNumber.{number-zero}
 use Rattle.laws.specs.FirstRefusal.{first-passed}
 use Rattle.laws.specs.OnCard.{on-card-refused, on-card-passed, on-card-accepted}
@@ -152,11 +152,11 @@ Marked c q s a =
     (answer (makeSheet c q s) ≡ a) ×
     (answer (markSheet c (take (sheetBytes (instanceOf c)) (sheetAtExit (makeSheet c q s)))) ≡ a)
 
--- The plan that a planner gives for an accepted card.
-module _ (k : Planner) (c : List ℕ) (given : Accepted c) where
+-- The plan that a planner that keeps the rules gives for an accepted card.
+module _ (k : Planner) (c : List ℕ) (given : Accepted c) (keeps : KeepsRules k (instanceOf c)) where
   -- The plan has a sheet that can be written.
   pub best-fits : PlanFits (instanceOf c) (plannedBy k (instanceOf c))
-  best-fits = planned-fits (accepted-plannable c given) k
+  best-fits = planned-fits (accepted-plannable c given) k keeps
 
   -- Sheet call and marking accept the plan at its cost.
   pub sheet-accepted :
@@ -166,6 +166,16 @@ module _ (k : Planner) (c : List ℕ) (given : Accepted c) where
   sheet-accepted s room =
       let made = fits-made c (plannedBy k (instanceOf c)) s given best-fits room in
       (made, made-marked c (plannedBy k (instanceOf c)) s (ap numberOf made) ∙ made)
+
+-- Of the refusals that a planner adds 18 comes before 10; it never applies to a planner that has no list.
+planner-refusals :
+    (k : Planner) (c : List ℕ) (bs : List Buffer) (a : Answer) →
+    let test = applies (onCard c bs (handedTo k)) in
+    firstRefusal test (plannerRefusals k) a ≡ firstRefusal test (CountList ∷ BufferTooShort ∷ []) a
+unfolding firstRefusal applies
+planner-refusals exact c bs a = refl
+planner-refusals coarse c bs a = refl
+planner-refusals (listed l r) c bs a = refl
 
 -- The planners.
 module _ (k : Planner) (c p w : List ℕ) where
@@ -189,53 +199,65 @@ module _ (k : Planner) (c p w : List ℕ) where
   unfolding answer requestOf refusals
   planner-refused = on-card-refused c _ _ _ _ _
 
-  -- On an accepted card the one refusal that a planner adds decides.
+  -- On an accepted card the refusals that a planner adds decide.
   planner-tests :
       Accepted c →
       answer (planShow k c p w) ≡
-      firstRefusal (applies (onCard c (buffersOf (planShow k c p w)) nothing)) (BufferTooShort ∷ [])
+      firstRefusal (applies (onCard c (buffersOf (planShow k c p w)) (handedTo k))) (CountList ∷ BufferTooShort ∷ [])
       (Cost (plannedCost k (instanceOf c)))
   unfolding answer requestOf refusals successCost
-  planner-tests = on-card-passed c _ _ _ _ _
+  planner-tests given = on-card-passed c _ _ _ _ _ given ∙ planner-refusals k c _ _
+
+  -- A planner that answers a cost keeps the rules.
+  pub planner-keeps : {n : ℕ} → answer (planShow k c p w) ≡ Cost n → KeepsRules k (instanceOf c)
+  unfolding applies
+  planner-keeps e = not-false _ (first-passed _ _ _ (sym (planner-tests (planner-on e)) ∙ e) .0)
 
   -- Where a planner answers a cost, its buffers have at least the bytes asked for.
   pub planner-room :
       {n : ℕ} → answer (planShow k c p w) ≡ Cost n → (instanceOf c .slots ≤ length p) × (workBytes k (instanceOf c) ≤ length w)
   unfolding applies buffersOf anyShort
   planner-room e =
-      let none = first-passed _ _ _ (sym (planner-tests (planner-on e)) ∙ e) .0 in
+      let none = first-passed _ _ _ (first-passed _ _ _ (sym (planner-tests (planner-on e)) ∙ e) .1) .0 in
       let first = or-left _ _ none in
       (ltb-false _ _ first, ltb-false _ _ (or-left _ _ (rw first at none)))
 
-  -- The answer on an accepted card, by the buffers.
-  module _ (given : Accepted c) where
+  -- On an accepted card a list against the rules is refused by 18, whatever the buffers are.
+  pub planner-unlisted :
+      Accepted c → countsInRules (instanceOf c) (handedTo k) ≡ false → answer (planShow k c p w) ≡ Refused CountList
+  unfolding firstRefusal applies
+  planner-unlisted given against = planner-tests given ∙ rw against
+
+  -- The answer on an accepted card of a planner that keeps the rules, by the buffers.
+  module _ (given : Accepted c) (keeps : KeepsRules k (instanceOf c)) where
     pub planner-short : anyShort (buffersOf (planShow k c p w)) ≡ true → answer (planShow k c p w) ≡ Refused BufferTooShort
     unfolding firstRefusal applies
-    planner-short short = planner-tests given ∙ rw short
+    planner-short short = planner-tests given ∙ rw (keeps, short)
 
     pub planner-cost :
         anyShort (buffersOf (planShow k c p w)) ≡ false → answer (planShow k c p w) ≡ Cost (plannedCost k (instanceOf c))
     unfolding firstRefusal applies
-    planner-cost room = planner-tests given ∙ rw room
+    planner-cost room = planner-tests given ∙ rw (keeps, room)
 
-  -- On an accepted card either planner answers its cost wherever the buffers have the bytes asked for.
-  pub planner-answer :
-      Accepted c → instanceOf c .slots ≤ length p → workBytes k (instanceOf c) ≤ length w →
-      answer (planShow k c p w) ≡ Cost (plannedCost k (instanceOf c))
-  unfolding buffersOf anyShort
-  planner-answer given room work = planner-cost given (rw (le-ltb _ _ room, le-ltb _ _ work))
+    -- The planner answers its cost wherever the buffers have the bytes asked for.
+    pub planner-answer :
+        instanceOf c .slots ≤ length p → workBytes k (instanceOf c) ≤ length w →
+        answer (planShow k c p w) ≡ Cost (plannedCost k (instanceOf c))
+    unfolding buffersOf anyShort
+    planner-answer room work = planner-cost (rw (le-ltb _ _ room, le-ltb _ _ work))
 
-  -- An accepted card is planned by either planner wherever the buffers have the bytes asked for.
-  pub always-planned :
-      Accepted c → instanceOf c .slots ≤ length p → workBytes k (instanceOf c) ≤ length w → numberOf (answer (planShow k c p w)) ≡ 0
-  always-planned given room work = ap numberOf (planner-answer given room work)
+    -- The card is planned wherever the buffers have the bytes asked for.
+    pub always-planned :
+        instanceOf c .slots ≤ length p → workBytes k (instanceOf c) ≤ length w → numberOf (answer (planShow k c p w)) ≡ 0
+    always-planned room work = ap numberOf (planner-answer room work)
 
   -- Where a planner gives number 0, the first T bytes of its plan buffer at exit are its plan.
   pub plan-written :
       numberOf (answer (planShow k c p w)) ≡ 0 → take (instanceOf c .slots) (planAtExit (planShow k c p w)) ≡ plannedBy k (instanceOf c)
   plan-written e =
       let planned = succeeded (planShow k c p w) e in
-      rw plan-at-exit (written-taken (planBuffer k (instanceOf c) p) _ planned (best-fits k c (planner-on planned) .slotwise))
+      let fit = best-fits k c (planner-on planned) (planner-keeps planned) in
+      rw plan-at-exit (written-taken (planBuffer k (instanceOf c) p) _ planned (fit .slotwise))
 
   -- Where a planner gives number 0, sheet call and marking accept the plan that it writes, with the planner's answer.
   pub planner-marked :
@@ -244,4 +266,4 @@ module _ (k : Planner) (c p w : List ℕ) where
   unfolding successCost
   planner-marked e s room =
       let planned = succeeded (planShow k c p w) e in
-      rw (plan-written e, planned) (sheet-accepted k c (planner-on planned) s room)
+      rw (plan-written e, planned) (sheet-accepted k c (planner-on planned) (planner-keeps planned) s room)

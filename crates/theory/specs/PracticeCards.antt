@@ -1,16 +1,17 @@
--- The cards of practice shows (document 02, §1): every one that is written is accepted and planned by both planners.
+-- The cards of practice shows (document 02, §1): every one that is written is accepted, and planned by every planner
+-- that keeps the rules for its rack.
 use Prim.Native.Nat.{ℕ, _≤_}
 use mathlib.Core.Path.{_≡_, ap}
 use mathlib.Core.List.{List}
 use native.Mathlib.Omega.{arith}
 use lib.ListN.{length}
 use Rattle.model.specs.Answers.{numberOf}
-use Rattle.model.specs.Instance.{cardBytes}
+use Rattle.model.specs.Instance.{instanceOf, cardBytes}
 use Rattle.model.specs.Planners.{Planner}
 use Rattle.model.specs.Practice.{practiceShow, longestPractice}
 use Rattle.model.specs.Calls.{practiceCard, buffersOf, answer, Accepted}
 use Rattle.model.specs.Calls.{atExit, buffersAtExit, cardAtExit}
-use Rattle.model.specs.Promises.{frontCard, AlwaysPlanned}
+use Rattle.model.specs.Promises.{frontCard, KeepsRules, AlwaysPlanned}
 use Rattle.laws.specs.Encoding.{card-bytes-length, front-card}
 use Rattle.laws.specs.PracticeAccepted.{practice-in-order, practice-accepted, practice-given, practice-length}
 use Rattle.theory.specs.Refusals.{succeeded}
@@ -21,9 +22,10 @@ module _ (start : ℕ) where
   abbrev practised : List ℕ
   practised = cardBytes (practiceShow start)
 
-  -- 'Every card it writes is accepted, also by the coarse planner': with buffers long enough either planner plans it.
-  pub practice-planned : (k : Planner) → AlwaysPlanned k practised
-  practice-planned k p w = always-planned k practised p w (practice-accepted start)
+  -- 'Every card it writes is accepted, also by the coarse planner': with buffers long enough every planner that keeps the rules plans
+  -- it.
+  pub practice-planned : (k : Planner) → KeepsRules k (instanceOf practised) → AlwaysPlanned k practised
+  practice-planned k keeps p w = always-planned k practised p w (practice-accepted start) keeps
 
   module _ (area : List ℕ) where
     -- After number 0 the card is what stands at the front of the area.
@@ -32,11 +34,12 @@ module _ (start : ℕ) where
     practice-front e =
         rw (succeeded (practiceCard start area) e) (front-card (practiceShow start) (practice-in-order start) _)
 
-    -- That card is accepted, planned by either planner, and at most as long as the longest one.
+    -- That card is accepted, planned by every planner that keeps the rules, and at most as long as the longest one.
     pub practice-writes :
         numberOf (answer (practiceCard start area)) ≡ 0 →
         Accepted (frontCard (cardAtExit (practiceCard start area))) ×
-        ((k : Planner) → AlwaysPlanned k (frontCard (cardAtExit (practiceCard start area)))) ×
+        ((k : Planner) → KeepsRules k (instanceOf (frontCard (cardAtExit (practiceCard start area)))) →
+        AlwaysPlanned k (frontCard (cardAtExit (practiceCard start area)))) ×
         (length (frontCard (cardAtExit (practiceCard start area))) ≤ longestPractice)
     practice-writes e =
         rw (practice-front e) (

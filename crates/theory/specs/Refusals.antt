@@ -18,6 +18,7 @@ use Rattle.model.specs.declared.Refusal.{Refusal}
 use Rattle.model.specs.declared.Answer.{Answer}
 use Rattle.model.specs.declared.Answer.the-variants.{Cost, Refused}
 use Rattle.model.specs.Answers.{refusalNumber, numberOf}
+use Rattle.model.specs.Planners.{exact, coarse, listed}
 use Rattle.model.specs.Calls.{Call, checkCard, runningCost, planShow, makeSheet, markSheet, roundCount, practiceCard, catalogueTable}
 use Rattle.model.specs.Calls.{explainSheet, actIn, ownOrder, actRefusals, actOwnOrder}
 use Rattle.model.specs.Acts.{Act, openSitting, seatCandidate, closeSitting, submitSheet, readLeast, readLowest, readUsed}
@@ -55,7 +56,9 @@ pub refusals-ascend : (c : Call) → ownOrder c ≡ false ↔ InOrder _<_ (map r
 unfolding refusals every ownOrder
 refusals-ascend (checkCard c) = (λ e. ascends _ refl, λ order. refl)
 refusals-ascend (runningCost c n l) = (λ e. ascends _ refl, λ order. refl)
-refusals-ascend (planShow k c p w) = (λ e. ascends _ refl, λ order. refl)
+refusals-ascend (planShow exact c p w) = (λ e. ascends _ refl, λ order. refl)
+refusals-ascend (planShow coarse c p w) = (λ e. ascends _ refl, λ order. refl)
+refusals-ascend (planShow (listed l r) c p w) = (λ e. absurd (true≢false e), λ order. absurd (falls (omega arith) (beyond 8 _ order)))
 refusals-ascend (makeSheet c p s) = (λ e. ascends _ refl, λ order. refl)
 refusals-ascend (markSheet c s) = (λ e. ascends _ refl, λ order. refl)
 refusals-ascend (roundCount n m) = (λ e. ascends _ refl, λ order. refl)
@@ -79,7 +82,9 @@ nine-unlisted : (c : Call) → allOf (λ n. not (eqb n 9)) (map refusalNumber (r
 unfolding refusals allOf
 nine-unlisted (checkCard c) = refl
 nine-unlisted (runningCost c n l) = refl
-nine-unlisted (planShow k c p w) = refl
+nine-unlisted (planShow exact c p w) = refl
+nine-unlisted (planShow coarse c p w) = refl
+nine-unlisted (planShow (listed l r) c p w) = refl
 nine-unlisted (makeSheet c p s) = refl
 nine-unlisted (markSheet c s) = refl
 nine-unlisted (roundCount n m) = refl

@@ -64,7 +64,7 @@ opened-planned z xs d a c p w e =
     let opened = succeeded (actIn z xs (openSitting d a c p w)) e in
     let given : Accepted c = on-card-accepted c _ _ _ _ _ opened in
     let room = first-passed _ _ _ (sym (on-card-passed c _ _ _ _ _ given) ∙ opened) .0 in
-    planner-cost exact c p w given room ∙ sym opened
+    planner-cost exact c p w given refl room ∙ sym opened
 
 -- 'each answered as marking does': a submission that 1 to 8 and 15 to 17 let pass is answered as marking answers it.
 pub submission-as-marking :
@@ -88,7 +88,7 @@ submitted-least f d card s {n} e =
     let marked : answer (markSheet card s) ≡ Cost n = sym (marking-tests f d card s given) ∙ spared .1 in
     let serving = mark-number card s .0 (ap numberOf marked) .1 in
     let cost : sheetCost (instanceOf card) s ≡ n = ap costOf (sym (mark-accepts card s given .1 serving) ∙ marked) in
-    omega (arith, planner-bound exact (accepted-plannable card given) s serving)
+    omega (arith, planner-bound exact (accepted-plannable card given) refl s serving)
 
 -- A statement about every seat of a list.
 EverySeat : (Place → Type 0) → List Place → Type 0

@@ -21,7 +21,7 @@ use Rattle.theory.specs.Hypotheses.{Plannable, LeastByCounts}
 use Rattle.theory.specs.PlacedPlans.{allowed-serves, serves-allowed}
 use Rattle.theory.specs.Ties.{not-after-equal}
 use Rattle.theory.specs.Enumeration.{least-plan}
-use Rattle.theory.specs.CountLists.{all-ascending}
+use Rattle.theory.specs.CountLists.{all-rules}
 use Rattle.theory.specs.Condition3.{allowed-cost, least-by-counts, sheet-counts-allowed, sheet-counts-cost}
 
 -- What holds of two numbers in either order, the smaller one first, holds of their minimum and maximum.
@@ -140,7 +140,7 @@ module _ {i : Instance} (ready : Plannable i) where
       (t : ℕ) → t < i .slots → getD (leastPlan i (allCounts (i .modules))) t 0 ≤ activeAt i s (suc t)
   unfolding countsOf
   least-sheet-smallest s e same t h =
-      let asc = all-ascending (i .modules) (ready .some) in
+      let asc = all-rules (i .modules) (ready .some) .ascending in
       let allowed = sheet-counts-allowed ready s e in
       let least = least-plan i (allCounts (i .modules)) asc (ready .loads) .least (countsOf i s) allowed in
       let cost : planCost i (countsOf i s) ≡ leastCost i (allCounts (i .modules)) = omega (arith, sheet-counts-cost ready s e) in
