@@ -9,7 +9,7 @@ has-room-requires : tie.Need-has-room-requires
 has-room-requires c κs = search needs
 
 returns : tie.Need-returns
-returns c = rw (c .before .before .work-bytes .ensures) at (c .has-room .ensures)
+returns c = rw (c .before .work-bytes .ensures) at (c .has-room .ensures)
 
 pub room-for-spec : {M : Type 1} → statement M
 room-for-spec = tie.close (tie.spec work-bytes-requires has-room-requires returns)
