@@ -3,8 +3,10 @@ use card::Checked;
 use card::Header;
 use model::Answer;
 use model::Refusal;
+ghost use Prim.Native.Nat.{_≤_};
 ghost use mathlib.Core.Path.{_≡_};
 ghost use lib.ListN.{length, replicate};
+ghost use Rattle.lists.specs.Lists.{writtenOver};
 ghost use Rattle.model.specs.Instance.{instanceOf};
 ghost use Rattle.model.specs.Plans.{leastPlan, leastCost};
 ghost use Rattle.model.specs.Planners.{listed};
@@ -24,6 +26,17 @@ fn widen(list: &[u16], counts: &mut [u64])
     }
 }
 
+// The counts of a list at the front of the numbers. Returns how many they are.
+fn fill_list(list: &[u16], counts: &mut [u64]) -> usize
+    requires { ⌜ length (now list) ≤ length (now counts) ⌝ }
+    ensures { λ r. ⌜ r ≡ length (now (list .entry)) ⌝ }
+    ensures { λ r. ⌜ now (counts .exit) ≡ writtenOver (now (list .entry)) (now (counts .entry)) ⌝ }
+{
+    let end = list.len();
+    widen(list, &mut counts[..end]);
+    end
+}
+
 // The least plan over the counts of a list and its cost, with room for the counts.
 fn least_with_counts(
     card: &[u8],
@@ -39,8 +52,7 @@ fn least_with_counts(
     ensures { λ _. ⌜ now (plan .exit) ≡ leastPlan (instanceOf (now (card .entry))) (now (list .entry)) ⌝ }
     ensures { λ _. ⌜ now (work .exit) ≡ replicate (length (now (work .entry))) 0 ⌝ }
 {
-    let width = list.len();
-    widen(list, &mut counts[..width]);
+    let width = fill_list(list, counts);
     planners::least_over(card, h, &counts[..width], plan, work)
 }
 

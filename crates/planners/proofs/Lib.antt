@@ -1,3 +1,3 @@
-mod Fronts
+pub mod Fronts
 pub mod Planned
 pub mod Planning
