@@ -1,9 +1,10 @@
 -- The places of an ascending list of allowed counts.
-use Prim.Native.Nat.{ℕ, _*_, _≤_, _<_}
+use Prim.Native.Nat.{ℕ, zero, suc, _+_, _*_, _≤_, _<_}
 use mathlib.Core.Path.{_≡_}
 use mathlib.Core.Bool.{true}
 use mathlib.Core.Logic.{⊎-elim}
 use mathlib.Core.List.{List}
+use native.Mathlib.Numerals.{add-one}
 use native.Mathlib.Omega.{arith}
 use lib.ListN.{length}
 use borrow.Author.Tests.{le-leb}
@@ -38,3 +39,14 @@ module _ {counts : List ℕ} {m : ℕ} (asc : Ascending counts m) where
   -- No count exceeds the rack.
   pub count-fits : (j : ℕ) → j < length counts → countAtPlace counts j ≤ m
   count-fits j inside = omega (arith, asc .last, count-rises j (lastPlace counts) (omega arith) last-inside)
+
+  -- No place is above its count.
+  place-fits : (j : ℕ) → j < length counts → j ≤ countAtPlace counts j
+  place-fits zero inside = omega arith
+  place-fits (suc j) inside =
+      let next : j + 1 ≤ countAtPlace counts (j + 1) = omega (arith, place-fits j (omega arith), asc .rises j (omega arith)) in
+      rw (add-one j) at next
+
+  -- So the list has no more entries than there are counts from 0 to m.
+  pub length-fits : length counts ≤ m + 1
+  length-fits = omega (arith, asc .last, place-fits (lastPlace counts) last-inside)

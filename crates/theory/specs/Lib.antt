@@ -1,7 +1,8 @@
 -- The theorems, a module a subject. Every statement is over instances and lists of any size. The end theorems are in SheetLaws,
 -- Enumeration, Average, CountLists, Condition3, Explanations, RearrangedSheets, SmallestPlans, Refusals, Outcomes, ExplainedSheets,
--- CourseBook, LongInput, Generator and PracticeCards, and the other modules lead to them. Counterexamples shows that their hypotheses are needed,
--- and Applications that they can be met. RelatedCards and BookExamples show that the hypotheses of CourseBook can be met, and that sharper forms of its facts fail.
+-- CourseBook, ListedCounts, LongInput, Generator and PracticeCards, and the other modules lead to them. Counterexamples shows that their
+-- hypotheses are needed, and Applications that they can be met. RelatedCards and BookExamples show that the hypotheses of CourseBook can be
+-- met, and that sharper forms of its facts fail.
 pub mod Hypotheses
 pub mod RowCosts
 pub mod Switching
@@ -30,6 +31,7 @@ pub mod ExplainedSheets
 pub mod CourseBook
 pub mod RelatedCards
 pub mod BookExamples
+pub mod ListedCounts
 pub mod LongInput
 pub mod Generator
 pub mod PracticeCards

@@ -1,0 +1,74 @@
+-- Racks that switch in groups, on cards (document 02, §8): the planners of document 01 are two of these lists, and with ratio 1 there is no
+-- other list.
+use Prim.Native.Nat.{ℕ, zero, suc, _+_, _≤_, _<_}
+use mathlib.Core.Path.{_≡_, refl}
+use mathlib.Core.Bool.{true}
+use mathlib.Core.List.{List}
+use native.Mathlib.Numerals.{add-one}
+use native.Mathlib.Omega.{arith}
+use lib.ListN.{length}
+use Rattle.lists.specs.Lists.{equal-tabulate}
+use Rattle.model.specs.Instance.{Instance, instanceOf}
+use Rattle.model.specs.Counts.{allCounts, coarseCounts}
+use Rattle.model.specs.CountRules.{keepsRules}
+use Rattle.model.specs.Planners.{Planner, exact, coarse, listed, allowedCounts, ratioOf, plannedBy}
+use Rattle.model.specs.Calls.{Accepted}
+use Rattle.model.specs.Promises.{KeepsRules}
+use Rattle.model.specs.RelatedShows.{PlannedAt, PlannedAs}
+use Rattle.laws.specs.Acceptance.{modules-range}
+use Rattle.columns.specs.Column.{countAtPlace, lastPlace}
+use Rattle.columns.specs.Places.{length-fits}
+use Rattle.theory.specs.CountLists.{InRules, rules-grow, rules-hold, rules-kept, all-rules, coarse-rules}
+use Rattle.theory.specs.CourseBook.{planned-at, planned-as}
+
+-- The counts allowed a planner for a show and its ratio, as a list that is handed in.
+abbrev asListed : Planner → Instance → Planner
+asListed k i = listed (allowedCounts k (i .modules)) (ratioOf k)
+
+-- On a rack of 1 to 200 modules this list keeps the rules where the planner does.
+listed-keeps : (k : Planner) (i : Instance) → 1 ≤ i .modules → i .modules ≤ 200 → KeepsRules k i → KeepsRules (asListed k i) i
+unfolding allowedCounts
+listed-keeps exact i some most keeps =
+    let rules = all-rules (i .modules) some in rules-kept rules (omega (arith, length-fits (rules .ascending))) (omega arith)
+listed-keeps coarse i some most keeps =
+    let rules = coarse-rules (i .modules) some in rules-kept rules (omega (arith, length-fits (rules .ascending))) (omega arith)
+listed-keeps (listed l r) i some most keeps = keeps
+
+-- Two planners give a card the same cost and the same plan.
+abbrev SamePlan : (k l : Planner) → (card : List ℕ) → Type 0
+SamePlan k l c = (x : ℕ) × (p : List ℕ) × PlannedAt k c x × PlannedAs k c p × PlannedAt l c x × PlannedAs l c p
+
+-- A planner and the list of its own counts with its own ratio give an accepted card the same cost and plan.
+pub listed-same : (k : Planner) (c : List ℕ) → Accepted c → KeepsRules k (instanceOf c) → SamePlan k (asListed k (instanceOf c)) c
+unfolding allowedCounts plannedBy
+listed-same k c given keeps =
+    let (some, most) = modules-range c given in
+    let l = asListed k (instanceOf c) in
+    let own = listed-keeps k (instanceOf c) some most keeps in
+    (_, _, planned-at k c given keeps, planned-as k c given keeps, planned-at l c given own, planned-as l c given own)
+
+-- 'The powers of two are the list with r = 2', and all counts are the one with r = 1.
+pub coarse-listed : (c : List ℕ) → Accepted c → SamePlan coarse (listed (coarseCounts (instanceOf c .modules)) 2) c
+unfolding allowedCounts
+coarse-listed c given = listed-same coarse c given refl
+
+pub exact-listed : (c : List ℕ) → Accepted c → SamePlan exact (listed (allCounts (instanceOf c .modules)) 1) c
+unfolding allowedCounts
+exact-listed c given = listed-same exact c given refl
+
+-- With ratio 1 each entry is its place.
+entry-is : {l : List ℕ} {m : ℕ} → InRules l 1 m → (j : ℕ) → j < length l → countAtPlace l j ≡ j
+entry-is rules zero h = rules .ascending .first
+entry-is {l} rules (suc j) h =
+    let rise = rules .ascending .rises j (omega arith) in
+    let next : countAtPlace l (j + 1) ≡ j + 1 = omega (arith, entry-is rules j (omega arith), rules-grow rules j (omega arith)) in
+    rw (add-one j) at next
+
+-- So the only list with ratio 1 is that of all counts.
+pub ratio-one-list : (l : List ℕ) (m : ℕ) → keepsRules l 1 m ≡ true → l ≡ allCounts m
+unfolding allCounts
+ratio-one-list l m e =
+    let rules = rules-hold l 1 m e .0 in
+    let asc = rules .ascending in
+    let size : length l ≡ m + 1 = omega (arith, asc .two, asc .last, entry-is rules (lastPlace l) (omega (arith, asc .two))) in
+    equal-tabulate size (λ j h. entry-is rules j (omega arith))
