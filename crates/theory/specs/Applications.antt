@@ -24,10 +24,10 @@ use Rattle.model.specs.Plans.{moduleByte, slotRow, sheetOf, planCost, planServe
 use Rattle.theory.specs.Hypotheses.{Plannable}
 use Rattle.theory.specs.SheetLaws.{sheet-at-least}
 use Rattle.theory.specs.CountLists.{InRules, rules-hold}
-use Rattle.theory.specs.Condition3.{exact-least, list-ratio, coarse-twice}
+use Rattle.theory.specs.Condition3.{exact-least, list-ratio, coarse-twice, planner-bound}
 use Rattle.theory.specs.Explanations.{spread-zero, swaps-zero}
 use Rattle.theory.specs.Counterexamples.{exampleE, steadySheet, steady-serves}
-use Rattle.model.specs.Planners.{exact, allowedCounts, plannedCost}
+use Rattle.model.specs.Planners.{exact, listed, allowedCounts, plannedCost}
 use Rattle.model.specs.Explanation.{countsOperatingCost, countsSwitchingCost, excessOperatingCost, excessSwitchingCost, excessOfCounts}
 use Rattle.model.specs.Explanation.{NoBetterSpread, NoBetterChoice}
 use Rattle.model.specs.Acts.{readLowest}
@@ -108,6 +108,11 @@ exact-least-applied = exact-least example-plannable steadySheet steady-serves
 -- The least plan over the wide counts costs at most twice as much as the steady sheet: 6 ≤ 10.
 pub list-ratio-applied : leastCost exampleE wideCounts ≤ 2 * sheetCost exampleE steadySheet
 list-ratio-applied = list-ratio example-plannable wideCounts 2 wide-rules steadySheet steady-serves
+
+-- The plan limited to the list 0 2 4 8 with the ratio 2 costs at most twice as much too: 8 ≤ 10.
+pub planner-bound-applied : plannedCost (listed (0 ∷ 2 ∷ 4 ∷ 8 ∷ []) 2) exampleE ≤ 2 * sheetCost exampleE steadySheet
+unfolding every strictlyAscends gapsGrowBy keepsRules
+planner-bound-applied = planner-bound (listed (0 ∷ 2 ∷ 4 ∷ 8 ∷ []) 2) example-plannable refl steadySheet steady-serves
 
 -- The coarse plan costs at most twice as much as the steady sheet: 8 ≤ 10.
 pub coarse-twice-applied : leastCost exampleE (coarseCounts (exampleE .modules)) ≤ 2 * sheetCost exampleE steadySheet

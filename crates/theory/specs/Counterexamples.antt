@@ -15,6 +15,7 @@ use Rattle.model.specs.Instance.{Instance, instanceOf, topStepPlace, headLength
 use Rattle.model.specs.MoreLight.{leastFrom, activeStep}
 use Rattle.model.specs.Counts.{canServe, operatingCost, allCounts, powerOfTwo, coarseCounts, roundedCount}
 use Rattle.model.specs.Counts.{printedCases, caseValue, roundedByCases}
+use Rattle.model.specs.CountRules.{gapAfter, strictlyAscends, gapsGrowBy, keepsRules}
 use Rattle.model.specs.Sheets.{off, stateAt, sheetLength, sheetEntries, lightAt, sheetLight, serves, stepCost, changeCost}
 use Rattle.model.specs.Sheets.{sheetOperatingCost, sheetSwitchingCost, sheetCost, activeAt, countsOf}
 use Rattle.model.specs.Thesis.{countAt, slotCost, countsCost}
@@ -26,6 +27,7 @@ use Rattle.laws.specs.LeastSteps.{lowestStep}
 use Rattle.columns.specs.Column.{countAtPlace, Ascending, GrowsBy, servedOrAbove, rising, fromTop, downward, upward}
 use Rattle.columns.specs.Column.{column, searchedCost}
 use Rattle.theory.specs.Hypotheses.{Plannable, PlanFits, Entry, activeIn, lightIn, rowCost}
+use Rattle.theory.specs.CountLists.{InRules, rules-hold}
 
 -- A show of two modules and no slot, with a table F(0) to F(2).
 abbrev ofTable : List ℕ → Instance
@@ -142,12 +144,12 @@ pub exact-attained :
     (s : List ℕ) × (serves exampleE s ≡ true) × (sheetCost exampleE s ≡ leastCost exampleE (allCounts (exampleE .modules)))
 exact-attained = (steadySheet, steady-serves, omega (arith, costs-computed))
 
--- A show of one slot with load 1, where both steps cost the same and a module that goes on costs 1.
-abbrev level : (modules entry : ℕ) → Instance
-level m f = record { modules = m; topStep = 1; slots = 1; powerUp = 1; powerDown = 0; table = λ k. f; load = λ t. 1 }
+-- A show of one slot, where both steps cost the same and a module that goes on costs 1.
+abbrev level : (modules entry load : ℕ) → Instance
+level m f l = record { modules = m; topStep = 1; slots = 1; powerUp = 1; powerDown = 0; table = λ k. f; load = λ t. l }
 
-level-plannable : (m f : ℕ) → 1 ≤ m → Plannable (level m f)
-level-plannable m f some =
+level-plannable : (m f l : ℕ) → 1 ≤ m → l ≤ m → Plannable (level m f l)
+level-plannable m f l some fits =
     record { some = some; steps = omega arith; loads = λ t h. omega arith; convex = λ k h. absurd (omega arith) }
 
 -- A list of allowed counts that has 0 and the full rack only.
@@ -158,29 +160,79 @@ none-or-all-ascending : (m : ℕ) → 1 ≤ m → Ascending (noneOrAll m) m
 none-or-all-ascending m some =
     record { two = omega arith; first = refl; last = refl; rises = λ j h. let first : j ≡ 0 = omega arith in rw first (omega arith) }
 
--- Over a list that grows by slightly more than 2 the least plan may cost more than twice as much as a sheet that serves: here 4
--- against 1.
-pub wider-gaps :
-    Plannable (level 4 0) × Ascending (noneOrAll 4) 4 ×
-    ((j : ℕ) → j + 1 < length (noneOrAll 4) → countAtPlace (noneOrAll 4) (j + 1) ≤ 2 * (countAtPlace (noneOrAll 4) j + 2)) ×
-    ((s : List ℕ) × (serves (level 4 0) s ≡ true) × (2 * sheetCost (level 4 0) s < leastCost (level 4 0) (noneOrAll 4)))
+-- A list with a wide gap after 1.
+abbrev wideGap : List ℕ
+wideGap = 0 ∷ 1 ∷ 8 ∷ []
+
+-- The least plan over a list costs more than r times as much as some sheet that serves.
+abbrev BoundFails : Instance → List ℕ → (r : ℕ) → Type 0
+BoundFails i counts r = (s : List ℕ) × (serves i s ≡ true) × (r * sheetCost i s < leastCost i counts)
+
+-- It costs exactly r times as much as some sheet that serves.
+abbrev BoundAttained : Instance → List ℕ → (r : ℕ) → Type 0
+BoundAttained i counts r = (s : List ℕ) × (serves i s ≡ true) × (r * sheetCost i s ≡ leastCost i counts)
+
+-- The costs are 4 against 1, 8 against 1, 8 against 2, and 2 against 1.
+bounds-computed :
+    BoundFails (level 4 0 1) (noneOrAll 4) 2 × BoundFails (level 8 0 1) (noneOrAll 8) 2 × BoundFails (level 8 0 2) wideGap 2 ×
+    BoundAttained (level 2 0 1) (noneOrAll 2) 2
 unfolding every sum rows tabulate keep flatMap canServe stateAt sheetLength sheetEntries lightAt sheetLight serves stepCost changeCost
     sheetOperatingCost sheetSwitchingCost sheetCost moduleByte slotRow sheetOf planCost planServes plansInOrder cheapest cheapestOf
     leastPlan leastOver firstOver leastFrom activeStep
-wider-gaps = (
-  level-plannable 4 0 (omega arith),
-  none-or-all-ascending 4 (omega arith),
-  λ j h. let first : j ≡ 0 = omega arith in rw first (omega arith),
+bounds-computed = (
   (1 ∷ off ∷ off ∷ off ∷ [], refl, lit< tt),
+  (1 ∷ off ∷ off ∷ off ∷ off ∷ off ∷ off ∷ off ∷ [], refl, lit< tt),
+  (1 ∷ 1 ∷ off ∷ off ∷ off ∷ off ∷ off ∷ off ∷ [], refl, lit< tt),
+  (1 ∷ off ∷ [], refl, refl),
 )
 
+-- Over a list that grows by slightly more than 2 the least plan may cost more than twice as much as a sheet that serves: here 4
+-- against 1.
+pub wider-gaps :
+    Plannable (level 4 0 1) × Ascending (noneOrAll 4) 4 ×
+    ((j : ℕ) → j + 1 < length (noneOrAll 4) → countAtPlace (noneOrAll 4) (j + 1) ≤ 2 * (countAtPlace (noneOrAll 4) j + 2)) ×
+    BoundFails (level 4 0 1) (noneOrAll 4) 2
+wider-gaps = (
+  level-plannable 4 0 1 (omega arith) (omega arith),
+  none-or-all-ascending 4 (omega arith),
+  λ j h. let first : j ≡ 0 = omega arith in rw first (omega arith),
+  bounds-computed .0,
+)
+
+-- So it may over a list whose first entry is above the ratio 2, with all other rules of 02 §8 kept: here 8 against 1.
+pub first-above-ratio :
+    Plannable (level 8 0 1) × Ascending (noneOrAll 8) 8 ×
+    ((j : ℕ) → j + 2 < length (noneOrAll 8) → gapAfter (noneOrAll 8) (j + 1) ≤ 2 * gapAfter (noneOrAll 8) j) ×
+    BoundFails (level 8 0 1) (noneOrAll 8) 2
+first-above-ratio = (
+  level-plannable 8 0 1 (omega arith) (omega arith),
+  none-or-all-ascending 8 (omega arith),
+  λ j h. absurd (omega arith),
+  bounds-computed .1,
+)
+
+-- So it may over a list with a gap of more than twice the gap before it, with all other rules kept: here 8 against 2.
+pub gap-above-ratio : Plannable (level 8 0 2) × Ascending wideGap 8 × (countAtPlace wideGap 1 ≤ 2) × BoundFails (level 8 0 2) wideGap 2
+unfolding every strictlyAscends gapsGrowBy keepsRules
+gap-above-ratio = (
+  level-plannable 8 0 2 (omega arith) (omega arith),
+  rules-hold wideGap 7 8 refl .0 .ascending,
+  omega arith,
+  bounds-computed .2,
+)
+
+-- Over a list that keeps all rules the least plan may cost exactly the ratio times as much as a sheet that serves: here 2 against 1.
+pub ratio-attained : Plannable (level 2 0 1) × InRules (noneOrAll 2) 2 2 × BoundAttained (level 2 0 1) (noneOrAll 2) 2
+unfolding every strictlyAscends gapsGrowBy keepsRules
+ratio-attained = (level-plannable 2 0 1 (omega arith) (omega arith), rules-hold (noneOrAll 2) 2 2 refl .0, bounds-computed .3)
+
 -- More modules may cost more in total, though their average falls: here 2 against 1.
-pub total-rises : operatingCost (level 2 1) 1 1 < operatingCost (level 2 1) 2 1
+pub total-rises : operatingCost (level 2 1 1) 1 1 < operatingCost (level 2 1 1) 2 1
 unfolding leastOver leastFrom operatingCost
 total-rises = lit< tt
 
 -- A plan costs more than its counts with one module active before the first slot: here 1 against 0.
-pub all-off-before : PlanFits (level 2 0) (1 ∷ []) × (countsCost (level 2 0) 1 (1 ∷ []) < planCost (level 2 0) (1 ∷ []))
+pub all-off-before : PlanFits (level 2 0 1) (1 ∷ []) × (countsCost (level 2 0 1) 1 (1 ∷ []) < planCost (level 2 0 1) (1 ∷ []))
 unfolding every sum rows tabulate canServe operatingCost stateAt stepCost changeCost sheetOperatingCost sheetSwitchingCost sheetCost
     moduleByte slotRow sheetOf planCost planServes countAt slotCost countsCost leastOver firstOver leastFrom activeStep
 all-off-before = (
@@ -195,11 +247,11 @@ all-off-before = (
 
 -- From a start count the search may cost more than twice as much as a plan without the price of the start: here 1 against 0.
 pub start-has-a-price :
-    Plannable (level 2 0) × Ascending (noneOrAll 2) 2 × GrowsBy 2 (noneOrAll 2) ×
-    PlanFits (level 2 0) (1 ∷ []) × (2 * countsCost (level 2 0) 1 (1 ∷ []) < searchedCost (level 2 0) (noneOrAll 2) 1)
+    Plannable (level 2 0 1) × Ascending (noneOrAll 2) 2 × GrowsBy 2 (noneOrAll 2) ×
+    PlanFits (level 2 0 1) (1 ∷ []) × (2 * countsCost (level 2 0 1) 1 (1 ∷ []) < searchedCost (level 2 0 1) (noneOrAll 2) 1)
 unfolding sum canServe operatingCost countAt slotCost countsCost servedOrAbove rising fromTop downward upward column searchedCost leastOver leastFrom
 start-has-a-price = (
-  level-plannable 2 0 (omega arith),
+  level-plannable 2 0 1 (omega arith) (omega arith),
   none-or-all-ascending 2 (omega arith),
   λ j h. let first : j ≡ 0 = omega arith in rw first (omega arith),
   all-off-before .0,
