@@ -32,7 +32,7 @@ all-member m n = (
 )
 
 -- A power of two exceeds its exponent.
-pub below-power : (e : ℕ) → e < 2 ^ e
+below-power : (e : ℕ) → e < 2 ^ e
 below-power zero = omega arith
 below-power (suc e) = omega (arith, below-power e)
 

@@ -65,7 +65,7 @@ first-power {m} {n} e some fits above first = rounded-is fits stands (omega arit
         go (inr (inr (k, power))) = omega (arith, first k (omega arith))
 
 -- Between a power of two and the next there is none.
-next-power : (e k : ℕ) → 2 ^ e < 2 ^ k → 2 ^ suc e ≤ 2 ^ k
+pub next-power : (e k : ℕ) → 2 ^ e < 2 ^ k → 2 ^ suc e ≤ 2 ^ k
 next-power e k h =
     ⊎-elim
     (λ (low : k ≤ e). absurd (omega (arith, pow-le-pow-right {n = 2} (omega arith) low)))
@@ -142,7 +142,7 @@ pub above-printed : {n : ℕ} → 200 < n → 0 ≡ caseValue printedCases n
 above-printed h = above-power-cases 200 8 0 h ∙ sym (printed-later (omega arith))
 
 -- A number above 1 that is not above 2 ^ f is above one of the lower powers of two and not above the next.
-pub between-powers : {n : ℕ} (f : ℕ) → 1 < n → n ≤ 2 ^ f → (i : ℕ) × (i < f) × (2 ^ i < n) × (n ≤ 2 ^ suc i)
+between-powers : {n : ℕ} (f : ℕ) → 1 < n → n ≤ 2 ^ f → (i : ℕ) × (i < f) × (2 ^ i < n) × (n ≤ 2 ^ suc i)
 between-powers zero some high = absurd (omega arith)
 between-powers {n} (suc f) some high =
     ⊎-elim

@@ -14,7 +14,8 @@ use Rattle.model.specs.Planners.{Planner, exact, coarse, listed, allowedCounts,
 use Rattle.model.specs.Promises.{KeepsRules}
 use Rattle.laws.specs.Acceptance.{modules-range}
 use Rattle.columns.specs.Column.{searchedPlan, searchedCost}
-use Rattle.theory.specs.CountLists.{rules-hold, planner-rules}
+use Rattle.columns.specs.Places.{length-fits}
+use Rattle.theory.specs.CountLists.{planner-rules}
 use Rattle.theory.specs.Condition3.{accepted-plannable, searched-plan}
 use Rattle.card.specs.declared.Header.{Header}
 use Rattle.card.specs.Checking.{Ready}
@@ -46,13 +47,7 @@ module _ {s : List ℕ} {h : Header} {counts plan work : List ℕ} (p : PlanOver
       let best = searched-plan (accepted-plannable s (p .room .ready .accepted)) counts (p .allowed .ascending) in
       (c ∙ best .1, (m ∙ best .0, z))
 
--- A planner that keeps the rules has at most 201 counts, and its work bytes hold one for each count and slot.
-few-counts : (k : Planner) (i : Instance) → 1 ≤ i .modules → i .modules ≤ 200 → KeepsRules k i → length (allowedCounts k (i .modules)) ≤ 201
-unfolding allowedCounts allCounts
-few-counts exact i some most keeps = omega (arith, length-tabulate (i .modules + 1) (λ n. n))
-few-counts coarse i some most keeps = omega (arith, coarse-ten (i .modules) some most)
-few-counts (listed l r) i some most keeps = rules-hold l r (i .modules) keeps .1
-
+-- The work bytes of a planner hold one for each of its counts and each slot.
 work-enough : (k : Planner) (i : Instance) → 1 ≤ i .modules → i .modules ≤ 200 →
     length (allowedCounts k (i .modules)) * i .slots ≤ workBytes k i
 unfolding allowedCounts allCounts workBytes
@@ -68,12 +63,13 @@ module _
   over-counts =
       let i = instanceOf s in
       let (some, most) = modules-range s (b .ready .accepted) in
-      let few = few-counts k i some most keeps in
+      let asc = planner-rules k i some keeps .ascending in
+      let few : length (allowedCounts k (i .modules)) ≤ 201 = omega (arith, length-fits asc) in
       rw are
       (record {
         room =
             record { ready = b .ready; plan-size = b .plan-size; work-room = le-trans (work-enough k i some most) (b .work-room) };
-        allowed = record { ascending = planner-rules k i some keeps .ascending; bytes = omega arith };
+        allowed = record { ascending = asc; bytes = omega arith };
         short = few;
       })
 

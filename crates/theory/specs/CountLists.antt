@@ -5,7 +5,7 @@ use mathlib.Core.Path.{_≡_, refl, ap}
 use mathlib.Core.Bool.{true}
 use mathlib.Core.List.{List}
 use mathlib.Core.Logic.{_⊎_, inl, inr, ⊎-elim}
-use native.Mathlib.Nat.{le-refl, pow-le-pow-right}
+use native.Mathlib.Nat.{le-refl}
 use native.Mathlib.Numerals.{add-one}
 use native.Mathlib.Omega.{arith}
 use lib.ListN.{length, getD}
@@ -22,6 +22,7 @@ use Rattle.model.specs.Plans.{Member}
 use Rattle.model.specs.Planners.{Planner, exact, coarse, listed, allowedCounts, ratioOf}
 use Rattle.model.specs.Promises.{KeepsRules}
 use Rattle.laws.specs.CountMembers.{all-member, coarse-member, all-in-order, coarse-in-order}
+use Rattle.laws.specs.RoundedCounts.{next-power}
 use Rattle.columns.specs.Column.{countAtPlace, lastPlace, Ascending, GrowsBy}
 
 -- The rules of 02 §8 for a list of allowed counts and a ratio r in a rack of m as propositions, without the bounds 201 and 200.
@@ -160,11 +161,7 @@ module _ (m : ℕ) (some : 1 ≤ m) where
       go lower (inl none) rise = absurd (omega arith)
       go (inl none) (inr (e, power)) rise = omega (arith, power-above (j + 1) (suc e) (omega arith) (omega arith))
       go (inr (d, lower)) (inr (e, power)) rise =
-          ⊎-elim
-          (λ (low : e ≤ d). absurd (omega (arith, pow-le-pow-right {n = 2} (omega arith) low)))
-          (λ (high : d < e).
-          omega (arith, pow-le-pow-right {n = 2} (omega arith) high, power-above (j + 1) (suc e) (omega arith) (omega arith)))
-          (le-or-lt e d)
+          omega (arith, next-power d e (omega arith), power-above (j + 1) (suc e) (omega arith) (omega arith))
 
   pub coarse-rules : InRules (coarseCounts m) 2 m
   coarse-rules =
