@@ -22,7 +22,7 @@ module _ {s : List ℕ} {h : Header} (r : Ready s h) where
   coarse-size = rw (r .header .slots-is)
 
   -- A product of at most 256 and the number of slots fits 64 bits.
-  product-fits : (n : ℕ) → n ≤ 256 → Fits w64 (n * h .slots)
+  pub product-fits : (n : ℕ) → n ≤ 256 → Fits w64 (n * h .slots)
   product-fits n few =
       record {
         fits = omega (arith, mul-le-mul {n₁ = n} {m₁ = h .slots} {n₂ = 256} {m₂ = 65536} few (omega (arith, r .header .slots-bound)));

@@ -1,1 +1,2 @@
 mod Widened
+mod Listed

@@ -10,14 +10,15 @@ use lib.Dec.{ltb}
 use borrow.Author.Tests.{ltb-false, not-true, lt-ltb, le-ltb}
 use Rattle.lists.specs.Tests.{and-left, and-right}
 use Rattle.model.specs.declared.Refusal.{Refusal}
-use Rattle.model.specs.declared.Refusal.the-variants.{BufferTooShort}
+use Rattle.model.specs.declared.Refusal.the-variants.{BufferTooShort, CountList}
 use Rattle.model.specs.declared.Answer.{Answer}
 use Rattle.model.specs.declared.Answer.the-variants.{Cost, Refused}
 use Rattle.model.specs.Instance.{instanceOf}
 use Rattle.model.specs.Planners.{Planner, workBytes, plannedBy, plannedCost}
-use Rattle.model.specs.Calls.{planShow, answer, buffersOf, anyShort, planAtExit, workAtExit, atExit}
+use Rattle.model.specs.HandedIn.{countsInRules}
+use Rattle.model.specs.Calls.{planShow, handedTo, answer, buffersOf, anyShort, planAtExit, workAtExit, atExit}
 use Rattle.model.specs.Promises.{KeepsRules}
-use Rattle.theory.specs.Outcomes.{planner-refused, planner-short, planner-cost, best-fits, plan-at-exit, work-at-exit}
+use Rattle.theory.specs.Outcomes.{planner-refused, planner-unlisted, planner-short, planner-cost, best-fits, plan-at-exit, work-at-exit}
 use Rattle.card.specs.declared.Header.{Header}
 use Rattle.card.specs.declared.Checked.{Checked}
 use Rattle.card.specs.declared.Checked.the-variants.{Invalid}
@@ -68,6 +69,10 @@ module _ (k : Planner) (s p w : List ℕ) where
       either false false = refl
 
   module _ {h : Header} (r : Ready s h) where
+    -- Where the rules for a list are not kept, the planner is refused.
+    pub plan-unlisted : countsInRules (instanceOf s) (handedTo k) ≡ false → Planned k s p w (Refused CountList) p w
+    plan-unlisted broken = planned-kept (planner-unlisted k s p w (r .accepted) broken)
+
     -- Where a buffer is too short, the planner is refused.
     pub plan-short :
         KeepsRules k (instanceOf s) → roomFor k (instanceOf s) (length p) (length w) ≡ false → Planned k s p w (Refused BufferTooShort) p w

@@ -9,23 +9,31 @@ fill-list-requires c κs =
     let start = c .before .before .before .before .before .before in omega (arith, start .pre .0 .short, start .pre .1 .room)
 
 slice-reshare-prefix-least-over : tie.Need-slice-reshare-prefix-least-over
-slice-reshare-prefix-least-over c = let e = c .before .before .fill-list .ensures in front-within _ _ (e .0) (e .1)
+slice-reshare-prefix-least-over c =
+    let start = c .before .before .before .before .before .before .before .before .before in
+    let e = c .before .before .fill-list .ensures in
+    front-within (start .args .list .now) (start .args .counts .now) (e .0) (e .1)
 
 slice-aggregate-least-over : tie.Need-slice-aggregate-least-over
-slice-aggregate-least-over c = let e = c .before .before .before .fill-list .ensures in front-length _ _ (e .0) (e .1)
+slice-aggregate-least-over c =
+    let start = c .before .before .before .before .before .before .before .before .before .before in
+    let e = c .before .before .before .fill-list .ensures in
+    front-length (start .args .list .now) (start .args .counts .now) (e .0) (e .1)
 
 least-over-requires : tie.Need-least-over-requires
 least-over-requires c κs =
     let filled = c .before .before .before .before .before in
     let start = filled .before .before .before .before .before .before .before in
     let e = filled .fill-list .ensures in
-    rw (front-is _ _ (e .0) (e .1)) (start .pre .0)
+    rw (front-is (start .args .list .now) (start .args .counts .now) (e .0) (e .1)) (start .pre .0)
 
 returns : tie.Need-returns
 returns c =
     let done = c .before .before .before .before in
-    let e = done .before .before .before .before .before .before .fill-list .ensures in
-    rw (front-is _ _ (e .0) (e .1)) at (done .least-over .ensures)
+    let filled = done .before .before .before .before .before .before in
+    let start = filled .before .before .before .before .before .before .before in
+    let e = filled .fill-list .ensures in
+    rw (front-is (start .args .list .now) (start .args .counts .now) (e .0) (e .1)) at (done .least-over .ensures)
 
 pub least-with-counts-spec : {M : Type 1} → statement M
 least-with-counts-spec =

@@ -1,78 +1,88 @@
+use mathlib.Core.Path.{sym}
+use lib.Seq.{length-take-le}
+use Rattle.lists.specs.Tests.{test-failed, test-passed}
+use Rattle.count_lists.proofs.Listed.{broken, asked-fits, short, plan-long, work-long, over-list, done}
 use borrow.Author.Needs.{needs}
 use Rattle.count_lists.proofs.plan_listed_on.Statement.{statement}
 use Rattle.count_lists.proofs.plan_listed_on.Tie as tie
-use Rattle.count_lists.proofs.plan_listed_on.Reads as reads
-use Rattle.count_lists.proofs.plan_listed_on.Lts as lts
-use Rattle.count_lists.proofs.least_over_list.Reads as least-over-list-reads
-use Rattle.count_rules.proofs.keeps_rules.Reads as keeps-rules-reads
-use Rattle.planners.proofs.has_room.Reads as has-room-reads
 
--- src/lib.rt:84:9
 keeps-rules-requires : tie.Need-keeps-rules-requires
 keeps-rules-requires c κs = search needs
 
--- src/lib.rt:85:9
 returns : tie.Need-returns
-returns c = ?
+returns c =
+    let start = c .before .before .before .before .before .before in
+    broken _ (start .args .ratio) _ (start .args .plan .now) (start .args .work .now) (start .pre)
+    (test-failed (c .before .keeps-rules .ensures) (c .if1 .taken))
 
--- src/lib.rt:88:17
 mul-asked : tie.Need-mul-asked
-mul-asked c = ?
+mul-asked c =
+    let start = c .before .before .before .before .before .before in
+    asked-fits _ (start .args .ratio) _ (start .args .plan .now) (start .args .work .now) (start .pre)
+    (test-passed (c .before .keeps-rules .ensures) (c .if1 .left))
 
--- src/lib.rt:89:9
 has-room-requires : tie.Need-has-room-requires
 has-room-requires c κs = search needs
 
--- src/lib.rt:90:9
 returns-2 : tie.Need-returns-2
-returns-2 c = ?
+returns-2 c =
+    let rules = c .before .before in
+    let start = rules .before .before .before .before .before .before in
+    short _ (start .args .ratio) _ (start .args .plan .now) (start .args .work .now) (start .pre)
+    (test-passed (rules .before .keeps-rules .ensures) (rules .if1 .left)) (test-failed (c .before .has-room .ensures) (c .if2 .taken))
 
--- src/lib.rt:92:49
 slice-relend-prefix-least-over-list : tie.Need-slice-relend-prefix-least-over-list
-slice-relend-prefix-least-over-list c = ?
+slice-relend-prefix-least-over-list c =
+    let rules = c .before .before in
+    let start = rules .before .before .before .before .before .before in
+    plan-long _ (start .args .ratio) _ (start .args .plan .now) (start .args .work .now) (start .pre)
+    (test-passed (rules .before .keeps-rules .ensures) (rules .if1 .left)) (test-passed (c .before .has-room .ensures) (c .if2 .left))
 
--- src/lib.rt:92:49
 slice-aggregate-least-over-list : tie.Need-slice-aggregate-least-over-list
-slice-aggregate-least-over-list c = ?
+slice-aggregate-least-over-list c =
+    let room = c .before in
+    let rules = room .before .before in
+    let start = rules .before .before .before .before .before .before in
+    sym (length-take-le _ _ (plan-long _ (start .args .ratio) _ (start .args .plan .now) (start .args .work .now) (start .pre)
+    (test-passed (rules .before .keeps-rules .ensures) (rules .if1 .left)) (test-passed (room .before .has-room .ensures) (room .if2 .left))))
 
--- src/lib.rt:92:69
 slice-relend-prefix-least-over-list-2 : tie.Need-slice-relend-prefix-least-over-list-2
-slice-relend-prefix-least-over-list-2 c = ?
+slice-relend-prefix-least-over-list-2 c =
+    let room = c .before in
+    let rules = room .before .before in
+    let start = rules .before .before .before .before .before .before in
+    work-long _ (start .args .ratio) _ (start .args .plan .now) (start .args .work .now) (start .pre)
+    (test-passed (rules .before .keeps-rules .ensures) (rules .if1 .left)) (test-passed (room .before .has-room .ensures) (room .if2 .left))
 
--- src/lib.rt:92:69
 slice-aggregate-least-over-list-2 : tie.Need-slice-aggregate-least-over-list-2
-slice-aggregate-least-over-list-2 c = ?
+slice-aggregate-least-over-list-2 c =
+    let room = c .before .before in
+    let rules = room .before .before in
+    let start = rules .before .before .before .before .before .before in
+    sym (length-take-le _ _ (work-long _ (start .args .ratio) _ (start .args .plan .now) (start .args .work .now) (start .pre)
+    (test-passed (rules .before .keeps-rules .ensures) (rules .if1 .left)) (test-passed (room .before .has-room .ensures) (room .if2 .left))))
 
--- src/lib.rt:92:18
 least-over-list-requires : tie.Need-least-over-list-requires
-least-over-list-requires c κs = ?
+least-over-list-requires c κs =
+    let room = c .before .before in
+    let rules = room .before .before in
+    let start = rules .before .before .before .before .before .before in
+    over-list _ (start .args .ratio) _ (start .args .plan .now) (start .args .work .now) (start .pre)
+    (test-passed (rules .before .keeps-rules .ensures) (rules .if1 .left)) (test-passed (room .before .has-room .ensures) (room .if2 .left))
 
--- src/lib.rt:71:1
-same-length : tie.Need-same-length
-same-length c = search needs
-
--- src/lib.rt:71:1
-same-length-2 : tie.Need-same-length-2
-same-length-2 c = search needs
-
--- src/lib.rt:71:1
 returns-3 : tie.Need-returns-3
-returns-3 c = ?
+returns-3 c =
+    let found = c .before .before .before .before in
+    let room = found .before .before .before in
+    let rules = room .before .before in
+    let start = rules .before .before .before .before .before .before in
+    done _ (start .args .ratio) _ (start .args .plan .now) (start .args .work .now) (start .pre)
+    (test-passed (rules .before .keeps-rules .ensures) (rules .if1 .left)) (test-passed (room .before .has-room .ensures) (room .if2 .left))
+    (found .least-over-list .ensures)
 
 pub plan-listed-on-spec : {M : Type 1} → statement M
 plan-listed-on-spec =
     tie.close
-    (tie.spec
-    keeps-rules-requires
-    returns
-    mul-asked
-    has-room-requires
-    returns-2
-    slice-relend-prefix-least-over-list
-    slice-aggregate-least-over-list
-    slice-relend-prefix-least-over-list-2
-    slice-aggregate-least-over-list-2
-    least-over-list-requires
-    same-length
-    same-length-2
-    returns-3)
+    (tie.spec keeps-rules-requires returns mul-asked has-room-requires returns-2 slice-relend-prefix-least-over-list
+    slice-aggregate-least-over-list slice-relend-prefix-least-over-list-2 slice-aggregate-least-over-list-2 least-over-list-requires
+    (λ c. search needs) (λ c. search needs) returns-3)
