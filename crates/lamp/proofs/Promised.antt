@@ -7,12 +7,13 @@ use lib.ListN.{take}
 use lib.Dec.{eqb}
 use Rattle.model.specs.declared.Answer.{Answer}
 use Rattle.model.specs.declared.Answer.the-variants.{Cost, Refused}
+use Rattle.model.specs.declared.Refusal.{Refusal}
 use Rattle.model.specs.declared.Refusal.the-variants.{NotPermitted}
 use Rattle.model.specs.declared.Seat.{Seat}
 use Rattle.model.specs.declared.Sitting.{Sitting}
 use Rattle.model.specs.declared.Reply.{Reply}
 use Rattle.model.specs.declared.Points.{Points}
-use Rattle.model.specs.Answers.{numberOf, costOf}
+use Rattle.model.specs.Answers.{refusalNumber, numberOf, costOf}
 use Rattle.model.specs.Instance.{instanceOf}
 use Rattle.model.specs.Sheets.{serves, sheetCost}
 use Rattle.model.specs.Plans.{sheetOf}
@@ -25,21 +26,25 @@ use Rattle.model.specs.Acts.{Act, openSitting, readLeast, opened, unopened, isC
 use Rattle.model.specs.SittingState.{factsOf, stateOf, phaseOf}
 use Rattle.model.specs.Sittings.{answerTo, markedWith, told, toldBy, replyWith, replyOf}
 use Rattle.model.specs.Promises.{OwnSheet, AtMostTimes, MarkedAlike, AcceptsExactly, WritesAccepted, AlwaysEnough, HiddenTillClosed, WritesTable}
-use Rattle.model.specs.Promises.{ExplainsMarked, NoneNegative, AboveLeast, ZeroExactly}
+use Rattle.model.specs.Promises.{KeepsRules, ExplainsMarked, NoneNegative, AboveLeast, ZeroExactly}
 use borrow.Author.Tests.{ne-eqb}
 use Rattle.laws.specs.Acceptance.{modules-range}
 use Rattle.laws.specs.AnswerNumber.{number-zero}
-use Rattle.theory.specs.CountLists.{planner-counts-ascending}
+use Rattle.theory.specs.CountLists.{planner-rules}
 use Rattle.theory.specs.Condition3.{accepted-plannable, least-sheet, planner-bound}
 use Rattle.theory.specs.Refusals.{succeeded}
 use Rattle.theory.specs.PracticeCards.{practice-writes, practice-enough}
 use Rattle.theory.specs.SittingBounds.{least-hidden, opened-planned}
 use Rattle.theory.specs.ExplainedSheets.{explains-marked, none-negative, above-least, zero-exactly}
-use Rattle.theory.specs.Outcomes.{written-taken, mark-number, made-marked, best-fits, plan-at-exit, planner-on}
+use Rattle.theory.specs.Outcomes.{written-taken, mark-number, made-marked, best-fits, plan-at-exit, planner-on, planner-keeps}
 
 -- What is given of an answer is given of an equal one.
 pub gives-as : {a b : Answer} {number cost : ℕ} → a ≡ b → NumbersOf a number cost → NumbersOf b number cost
 gives-as e g = rw e at g
+
+-- The numbers of a refusal.
+pub refused-numbers : {a : Answer} {x : Refusal} {number : ℕ} → a ≡ Refused x → number ≡ refusalNumber x → NumbersOf a number 0
+refused-numbers e n = record { number-is = n ∙ sym (ap numberOf e); cost-is = sym (ap costOf e) }
 
 -- Marking.
 module _ (s x : List ℕ) {a : Answer} (is : a ≡ answer (markSheet s x)) {number cost : ℕ} (given : NumbersOf a number cost) where
@@ -80,6 +85,9 @@ module _ (k : Planner) (c p w : List ℕ) {number cost : ℕ} (given : Gives (pl
   accepted : number ≡ 0 → Accepted c
   accepted e = planner-on k c p w (success e)
 
+  keeps : number ≡ 0 → KeepsRules k (instanceOf c)
+  keeps e = planner-keeps k c p w (success e)
+
   cost-of : number ≡ 0 → cost ≡ plannedCost k (instanceOf c)
   cost-of e = given .cost-is ∙ ap costOf (success e)
 
@@ -89,22 +97,22 @@ module _ (k : Planner) (c p w : List ℕ) {number cost : ℕ} (given : Gives (pl
       (sheetCost (instanceOf c) (sheetOf (instanceOf c) (plannedBy k (instanceOf c))) ≡ cost)
   unfolding plannedBy
   best-sheet e =
-      let ascending = planner-counts-ascending k _ (modules-range c (accepted e) .0) in
-      let sheet = least-sheet (accepted-plannable c (accepted e)) _ ascending in
+      let rules = planner-rules k (instanceOf c) (modules-range c (accepted e) .0) (keeps e) in
+      let sheet = least-sheet (accepted-plannable c (accepted e)) _ (rules .ascending) in
       (sheet .0, sheet .1 ∙ sym (cost-of e))
 
   -- The first T plan bytes at exit are the planner's plan.
   taken : {plan : List ℕ} → plan ≡ planAtExit (planShow k c p w) → number ≡ 0 → take (instanceOf c .slots) plan ≡ plannedBy k (instanceOf c)
   taken is e =
       rw (is, plan-at-exit k c p w)
-      (written-taken (planBuffer k (instanceOf c) p) (instanceOf c .slots) (success e) (best-fits k c (accepted e) .slotwise))
+      (written-taken (planBuffer k (instanceOf c) p) (instanceOf c .slots) (success e) (best-fits k c (accepted e) (keeps e) .slotwise))
 
   own-sheet : {plan : List ℕ} → plan ≡ planAtExit (planShow k c p w) → OwnSheet c plan number cost
   own-sheet is =
       record { sheet-serves = λ e. rw (taken is e) (best-sheet e .0); sheet-costs = λ e. rw (taken is e) (best-sheet e .1) }
 
   at-most : AtMostTimes (ratioOf k) c number cost
-  at-most e s served = rw (cost-of e) (planner-bound k (accepted-plannable c (accepted e)) s served)
+  at-most e s served = rw (cost-of e) (planner-bound k (accepted-plannable c (accepted e)) (keeps e) s served)
 
 -- A planner's answer and buffers at exit bring condition 3 with them.
 pub plans :

@@ -7,7 +7,7 @@ use model::Seat;
 use model::Sitting;
 ghost use mathlib.Core.Path.{_≡_};
 ghost use mathlib.Core.List.{[]};
-ghost use Rattle.model.specs.Planners.{exact, coarse};
+ghost use Rattle.model.specs.Planners.{exact, coarse, listed};
 ghost use Rattle.model.specs.Calls.{NumbersOf, Gives, checkCard, runningCost, planShow, makeSheet, markSheet, roundCount, practiceCard, catalogueTable};
 ghost use Rattle.model.specs.Calls.{planAtExit, workAtExit, sheetAtExit, cardAtExit, tableAtExit, actIn, explainSheet};
 ghost use Rattle.model.specs.ExplainedPoints.{explainedWork, pointsOf};
@@ -114,6 +114,24 @@ pub extern "C" fn lamp_plan_coarse(card: &[u8], plan: &mut [u8], work: &mut [u8]
     ensures twice { λ r. ⌜ AtMostTimes 2 (now (card .entry)) (r .number) (r .cost) ⌝ }
 {
     to_c(planners::plan_show(PlannerKind::Coarse, card, plan, work))
+}
+
+// The least plan limited to a list of counts with a ratio (document 02, §8): refusals 1 to 8, 18 and 10, in this order.
+#[no_mangle]
+pub extern "C" fn lamp_plan_groups(
+    card: &[u8],
+    list: &[u16],
+    ratio: u64,
+    plan: &mut [u8],
+    work: &mut [u8],
+) -> LampAnswer
+    ensures outcome { λ r. ⌜ Gives (planShow (listed (now (list .entry)) ratio) (now (card .entry)) (now (plan .entry)) (now (work .entry))) (r .number) (r .cost) ⌝ }
+    ensures plan_bytes { λ r. ⌜ now (plan .exit) ≡ planAtExit (planShow (listed (now (list .entry)) ratio) (now (card .entry)) (now (plan .entry)) (now (work .entry))) ⌝ }
+    ensures work_bytes { λ r. ⌜ now (work .exit) ≡ workAtExit (planShow (listed (now (list .entry)) ratio) (now (card .entry)) (now (plan .entry)) (now (work .entry))) ⌝ }
+    ensures own_sheet { λ r. ⌜ OwnSheet (now (card .entry)) (now (plan .exit)) (r .number) (r .cost) ⌝ }
+    ensures at_most { λ r. ⌜ AtMostTimes ratio (now (card .entry)) (r .number) (r .cost) ⌝ }
+{
+    to_c(count_lists::plan_listed(card, list, ratio, plan, work))
 }
 
 // The practice card of a start (document 02, §1): refusals 14 and 10, in this order.

@@ -66,7 +66,7 @@ module _
     planned-text {h} {new} {out} accepted e =
         let i = instanceOf s in
         let answered = sym is ∙ success in
-        let size = best-fits exact s (accepted .ready .accepted) .slotwise in
+        let size = best-fits exact s (accepted .ready .accepted) refl .slotwise in
         let taken : take (i .slots) new ≡ plannedBy exact i =
         rw (e, plan-at-exit exact s p w) (written-taken (planBuffer exact i p) (i .slots) answered size) in
         record {
@@ -106,13 +106,13 @@ module _ {s : List ℕ} {h : Header} {plan out : List ℕ} (p : PlannedText s h 
     sheet-is : take (h .modules * h .slots) made ≡ sheetOf i (plannedBy exact i)
     sheet-is =
         let few : sheetBytes i ≤ length x = omega (arith, rw (m, t) at entries-few) in
-        let success = sheet-accepted exact s (p .ready .accepted) x few .0 in
+        let success = sheet-accepted exact s (p .ready .accepted) refl x few .0 in
         rw (e, plan-is, m, t, sheet-at-exit s (plannedBy exact i) x)
         (written-taken (sheetBuffer i (plannedBy exact i) x) (sheetBytes i) success (sheet-length i (plannedBy exact i)))
 
     pub print-ready : Printable (h .modules) (take (h .slots) plan) (take (h .modules * h .slots) made) out
     print-ready =
-        let slots = best-fits exact s (p .ready .accepted) .slotwise in
+        let slots = best-fits exact s (p .ready .accepted) refl .slotwise in
         let entries = sheet-length i (plannedBy exact i) in
         let few = slots-range s (p .ready .accepted) in
         let most = rw (m, t) at entries-few in

@@ -89,7 +89,7 @@ module _ (z : Sitting) (d l : ℕ) (s p w : List ℕ) where
         unfolding planAtExit workAtExit buffersAtExit buffersOf actBuffers
         opening-planned range (a-is, (plan-is, work-is)) =
             let same : answer (opens z d l s p w) ≡ answer (planShow exact s p w) =
-            opening-tests ∙ rw (room, eq-eqb d 0 by, range) (sym (planner-cost exact s p w given (room-short exact s p w ∙ ap not room))) in
+            opening-tests ∙ rw (room, eq-eqb d 0 by, range) (sym (planner-cost exact s p w given refl (room-short exact s p w ∙ ap not room))) in
             (a-is ∙ sym same, (plan-is ∙ rw same, work-is ∙ rw same))
 
   -- The answer of the call is that of the facts.
