@@ -83,6 +83,17 @@ extern "C" {
         work: *mut u8,
         work_len: usize,
     ) -> LampAnswer;
+    fn lamp_plan_groups(
+        card: *const u8,
+        card_len: usize,
+        list: *const u16,
+        list_len: usize,
+        ratio: u64,
+        plan: *mut u8,
+        plan_len: usize,
+        work: *mut u8,
+        work_len: usize,
+    ) -> LampAnswer;
     fn lamp_sheet(
         card: *const u8,
         card_len: usize,
@@ -160,6 +171,24 @@ pub fn plan_exact(card: &[u8], plan: &mut [u8], work: &mut [u8]) -> Answer {
 /// The least plan with counts 0, the powers of two and the full rack; `work` is asked for 10 times slots bytes.
 pub fn plan_coarse(card: &[u8], plan: &mut [u8], work: &mut [u8]) -> Answer {
     answer(unsafe { lamp_plan_coarse(card.as_ptr(), card.len(), plan.as_mut_ptr(), plan.len(), work.as_mut_ptr(), work.len()) })
+}
+
+/// The least plan with counts of a list alone, which begins with 0 and ends with the full rack; `work` is asked for one byte for each entry and
+/// slot. A list or ratio against the rules is refused by 18, and then a short area by 10.
+pub fn plan_groups(card: &[u8], list: &[u16], ratio: u64, plan: &mut [u8], work: &mut [u8]) -> Answer {
+    answer(unsafe {
+        lamp_plan_groups(
+            card.as_ptr(),
+            card.len(),
+            list.as_ptr(),
+            list.len(),
+            ratio,
+            plan.as_mut_ptr(),
+            plan.len(),
+            work.as_mut_ptr(),
+            work.len(),
+        )
+    })
 }
 
 /// The sheet of a handed-in plan: modules times slots bytes at the front of `sheet`.

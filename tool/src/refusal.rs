@@ -21,13 +21,14 @@ pub enum Refusal {
     NotPermitted = 15,
     SeatUnavailable = 16,
     AllowanceSpent = 17,
+    CountList = 18,
 }
 
 use Refusal::*;
 
 impl Refusal {
     /// All refusals, in the order of their numbers.
-    pub const ALL: [Refusal; 17] = [
+    pub const ALL: [Refusal; 18] = [
         NotACard,
         WrongVersion,
         RackSize,
@@ -45,6 +46,7 @@ impl Refusal {
         NotPermitted,
         SeatUnavailable,
         AllowanceSpent,
+        CountList,
     ];
 
     pub fn number(self) -> u64 {
@@ -75,6 +77,7 @@ impl Refusal {
             NotPermitted => "an act that the caller has no right to, at all or as the sitting stands",
             SeatUnavailable => "candidate 0, not seated, seated already, or no empty record in the first 32",
             AllowanceSpent => "the allowance is used up, or outside 1 to 1,000 at an opening",
+            CountList => "list of counts or ratio against the rules",
         }
     }
 }
