@@ -3,7 +3,7 @@
 use crate::calls;
 use crate::faults::{self, SheetFault};
 use crate::input::{self, Card};
-use crate::planning::{self, Planned, Planner};
+use crate::planning::{self, Groups, Planned, Planner};
 use crate::refusal::Refusal;
 use crate::sheet_text::{self, SheetText};
 use crate::show::Show;
@@ -43,32 +43,53 @@ impl Outcome {
 /// A command's outcome, or the sentence of an error.
 pub type Ended = Result<Outcome, String>;
 
-/// The words of a command line after the command: its options, the folder that one of them names, and what is left.
+/// The words of a command line after the command: its options, what some of them name, and what is left.
+#[derive(Default)]
 pub struct Words<'a> {
     plain: Vec<&'a OsStr>,
     options: Vec<&'static str>,
     into: Option<&'a Path>,
+    counts: Option<Vec<u16>>,
+    ratio: Option<u64>,
 }
 
 impl<'a> Words<'a> {
-    fn planner(&self) -> Planner {
-        if self.options.contains(&"--coarse") {
-            Planner::Coarse
-        } else {
-            Planner::Exact
+    fn planner(&self) -> Planner<'_> {
+        match (&self.counts, self.ratio) {
+            (Some(counts), Some(ratio)) => Planner::Groups(Groups { counts, ratio }),
+            _ if self.is_coarse() => Planner::Coarse,
+            _ => Planner::Exact,
         }
     }
 
-    /// Takes an option, and for a folder the word after it.
-    fn take(&mut self, option: &'static str, rest: &mut impl Iterator<Item = &'a OsString>) -> Result<(), &'static str> {
-        if option == help::INTO {
-            let named = rest.next().filter(|word| !word.is_empty()).ok_or("--into names no folder")?;
-            if self.into.replace(Path::new(named)).is_some() {
-                return Err("--into names two folders");
-            }
-        }
+    fn is_coarse(&self) -> bool {
+        self.options.contains(&"--coarse")
+    }
+
+    /// Takes an option, and the word after it where it names something.
+    fn take(&mut self, option: &'static str, rest: &mut impl Iterator<Item = &'a OsString>) -> Result<(), String> {
         self.options.push(option);
+        let Some((name, what)) = help::naming(option) else { return Ok(()) };
+        let word = rest.next().filter(|word| !word.is_empty()).ok_or_else(|| format!("{name} names no {what}"))?;
+        let is_second = match option {
+            help::GROUPS => self.counts.replace(numbers::counts(&input::printable(word))?).is_some(),
+            help::RATIO => self.ratio.replace(numbers::number("RATIO", &input::printable(word), u64::MAX)?).is_some(),
+            _ => self.into.replace(Path::new(word)).is_some(),
+        };
+        if is_second {
+            return Err(format!("{name} names two {what}s"));
+        }
         Ok(())
+    }
+
+    /// A list of counts and a ratio stand together, and not beside another planner.
+    fn go_together(&self) -> Result<(), String> {
+        match (&self.counts, self.ratio) {
+            (Some(_), None) => Err(format!("--groups needs {} beside it", help::RATIO)),
+            (None, Some(_)) => Err(format!("--ratio needs {} beside it", help::GROUPS)),
+            (Some(_), Some(_)) if self.is_coarse() => Err("--coarse and --groups are two planners".to_string()),
+            _ => Ok(()),
+        }
     }
 }
 
@@ -92,7 +113,8 @@ pub fn run(words: &[OsString]) -> Outcome {
 
 /// Tells options from other words. `-` is standard input, and after `--` no word is an option.
 fn split<'a>(command: &help::Command, words: &'a [OsString]) -> Result<Words<'a>, String> {
-    let mut out = Words { plain: Vec::new(), options: Vec::new(), into: None };
+    let misuse = |message: String| format!("{}: {message}\n{}", command.name, command.usage());
+    let mut out = Words::default();
     let mut rest = words.iter();
     while let Some(word) = rest.next() {
         if word == "--" {
@@ -100,16 +122,14 @@ fn split<'a>(command: &help::Command, words: &'a [OsString]) -> Result<Words<'a>
         } else if word == "-" || !word.to_string_lossy().starts_with('-') {
             out.plain.push(word);
         } else {
-            let Some(option) = command.option(word) else {
-                return Err(format!("{}: no option {}\n{}", command.name, input::printable(word), command.usage()));
-            };
-            out.take(option, &mut rest).map_err(|message| format!("{}: {message}\n{}", command.name, command.usage()))?;
+            let option = command.option(word).ok_or_else(|| misuse(format!("no option {}", input::printable(word))))?;
+            out.take(option, &mut rest).map_err(misuse)?;
         }
     }
+    out.go_together().map_err(misuse)?;
     if out.plain.len() != command.takes.len() {
-        let asked = command.takes.join(" and ");
         let found = several(out.plain.len() as u64, "word");
-        return Err(format!("{}: {found} where it takes {asked}\n{}", command.name, command.usage()));
+        return Err(misuse(format!("{found} where it takes {}", command.takes.join(" and "))));
     }
     if out.plain.iter().filter(|word| **word == "-").count() > 1 {
         return Err(format!("{}: standard input can be read once only", command.name));
@@ -202,18 +222,26 @@ pub fn check(words: &Words) -> Ended {
 
 /// Plans the card, and gives what `write` makes of the plan and of the card's name.
 fn with_plan(words: &Words, write: fn(&Planned, &str) -> String) -> Ended {
-    let card = input::card(words.plain[0])?;
-    Ok(match planning::plan(words.planner(), &card.bytes) {
+    let (card, planner) = (input::card(words.plain[0])?, words.planner());
+    Ok(match planning::plan(planner, &card.bytes) {
         Ok(planned) => Outcome::done(write(&planned, &card.title)),
+        Err(refusal @ Refusal::CountList) => Outcome::refused(&lines(refusal, &list_places(planner, &card))),
         Err(refusal) => refused_card(&card, refusal),
     })
 }
 
+/// The rules that a list of counts and its ratio break, for which they get 18.
+fn list_places(planner: Planner, card: &Card) -> Vec<String> {
+    match (planner.groups(), Show::read(&card.bytes)) {
+        (Some(groups), Some(show)) => faults::groups(&groups, show.modules),
+        _ => Vec::new(),
+    }
+}
+
 pub fn key(words: &Words) -> Ended {
     with_plan(words, |planned, _| {
-        let brighter = planned.brighter().map_or(String::new(), |sentence| format!("# {sentence}\n"));
-        let promise = planned.planner.promise();
-        format!("{}\n# {promise}\n{brighter}{}", show_text::write(&planned.show), listing::write(planned))
+        let notes: String = planned.notes().map(|sentence| format!("# {sentence}\n")).collect();
+        format!("{}\n{notes}{}", show_text::write(&planned.show), listing::write(planned))
     })
 }
 

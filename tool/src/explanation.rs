@@ -1,6 +1,6 @@
 //! Where the points of a sheet went (document 02, section 7), in sentences for a candidate.
 use crate::calls::{self, Points};
-use crate::planning::{Planned, Planner};
+use crate::planning::{Planned, Planner, LEAST};
 use crate::refusal::Refusal;
 
 /// A sheet's cost, the least cost, and the points between the two in their three parts.
@@ -62,7 +62,7 @@ impl Explanation {
         let beyond = self.cost - self.least;
         let lines = [
             ("cost", self.cost, "this is what the sheet costs".to_string()),
-            ("least", self.least, "no sheet that serves the show costs less".to_string()),
+            ("least", self.least, LEAST.to_string()),
             ("above", beyond, above(beyond)),
             ("spread", self.points.spread, spread(self.points.spread)),
             ("swaps", self.points.swaps, swaps(self.points.swaps)),

@@ -1,8 +1,10 @@
 //! Where a refusal comes from. The number is the library's; the places are found here, and say in words what the library looked at.
+use crate::planning::Groups;
 use crate::refusal::Refusal;
 use crate::show::{Head, Show, MARK, OFF};
 use crate::show_text::Field;
 use crate::words::{grouped, several};
+use std::ops::RangeInclusive;
 
 /// A place at fault in a card: a field's number, by its index, where one field can be named, and what is wrong with it.
 #[derive(Clone, Debug, PartialEq, Eq)]
@@ -124,4 +126,69 @@ pub fn lights(show: &Show, sheet: &[u8]) -> Vec<SheetFault> {
         format!("slot {}: light {light} where the load is {load}, {less} too little", slot + 1)
     };
     dark.map(|(slot, (light, load))| SheetFault { slot, module: None, text: text(slot, light, u64::from(*load)) }).collect()
+}
+
+const ENTRIES: RangeInclusive<u64> = 2..=201;
+const RATIOS: RangeInclusive<u64> = 1..=200;
+
+fn bounds(numbers: RangeInclusive<u64>) -> String {
+    format!("{} to {}", numbers.start(), numbers.end())
+}
+
+/// The rules that a list of counts and its ratio break in a rack, for which they get 18. Entries are counted from 1. Gaps are measured only
+/// between entries that ascend and by a ratio within its bounds, since else those are what is wrong.
+pub fn groups(groups: &Groups, modules: u8) -> Vec<String> {
+    let counts: Vec<u64> = groups.counts.iter().map(|count| u64::from(*count)).collect();
+    let mut out = list_ends(&counts, modules.into());
+    out.extend(not_above(&counts));
+    if RATIOS.contains(&groups.ratio) {
+        out.extend(above_ratio(&counts, groups.ratio));
+        out.extend(wide_gaps(&counts, groups.ratio));
+    } else {
+        out.push(format!("the ratio is {}; it has to be {}", grouped(groups.ratio), bounds(RATIOS)));
+    }
+    out
+}
+
+/// How many entries a list has, how it begins and how it ends.
+fn list_ends(counts: &[u64], modules: u64) -> Vec<String> {
+    let (mut out, length) = (Vec::new(), counts.len() as u64);
+    if !ENTRIES.contains(&length) {
+        out.push(format!("the list has {}; it has to have {}", several(length, "entry"), bounds(ENTRIES)));
+    }
+    if let Some(first @ 1..) = counts.first() {
+        out.push(format!("entry 1 is {}; it has to be 0", grouped(*first)));
+    }
+    if let Some(last) = counts.last().filter(|last| **last != modules) {
+        let last = grouped(*last);
+        out.push(format!("entry {length}, the last, is {last}; it has to be {modules}, the number of modules"));
+    }
+    out
+}
+
+/// The entries that are not above the one before them.
+fn not_above(counts: &[u64]) -> impl Iterator<Item = String> + '_ {
+    let pairs = counts.windows(2).enumerate().filter(|(_, pair)| pair[0] >= pair[1]);
+    pairs.map(|(at, pair)| {
+        let [before, entry] = [pair[0], pair[1]].map(grouped);
+        format!("entry {} is {entry}; it has to be above entry {}, which is {before}", at + 2, at + 1)
+    })
+}
+
+/// The first entry after 0, if it is above the ratio.
+fn above_ratio(counts: &[u64], ratio: u64) -> Option<String> {
+    let entry = counts.get(1).filter(|entry| **entry > ratio)?;
+    Some(format!("entry 2 is {}; the first entry after 0 has to be at most {ratio}, the ratio", grouped(*entry)))
+}
+
+/// The entries at a gap that is too wide for the gap before it.
+fn wide_gaps(counts: &[u64], ratio: u64) -> impl Iterator<Item = String> + '_ {
+    let threes = counts.windows(3).enumerate().filter(|(_, three)| three[0] < three[1] && three[1] < three[2]);
+    let wide = threes.filter(move |(_, three)| three[2] - three[1] > ratio * (three[1] - three[0]));
+    wide.map(move |(at, three)| {
+        let (gap, most) = (grouped(three[2] - three[1]), grouped(ratio * (three[1] - three[0])));
+        let [first, middle, last] = [three[0], three[1], three[2]].map(grouped);
+        let allowed = format!("it has to be at most {most}, {ratio} times the gap from {first} to {middle}");
+        format!("entry {} is {last}; the gap from {middle} to {last} is {gap}, and {allowed}", at + 3)
+    })
 }

@@ -15,13 +15,39 @@ pub struct Command {
 
 pub const USAGE: &str = "usage: lamp COMMAND ..; lamp --help lists the commands";
 
-const PLANNER: &[&str] = &["--coarse"];
-
-const COARSE: &str = "\
---coarse  the coarse planner's plan in place of the exact one; it costs at most twice as much, on every accepted card.";
-
 /// The option that names the folder for a command's files.
 pub const INTO: &str = "--into DIR";
+
+/// The options that name the counts that a plan is limited to, and the ratio that bounds its cost.
+pub const GROUPS: &str = "--groups LIST";
+pub const RATIO: &str = "--ratio RATIO";
+
+/// The name of an option that takes a word, and what that word names.
+pub fn naming(option: &str) -> Option<(&str, &'static str)> {
+    let what = match option {
+        INTO => "folder",
+        GROUPS => "list",
+        RATIO => "ratio",
+        _ => return None,
+    };
+    Some((name(option), what))
+}
+
+/// An option without the word that it takes.
+fn name(option: &str) -> &str {
+    option.split(' ').next().unwrap_or(option)
+}
+
+const PLANNER: &[&str] = &["--coarse", GROUPS, RATIO];
+
+const PLANNERS: &str = "\
+--coarse  the coarse planner's plan in place of the exact one; it costs at most twice as much, on every accepted card.
+--groups LIST --ratio RATIO  a plan limited to the counts of LIST, for a rack that switches in groups. It costs at
+    most RATIO times the least cost of any sheet; the least cost may be lower.
+    lamp key e.card --groups 0,2,4,8 --ratio 2    # the rack of e.card has 8 modules
+    LIST is 2 to 201 counts with commas between them, as one word, so in quotes if blanks follow the commas. It
+    ascends from 0 to the number of modules. The first count after 0 is at most RATIO, and each gap is at most
+    RATIO times the gap before it. RATIO is 1 to 200. What breaks these rules is refused by 18 and told by entry.";
 
 /// The word of a command that takes a card, and what it may be.
 const CARD: &str = "CARD";
@@ -120,39 +146,43 @@ const STATUS: &str = "Exit status: 0 done, 1 refused by a number, 2 wrong use or
 
 impl Command {
     fn form(&self) -> String {
-        let options: String = self.options.iter().map(|option| format!(" [{option}]")).collect();
+        let options = self.options.iter().filter(|option| ![GROUPS, RATIO].contains(option));
+        let options: String = options.map(|option| format!(" [{option}]")).collect();
         format!("lamp {} {}{options}", self.name, self.takes.join(" "))
     }
 
-    /// The form with a range of numbers, and what it does. Only what goes into a folder can be more than one card.
-    fn range_form(&self) -> Option<(String, &'static str)> {
-        let form = || (format!("lamp {} FIRST..LAST {INTO}", self.name), "makes those of a range, as files of a folder");
-        self.options.contains(&INTO).then(form)
+    /// A second form, and what it does: with a range of numbers, which only a folder can take, or with a list of counts.
+    fn second_form(&self) -> Option<(String, &'static str)> {
+        if self.options.contains(&INTO) {
+            return Some((format!("lamp {} FIRST..LAST {INTO}", self.name), "makes those of a range, as files of a folder"));
+        }
+        let form = || format!("lamp {} {} {GROUPS} {RATIO}", self.name, self.takes.join(" "));
+        self.options.contains(&GROUPS).then(|| (form(), "does so for a plan limited to LIST, whose cost may be above the least"))
     }
 
     /// The option that a word is.
     pub fn option(&self, word: &OsStr) -> Option<&'static str> {
-        self.options.iter().copied().find(|option| option.split(' ').next().is_some_and(|name| word == name))
+        self.options.iter().copied().find(|option| word == name(option))
     }
 
     pub fn usage(&self) -> String {
-        let range = self.range_form().map_or(String::new(), |(form, _)| format!("\n       {form}"));
-        format!("usage: {}{range}", self.form())
+        let second = self.second_form().map_or(String::new(), |(form, _)| format!("\n       {form}"));
+        format!("usage: {}{second}", self.form())
     }
 
     pub fn help(&self) -> String {
         let card = self.takes.contains(&CARD).then_some(A_CARD);
         let sheet = self.takes.contains(&SHEET).then_some(A_SHEET);
         let more = (!self.more.is_empty()).then_some(self.more);
-        let coarse = (self.options == PLANNER).then_some(COARSE);
-        let lines: String = card.into_iter().chain(sheet).chain(more).chain(coarse).map(|part| format!("{part}\n")).collect();
+        let planners = (self.options == PLANNER).then_some(PLANNERS);
+        let lines: String = card.into_iter().chain(sheet).chain(more).chain(planners).map(|part| format!("{part}\n")).collect();
         format!("{}\n{}: {}.\n{lines}{STATUS}\n", self.usage(), self.name, self.does)
     }
 }
 
 /// What `lamp --help` prints.
 pub fn whole() -> String {
-    let rows = || COMMANDS.iter().flat_map(|command| once((command.form(), command.does)).chain(command.range_form()));
+    let rows = || COMMANDS.iter().flat_map(|command| once((command.form(), command.does)).chain(command.second_form()));
     let width = rows().map(|(form, _)| form.len()).max().unwrap_or(0);
     let mut out = String::from("lamp: the examiner's tool over the proved planner\n\n");
     rows().for_each(|(form, does)| out += &format!("  {form:<width$}  {does}\n"));

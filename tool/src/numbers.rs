@@ -25,6 +25,19 @@ fn has_comma(word: &str) -> bool {
     word.as_bytes().windows(3).any(|part| part[1] == b',' && part[0].is_ascii_digit() && part[2].is_ascii_digit())
 }
 
+/// The counts of a list with a comma between two, after which plain blanks may stand.
+pub fn counts(word: &str) -> Result<Vec<u16>, String> {
+    let entries = word.split(',').enumerate();
+    entries.map(|(at, entry)| if at == 0 { count(1, entry) } else { count(at + 1, entry.trim_start_matches(' ')) }).collect()
+}
+
+/// A count by its place in a list.
+fn count(at: usize, word: &str) -> Result<u16, String> {
+    let hint = if typed::is_digits(word) { "" } else { "; LIST is one word with commas, as 0,2,4,8" };
+    let found = number("COUNT", word, u16::MAX.into()).map_err(|message| format!("{message} (entry {at} of LIST){hint}"))?;
+    Ok(found as u16)
+}
+
 /// The number of a practice card.
 fn card_number(name: &str, word: &str) -> Result<u32, String> {
     number(name, word, u32::MAX.into()).map(|number| u32::try_from(number).expect("it is at most the largest"))

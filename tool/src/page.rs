@@ -39,8 +39,7 @@ pub fn write(planned: &Planned, name: &str) -> String {
          <title>{heading}: {name_text}</title>\n<style>\n{STYLE}</style>\n</head>\n<body>\n"
     );
     out += &format!("<h1>{heading}</h1>\n<p>{name_text}: {}.</p>\n", escaped(&planned.show.summary()));
-    out += &format!("<p>{}.</p>\n", escaped(planned.planner.promise()));
-    out += &planned.brighter().map_or(String::new(), |sentence| format!("<p>{}.</p>\n", escaped(&sentence)));
+    planned.notes().for_each(|sentence| out += &format!("<p>{}.</p>\n", escaped(&sentence)));
     out += &format!("<h2>Show</h2>\n<pre>{}</pre>\n", escaped(&show_text::write(&planned.show)));
     out += &format!("<h2>Plan</h2>\n{}", plan(planned));
     out += &format!("<h2>Picture</h2>\n<figure>\n{}</figure>\n", picture::draw(planned, name));

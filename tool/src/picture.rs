@@ -129,8 +129,14 @@ pub fn heading(planned: &Planned) -> String {
     match planned.planner {
         Planner::Exact => format!("Least cost {}", grouped(planned.cost)),
         Planner::Coarse => format!("Coarse plan, cost {}", grouped(planned.cost)),
+        Planner::Groups(groups) => {
+            format!("Group plan, cost {}, at most {} times the least", grouped(planned.cost), grouped(groups.ratio))
+        }
     }
 }
+
+/// How many runs of counts fit on a line of the narrowest picture.
+const MOST_RUNS: usize = 6;
 
 fn titles(planned: &Planned, name: &str, layout: &Layout) -> String {
     let shown: String = name.chars().take(60).collect();
@@ -138,7 +144,8 @@ fn titles(planned: &Planned, name: &str, layout: &Layout) -> String {
         let (x, y, size) = (layout.left(), layout.size(y), layout.size(size));
         format!("<text x=\"{x}\" y=\"{y}\" font-size=\"{size}\">{}</text>\n", escaped(text))
     };
-    line(24, 17, &heading(planned)) + &line(42, 12, &shown) + &line(57, 12, &planned.show.summary())
+    let limit = planned.planner.groups().map_or(String::new(), |groups| line(72, 12, &groups.limit(MOST_RUNS)));
+    line(24, 17, &heading(planned)) + &line(42, 12, &shown) + &line(57, 12, &planned.show.summary()) + &limit
 }
 
 /// A text with its anchor: start, middle or end.

@@ -2,20 +2,54 @@
 use crate::calls::{self, Answer};
 use crate::refusal::Refusal;
 use crate::show::Show;
-use crate::words::runs;
+use crate::words::{grouped, runs};
 
+/// What is said of a least cost.
+pub const LEAST: &str = "no sheet that serves the show costs less";
+
+/// The counts that a plan is limited to, with the ratio that bounds its cost (document 02, section 8).
 #[derive(Clone, Copy, Debug, PartialEq, Eq)]
-pub enum Planner {
-    Exact,
-    Coarse,
+pub struct Groups<'a> {
+    pub counts: &'a [u16],
+    pub ratio: u64,
 }
 
-impl Planner {
+impl Groups<'_> {
+    /// What the cost of such a plan is. With ratio 1 the list has all counts, and the cost is the least.
+    fn promise(&self) -> String {
+        let bound = format!("group plan: at most {} times the least cost of any sheet", grouped(self.ratio));
+        if self.ratio == 1 {
+            return format!("{bound}, so {LEAST}");
+        }
+        format!("{bound}; the least cost may be lower, NOT the key of the exact plan")
+    }
+
+    /// The counts in a sentence, with neighbours taken together. After so many of these it is said how many counts follow.
+    pub fn limit(&self, most: usize) -> String {
+        let counts: Vec<usize> = self.counts.iter().map(|count| usize::from(*count)).collect();
+        format!("limited to the counts {}", runs(&counts, most))
+    }
+
+    /// Whether every count of a plan is in the list.
+    fn has_all(&self, plan: &[u8]) -> bool {
+        plan.iter().all(|count| self.counts.contains(&u16::from(*count)))
+    }
+}
+
+#[derive(Clone, Copy, Debug, PartialEq, Eq)]
+pub enum Planner<'a> {
+    Exact,
+    Coarse,
+    Groups(Groups<'a>),
+}
+
+impl<'a> Planner<'a> {
     /// The work bytes that the planner asks for.
     pub fn work_bytes(self, modules: usize, slots: usize) -> usize {
         match self {
             Planner::Exact => (modules + 1) * slots,
             Planner::Coarse => 10 * slots,
+            Planner::Groups(groups) => groups.counts.len() * slots,
         }
     }
 
@@ -29,22 +63,32 @@ impl Planner {
         match self {
             Planner::Exact => calls::plan_exact(card, plan, work),
             Planner::Coarse => calls::plan_coarse(card, plan, work),
+            Planner::Groups(groups) => calls::plan_groups(card, groups.counts, groups.ratio, plan, work),
         }
     }
 
     /// What the planner's cost is.
-    pub fn promise(self) -> &'static str {
+    fn promise(self) -> String {
         match self {
-            Planner::Exact => "exact plan: no sheet that serves the show costs less",
-            Planner::Coarse => "coarse plan: at most twice the least cost, NOT the key of the exact plan",
+            Planner::Exact => format!("exact plan: {LEAST}"),
+            Planner::Coarse => "coarse plan: at most twice the least cost, NOT the key of the exact plan".to_string(),
+            Planner::Groups(groups) => groups.promise(),
+        }
+    }
+
+    /// The list that the planner's plans are limited to, where one was given.
+    pub fn groups(self) -> Option<Groups<'a>> {
+        match self {
+            Planner::Groups(groups) => Some(groups),
+            _ => None,
         }
     }
 }
 
 /// An accepted show with a planner's cost, plan and sheet.
 #[derive(Clone, Debug)]
-pub struct Planned {
-    pub planner: Planner,
+pub struct Planned<'a> {
+    pub planner: Planner<'a>,
     pub show: Show,
     pub cost: u64,
     pub plan: Vec<u8>,
@@ -54,7 +98,7 @@ pub struct Planned {
 /// How many runs of slots a sentence names.
 const MOST_RUNS: usize = 10;
 
-impl Planned {
+impl Planned<'_> {
     /// The light of each slot.
     pub fn lights(&self) -> Vec<u64> {
         self.show.lights(&self.sheet).collect()
@@ -70,16 +114,23 @@ impl Planned {
             || format!("slots with more light than their load, which costs less at their counts: {}", runs(&numbers, MOST_RUNS));
         (!numbers.is_empty()).then(sentence)
     }
+
+    /// The sentences that stand before the plan: what its cost is, the counts that it is limited to, and where there is more light.
+    pub fn notes(&self) -> impl Iterator<Item = String> {
+        let limit = self.planner.groups().map(|groups| groups.limit(usize::MAX));
+        [Some(self.planner.promise()), limit, self.brighter()].into_iter().flatten()
+    }
 }
 
-/// Plans a card. The sheet is made from the plan and marked, and both have to cost what the planner named: the library's contract
-/// says so, and a machine on which it does not hold must not print a key.
-pub fn plan(planner: Planner, card: &[u8]) -> Result<Planned, Refusal> {
+/// Plans a card. The sheet is made from the plan and marked, and both have to cost what the planner named; where a list was given, the
+/// plan has its counts alone. The library's contract says so, and a machine on which it does not hold must not print a key.
+pub fn plan<'a>(planner: Planner<'a>, card: &[u8]) -> Result<Planned<'a>, Refusal> {
     calls::check_card(card)?;
     let show = Show::read(card).expect("an accepted card has a readable length");
     let (mut plan, mut sheet) = (vec![0; show.slots()], vec![0; usize::from(show.modules) * show.slots()]);
     let cost = planner.plan(card, &mut plan, &mut planner.work(&show))?;
     let (made, marked) = (calls::sheet(card, &plan, &mut sheet), calls::mark(card, &sheet));
     assert_eq!((made, marked), (Ok(cost), Ok(cost)), "the sheet does not cost what the planner named");
+    assert!(planner.groups().is_none_or(|groups| groups.has_all(&plan)), "the plan has a count that the list has not");
     Ok(Planned { planner, show, cost, plan, sheet })
 }

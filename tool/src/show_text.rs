@@ -265,16 +265,9 @@ fn table_size(table: &Typed, top: u64) -> Result<(), TextError> {
     }
     let at = if found > asked { table.numbers.get(asked as usize) } else { table.numbers.last() };
     let place = at.map_or(table.name, |(_, place)| *place);
-    let message = format!("the table has {}, and top {top} asks for {}, F(0) to F({top})", entries(found), grouped(asked));
+    let message =
+        format!("the table has {}, and top {top} asks for {}, F(0) to F({top})", several(found, "entry"), grouped(asked));
     Err(TextError { place, message })
-}
-
-fn entries(number: u64) -> String {
-    if number == 1 {
-        "1 entry".to_string()
-    } else {
-        format!("{} entries", grouped(number))
-    }
 }
 
 /// The text of a show. Reading it gives the same show.

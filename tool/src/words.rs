@@ -13,10 +13,13 @@ pub fn grouped(number: u64) -> String {
     out
 }
 
-/// So many things of a name, as `1 slot` or `3 slots`.
+/// So many things of a name, as `1 slot`, `3 slots` or `3 entries`.
 pub fn several(number: u64, name: &str) -> String {
-    let end = if number == 1 { "" } else { "s" };
-    format!("{} {name}{end}", grouped(number))
+    match name.strip_suffix('y') {
+        _ if number == 1 => format!("1 {name}"),
+        Some(stem) => format!("{} {stem}ies", grouped(number)),
+        None => format!("{} {name}s", grouped(number)),
+    }
 }
 
 /// Things of a name by their numbers, as `slot 21` or `slots 21 to 40`.
