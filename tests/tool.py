@@ -163,6 +163,234 @@ def coarse_keys():
     expect("a falling table, checked", lamp("check", SAMPLES / "v-shaped.card"), 0, accepted)
 
 
+E_GROUPS = ("--groups", "0,2,4,8", "--ratio", "2")
+E_GROUP_KEY = b"""# show card, version 1, 3 slots
+modules 8
+top 1
+warm-up 1
+cool-down 0
+table 0 0
+loads 5 3 5
+
+# group plan: at most 2 times the least cost of any sheet; the least cost may be lower, NOT the key of the exact plan
+# limited to the counts 0, 2, 4, 8
+cost 8
+plan 8 8 8
+slot 1: 1 1 1 1 1 0 0 0
+slot 2: 1 1 1 0 0 0 0 0
+slot 3: 1 1 1 1 1 0 0 0
+"""
+
+
+def groups(counts, ratio):
+    """The options of a plan limited to a list of counts."""
+    return "--groups", ",".join(map(str, counts)), "--ratio", str(ratio)
+
+
+def in_words(counts):
+    """Ascending counts, with neighbours taken together."""
+    runs = []
+    for count in counts:
+        if runs and runs[-1][1] + 1 == count:
+            runs[-1][1] = count
+        else:
+            runs.append([count, count])
+    return ", ".join(f"{first} to {last}" if first < last else f"{first}" for first, last in runs)
+
+
+def group_notes(counts, ratio):
+    """The lines of a group plan's key between the show and the listing."""
+    may = "; the least cost may be lower, NOT the key of the exact plan" if ratio > 1 else ", so no sheet that serves the show costs less"
+    return f"# group plan: at most {ratio} times the least cost of any sheet{may}\n# limited to the counts {in_words(counts)}\n".encode()
+
+
+def group_keys(folder):
+    """The key of a plan limited to a list of counts, with its options in any place; what it costs, and how its sheet is marked."""
+    e, blanks = SAMPLES / "e.card", ("--groups", "0, 2,  4,8", "--ratio", "2")
+    for words in ((e, *E_GROUPS), (*E_GROUPS, e), (*E_GROUPS[2:], e, *E_GROUPS[:2]), (*blanks, e), (*E_GROUPS, "--", e)):
+        expect(f"group key by {words}", lamp("key", *words), 0, E_GROUP_KEY)
+    expect("group key from standard input", lamp("key", "-", *E_GROUPS, data=e.read_bytes()), 0, E_GROUP_KEY)
+    expect("group key of a show's text", lamp("key", *E_GROUPS, "-", data=lamp("show", e)[1]), 0, E_GROUP_KEY)
+    expect("group key for a card", lamp("key", "-", data=E_GROUP_KEY), 2, b"", "this is a key, not a card")
+    expect("group key for a sheet", lamp("mark", e, "-", data=E_GROUP_KEY), 2, b"", "a sheet is its lines from 'cost' on")
+    made = {
+        "free": card(m=4, q=1, up=0, down=0, table=(0, 0), loads=(1, 0, 2)),
+        "rising": card(m=4, q=1, table=(1, 2), loads=(1, 3)),
+        "e": e.read_bytes(),
+        "empty": card(loads=()),
+        "falls": (SAMPLES / "falls-first.card").read_bytes(),
+    }
+    for name, counts, ratio, cost, plan, least in GROUP_PLANS:
+        path, told = folder / f"{name} in groups.card", f"{name}, {counts}, ratio {ratio}"
+        path.write_bytes(made[name])
+        status, out, err = lamp("key", path, *groups(counts, ratio))
+        head, _, listing = out.partition(group_notes(counts, ratio))
+        expect(f"show before the group key, {told}", (status, head, err), 0, lamp("show", path)[1] + b"\n")
+        brighter, _, listing = listing.rpartition(b"cost ")
+        expect(f"more light, {told}", (0, brighter, b""), 0, f"# {BRIGHTER}2 to 3\n".encode() if name == "falls" else b"")
+        require(f"cost and plan, {told}", listing.decode().splitlines()[:2] == [str(cost), f"plan {plan}".rstrip()])
+        marked = b"cost %d\nleast %d\nabove %d\n" % (cost, least, cost - least)
+        expect(f"marks, {told}", lamp("mark", path, "-", data=b"cost " + listing), 0, marked)
+        expect(f"points, {told}", lamp("explain", path, "-", data=b"cost " + listing), 0, explained(least, 0, 0, cost - least))
+
+
+# Cards by their names, lists and ratios, with the cost and the plan limited to the list, and the least cost.
+GROUP_PLANS = (
+    ("e", (0, 2, 4, 8), 200, 8, "8 8 8", 5),
+    ("e", (0, 5, 8), 5, 5, "5 5 5", 5),
+    ("e", (0, 8), 8, 8, "8 8 8", 5),
+    ("e", (0, 2, 6, 8), 2, 6, "6 6 6", 5),
+    ("e", (0, 3, 6, 7, 8), 3, 6, "6 6 6", 5),
+    ("free", (0, 2, 3, 4), 2, 0, "2 0 2", 0),
+    ("rising", (0, 1, 3, 4), 2, 23, "1 3", 23),
+    ("empty", (0, 1, 3), 2, 0, "", 0),
+    ("falls", (0, 2, 4), 2, 52, "4 4 4 4", 48),
+)
+
+
+def groups_as_planners():
+    """All counts with ratio 1 give the listing of the exact plan, and the powers of two with ratio 2 that of the coarse one."""
+    cards_of = {name: (SAMPLES / f"{name}.card").read_bytes() for name in ACCEPTED}
+    cards_of["200 modules"] = card(m=200, loads=tuple(37 * t % 401 for t in range(60)))
+    cards_of["1,024 slots"] = card(m=20, loads=tuple(7 * t % 41 for t in range(1024)))
+    for name, data in cards_of.items():
+        powers = sorted({0, data[5], *(2**k for k in range(8) if 2**k < data[5])})
+        for notes, options, counts, ratio in ((EXACT, (), range(data[5] + 1), 1), (COARSE, ("--coarse",), powers, 2)):
+            wanted = lamp("key", "-", *options, data=data)[1].replace(notes, group_notes(counts, ratio))
+            expect(f"{name}, {in_words(counts)}, ratio {ratio}", lamp("key", "-", *groups(counts, ratio), data=data), 0, wanted)
+
+
+RULES = "refused 18: list of counts or ratio against the rules\n"
+# Lists and ratios against the rules on a rack of 8 modules, with the places that are told.
+AGAINST_RULES = {
+    ("0", "1"): ("the list has 1 entry; it has to have 2 to 201", "entry 1, the last, is 0; it has to be 8, the number of modules"),
+    ("8", "8"): ("the list has 1 entry; it has to have 2 to 201", "entry 1 is 8; it has to be 0"),
+    ("1,2,4,8", "2"): ("entry 1 is 1; it has to be 0",),
+    ("0,2,4,7", "2"): ("entry 4, the last, is 7; it has to be 8, the number of modules",),
+    ("0,2,4,9", "3"): ("entry 4, the last, is 9; it has to be 8, the number of modules",),
+    ("0,2,4,8,8", "2"): ("entry 5 is 8; it has to be above entry 4, which is 8",),
+    ("0,2,4,9,8", "3"): ("entry 5 is 8; it has to be above entry 4, which is 9",),
+    ("0,0,8", "200"): ("entry 2 is 0; it has to be above entry 1, which is 0",),
+    ("0,4,4,2,8", "4"): ("entry 3 is 4; it has to be above entry 2, which is 4", "entry 4 is 2; it has to be above entry 3, which is 4"),
+    ("0,2,4,8", "0"): ("the ratio is 0; it has to be 1 to 200",),
+    ("0,2,4,8", "201"): ("the ratio is 201; it has to be 1 to 200",),
+    ("0,2,4,8", str(2**64 - 1)): ("the ratio is 18,446,744,073,709,551,615; it has to be 1 to 200",),
+    ("0,3,8", "2"): ("entry 2 is 3; the first entry after 0 has to be at most 2, the ratio",),
+    ("0,8", "7"): ("entry 2 is 8; the first entry after 0 has to be at most 7, the ratio",),
+    ("0,1,4,8", "2"): ("entry 3 is 4; the gap from 1 to 4 is 3, and it has to be at most 2, 2 times the gap from 0 to 1",),
+    ("0,2,3,8", "2"): ("entry 4 is 8; the gap from 3 to 8 is 5, and it has to be at most 2, 2 times the gap from 2 to 3",),
+    ("0,3,4,5,8", "2"): (
+        "entry 2 is 3; the first entry after 0 has to be at most 2, the ratio",
+        "entry 5 is 8; the gap from 5 to 8 is 3, and it has to be at most 2, 2 times the gap from 4 to 5",
+    ),
+    ("7,2,65535", "0"): (
+        "entry 1 is 7; it has to be 0",
+        "entry 3, the last, is 65,535; it has to be 8, the number of modules",
+        "entry 2 is 2; it has to be above entry 1, which is 7",
+        "the ratio is 0; it has to be 1 to 200",
+    ),
+}
+
+
+def against_rules(name, found, places):
+    """Compares a refusal by 18: nothing on standard output, and on standard error the refusal and these places alone."""
+    told = "".join(f"  {place}\n" for place in places)
+    expect(name, (found[0], found[1] + found[2], b""), 1, f"lamp: {RULES}{told}".encode())
+
+
+def refused_groups():
+    """A list or ratio against the rules is refused by 18 after the card, also without slots, and told by rule and entry."""
+    slotless = card(m=8, loads=())
+    for (counts, ratio), places in AGAINST_RULES.items():
+        for name, data in (("E", (SAMPLES / "e.card").read_bytes()), ("no slots", slotless)):
+            found = lamp("key", "-", "--groups", counts, "--ratio", ratio, data=data)
+            against_rules(f"{name}, {counts}, ratio {ratio}", found, places)
+    for command in ("page", "picture"):
+        found = lamp(command, SAMPLES / "e.card", "--groups", "0,3,8", "--ratio", "2")
+        against_rules(f"{command} of a list against the rules", found, AGAINST_RULES["0,3,8", "2"])
+    for (number, data), options in itertools.product(REFUSED_CARDS.items(), (E_GROUPS, groups((1,), 0))):
+        require(f"{number} before the list {options}", lamp("key", "-", *options, data=data) == lamp("key", "-", data=data))
+    long, high = lamp("key", "-", *groups(range(202), 1), data=card(m=200)), "entry 202, the last, is 201"
+    places = "the list has 202 entries; it has to have 2 to 201", f"{high}; it has to be 200, the number of modules"
+    against_rules("202 entries", long, places)
+    zeros = [f"entry {at} is 0; it has to be above entry {at - 1}, which is 0" for at in range(2, 13)]
+    many = lamp("key", "-", *groups([0] * 13, 1), data=card(m=1, loads=()))
+    against_rules("many places", many, ("entry 13, the last, is 0; it has to be 1, the number of modules", *zeros[:9], "and 3 more"))
+
+
+LIST_FORM = "; LIST is one word with commas, as 0,2,4,8"
+# What follows the card in a wrong use, and what is said of it.
+WRONG_GROUPS = {
+    ("--groups", "0,8"): "--groups needs --ratio RATIO beside it",
+    ("--ratio", "8"): "--ratio needs --groups LIST beside it",
+    ("--groups", "0,8", "--coarse"): "--groups needs --ratio RATIO beside it",
+    ("--coarse", "--ratio", "8"): "--ratio needs --groups LIST beside it",
+    (*E_GROUPS, "--coarse"): "--coarse and --groups are two planners",
+    ("--ratio", "2", "--groups"): "--groups names no list",
+    ("--groups", "", "--ratio", "2"): "--groups names no list",
+    ("--groups", "0,8", "--ratio"): "--ratio names no ratio",
+    ("--groups", "0,8", "--ratio", ""): "--ratio names no ratio",
+    (*E_GROUPS, "--groups", "0,2,4,8"): "--groups names two lists",
+    (*E_GROUPS, "--ratio", "2"): "--ratio names two ratios",
+    ("--groups", "0,", "2,", "4,", "8", "--ratio", "2"): f"COUNT is empty (entry 2 of LIST){LIST_FORM}",
+    ("--groups", ",0,8", "--ratio", "8"): f"COUNT is empty (entry 1 of LIST){LIST_FORM}",
+    ("--groups", "0,,8", "--ratio", "8"): f"COUNT is empty (entry 2 of LIST){LIST_FORM}",
+    ("--groups", "0, ,8", "--ratio", "8"): f"COUNT is empty (entry 2 of LIST){LIST_FORM}",
+    ("--groups", "0 2 4 8", "--ratio", "2"): f"COUNT '0 2 4 8' is not a number (entry 1 of LIST){LIST_FORM}",
+    ("--groups", " 0,8", "--ratio", "8"): f"COUNT ' 0' is not a number (entry 1 of LIST){LIST_FORM}",
+    ("--groups", "0,8 ", "--ratio", "8"): f"COUNT '8 ' is not a number (entry 2 of LIST){LIST_FORM}",
+    ("--groups", "0 ,8", "--ratio", "8"): f"COUNT '0 ' is not a number (entry 1 of LIST){LIST_FORM}",
+    ("--groups", "0,\u00a08", "--ratio", "8"): f"COUNT '\u00a08' is not a number (entry 2 of LIST){LIST_FORM}",
+    ("--groups", "0,2.5,8", "--ratio", "8"): f"COUNT 2.5 is not a number (entry 2 of LIST){LIST_FORM}",
+    ("--groups", "0,2,x", "--ratio", "2"): f"COUNT x is not a number (entry 3 of LIST){LIST_FORM}",
+    ("--groups", "0,-2,8", "--ratio", "2"): f"COUNT -2 is not a number (entry 2 of LIST){LIST_FORM}",
+    ("--groups", "0..8", "--ratio", "1"): f"COUNT 0..8 is not a number (entry 1 of LIST){LIST_FORM}",
+    ("--groups", "--ratio", "2"): f"COUNT --ratio is not a number (entry 1 of LIST){LIST_FORM}",
+    ("--groups", "0,08", "--ratio", "8"): "COUNT 08 begins with a needless 0 (entry 2 of LIST)",
+    ("--groups", "0,65536,8", "--ratio", "8"): "COUNT 65536 is above 65,535 (entry 2 of LIST)",
+    ("--groups", f"0,8,{2**64}", "--ratio", "8"): f"COUNT {2**64} is above 65,535 (entry 3 of LIST)",
+    ("--groups", "0,8", "--ratio", str(2**64)): f"RATIO {2**64} is above 18,446,744,073,709,551,615",
+    ("--groups", "0,8", "--ratio", "x"): "RATIO x is not a number",
+    ("--groups", "0,8", "--ratio", "1.5"): "RATIO 1.5 is not a number",
+    ("--groups", "0,8", "--ratio", "-8"): "RATIO -8 is not a number",
+    ("--groups", "0,8", "--ratio", "8 "): "RATIO '8 ' is not a number",
+    ("--groups", "0,8", "--ratio", "1,000"): "RATIO 1,000 is not a number; digits alone, without commas",
+    ("--groups", "0,8", "--ratio", "08"): "RATIO 08 begins with a needless 0",
+    ("--groups=0,8", "--ratio", "8"): "no option --groups=0,8",
+    (*E_GROUPS, "0"): "2 words where it takes CARD",
+}
+
+
+def wrong_groups():
+    """Options for a list of counts that cannot be read, and commands that have none; and what the help says of them."""
+    for command in ("key", "page", "picture"):
+        usage = f"usage: lamp {command} CARD [--coarse]\n       lamp {command} CARD --groups LIST --ratio RATIO\n"
+        for words, message in WRONG_GROUPS.items():
+            found = lamp(command, SAMPLES / "e.card", *words)
+            expect(f"{command} {words}", (found[0], found[1] + found[2], b""), 2, f"lamp: {command}: {message}\n{usage}".encode())
+        told = lamp(command, "--help")[1]
+        require(f"the forms in the help of {command}", told.startswith(f"{usage}{command}: ".encode()))
+        require(f"no least cost in the help of {command}", b"of any sheet; the least cost may be lower.\n" in told)
+        require(f"the list in the help of {command}", f"\n  lamp {command} CARD --groups LIST --ratio RATIO ".encode() in lamp("--help")[1])
+    line = re.search(r"^    (lamp key e\.card .*) # the rack of e\.card has 8 modules$", lamp("key", "--help")[1].decode(), re.MULTILINE)
+    expect("the example of the help", shell(line[1].replace("lamp", '"$0"', 1), cwd=SAMPLES), 0, E_GROUP_KEY)
+    for words in ("card a", "show a", "check a", "mark a b", "explain a b", "cost a 1 1", "round 1 1", "table 8", "practice 1"):
+        command = words.split()[0]
+        expect(f"{command} with a list", lamp(*words.split(), *E_GROUPS), 2, b"", f"{command}: no option --groups\nusage: lamp {command} ")
+
+
+def readme_day():
+    """README's section on the examiner's day."""
+    return (ROOT / "README.md").read_text(encoding="utf-8").partition("## The examiner's day")[2].partition("\n## ")[0]
+
+
+def readme_groups():
+    """README's command, from its folder."""
+    commands = re.findall(r"`(bin/lamp [^`]* --groups [^`]*)`", readme_day())
+    require("README has one command with a list", len(commands) == 1)
+    expect("README's key of a list", shell(commands[0], cwd=ROOT), 0, E_GROUP_KEY)
+
+
 def course_book():
     """The commands that the course book's page prints give the costs and the plans beside them, and every card of the page has one."""
     page = (ROOT / "docs" / "COURSE-BOOK.md").read_text(encoding="utf-8")
@@ -300,8 +528,7 @@ def explanations():
 
 def readme_explains(folder):
     """README's line, on the card of its day."""
-    day = (ROOT / "README.md").read_text(encoding="utf-8").partition("## The examiner's day")[2].partition("\n## ")[0]
-    lines = [line for line in day.splitlines() if "bin/lamp explain" in line]
+    lines = [line for line in readme_day().splitlines() if "bin/lamp explain" in line]
     require("README explains a sheet in one line", len(lines) == 1 and lines[0].startswith("    bin/lamp explain a.card "))
     place = new_folder(folder, "day")
     for name in ("bin", "samples"):
@@ -1091,11 +1318,11 @@ def without_references(name, root):
         ensure(f"{name}: {tag}'s style", "url(" not in (element.text or "") and "@import" not in (element.text or ""))
 
 
-def listed(path):
+def listed(path, *options):
     """The cost, the loads, the counts and the rows of steps of a card, from its key."""
     cost, loads, counts, rows = None, [], [], []
     name = None
-    for line in lamp("key", path)[1].decode().splitlines():
+    for line in lamp("key", path, *options)[1].decode().splitlines():
         words = line.partition("#")[0].split()
         name = words[0] if words and words[0][0].isalpha() else name
         numbers = words[1:] if words and words[0] == name else words
@@ -1125,18 +1352,52 @@ def pictures(folder):
         cards[name] = folder / f"{name}.card"
         cards[name].write_bytes(data)
     for name, path in cards.items():
-        cost, loads, counts, rows = listed(path)
-        own = "\n".join(f"slot {t + 1}: {' '.join(row)}" for t, row in enumerate(rows)).encode()
-        marked = b"cost %d\nleast %d\nabove 0\n" % (cost, cost)
-        expect(f"marks of the planner's sheet of {name}", lamp("mark", path, "-", data=own), 0, marked)
-        expect(f"points of the planner's sheet of {name}", lamp("explain", path, "-", data=own), 0, explained(cost, 0, 0, 0))
-        lights = [sum(int(step) for step in row if step != "-") for row in rows]
-        lights = lights if lights != loads else None
-        require(f"more light than the loads of {name}", (lights is not None) == name.startswith("fall"))
-        picture_of(name, path, cost, loads, lights, counts, rows)
-        page_of(name, path, cost, loads, lights, counts, rows)
+        cost = listed(path)[0]
+        drawn(name, (path,), f"Least cost {cost:,}", cost)
     coarse = lamp("picture", "--coarse", SAMPLES / "e.card")[1]
     require("coarse title", ElementTree.fromstring(coarse).find(f"{SVG}title").text.startswith("Coarse plan, cost 8. e.card"))
+    for command, options in itertools.product(("key", "page", "picture"), ((), ("--coarse",))):
+        require(f"{command} {options} has no list", b"limited" not in lamp(command, SAMPLES / "e.card", *options)[1])
+    group_pictures(cards)
+
+
+def group_pictures(cards):
+    """Pictures and pages of group plans. They name the counts that the plan is limited to, of many counts the picture the first ones."""
+    for name, counts, ratio, told in (
+        ("e", (0, 2, 4, 8), 2, "0, 2, 4, 8"),
+        ("falls-first", (0, 3, 4), 3, "0, 3 to 4"),
+        ("falling", tuple(range(0, 61, 10)), 10, "0, 10, 20, 30, 40, 50, and 1 more"),
+        ("33 slots", (0, 1, 2, 4, 6, 8, 12, 16, 24, 32, 48, 60), 2, "0 to 2, 4, 6, 8, 12, 16, and 4 more"),
+        ("largest", tuple(range(0, 201, 2)), 2, "0, 2, 4, 6, 8, 10, and 95 more"),
+        ("40 slots", tuple(range(27)), 1, "0 to 26"),
+    ):
+        words, least = (cards[name], *groups(counts, ratio)), listed(cards[name])[0]
+        cost = listed(*words)[0]
+        require(f"the group plan of {name} is within its ratio", least <= cost <= ratio * least)
+        drawn(f"{name} in groups", words, f"Group plan, cost {cost:,}, at most {ratio} times the least", least)
+        root = ElementTree.fromstring(lamp("picture", *words)[1])
+        lines, chart = root.findall(f"{SVG}text")[:4], int(root.findall(f"{SVG}rect")[1].get("y"))
+        require(f"the counts in the picture of {name}", lines[3].text == f"limited to the counts {told}")
+        above, here, size = int(lines[2].get("y")), int(lines[3].get("y")), int(lines[3].get("font-size"))
+        require(f"they stand between the show and the chart of {name}", above + size <= here <= chart - size // 3)
+        texts = [text.text for text in ElementTree.fromstring(lamp("page", *words)[1]).iter(f"{HTML}p")]
+        notes = [note.removeprefix("# ") + "." for note in group_notes(counts, ratio).decode().splitlines()]
+        require(f"the counts on the page of {name}", texts[1:3] == notes)
+
+
+def drawn(name, words, heading, least):
+    """The sheet of a key costs what the key says, and the picture and the page show the key. The words are the card and the options."""
+    cost, loads, counts, rows = listed(*words)
+    own = "\n".join(f"slot {t + 1}: {' '.join(row)}" for t, row in enumerate(rows)).encode()
+    marked = b"cost %d\nleast %d\nabove %d\n" % (cost, least, cost - least)
+    expect(f"marks of the planner's sheet of {name}", lamp("mark", words[0], "-", data=own), 0, marked)
+    points = lamp("explain", words[0], "-", data=own)
+    expect(f"points of the planner's sheet of {name}", points, 0, explained(least, 0, 0, cost - least))
+    lights = [sum(int(step) for step in row if step != "-") for row in rows]
+    lights = lights if lights != loads else None
+    require(f"more light than the loads of {name}", (lights is not None) == name.startswith("fall"))
+    picture_of(name, words, heading, loads, lights, counts, rows)
+    page_of(name, words, heading, loads, lights, counts, rows)
 
 
 class Grid:
@@ -1155,13 +1416,13 @@ class Grid:
         return self.left + slot * self.wide + self.wide // 2
 
 
-def picture_of(name, path, cost, loads, lights, counts, rows):
+def picture_of(name, words, heading, loads, lights, counts, rows):
     """The picture shows the show's loads, counts and steps, each in its place, and the light where some slot gets more than its load."""
-    root = ElementTree.fromstring(lamp("picture", path)[1])
+    root = ElementTree.fromstring(lamp("picture", *words)[1])
     without_references(f"picture of {name}", root)
     title = root.find(f"{SVG}title").text
-    require(f"title of {name}", title.startswith(f"Least cost {cost:,}. {path.name}: ") and "modules, top step" in title)
-    head = path.read_bytes()
+    require(f"title of {name}", title.startswith(f"{heading}. {words[0].name}: ") and "modules, top step" in title)
+    head = words[0].read_bytes()
     grid = Grid(root, len(loads), head[5])
     shaded(name, root, grid, rows)
     lines = {"#d9a300": (lights, head[5] * head[6])} if lights else {}
@@ -1228,15 +1489,15 @@ def written(name, grid, texts, loads, counts, rows):
     require(f"steps in the picture of {name}", inside == wanted)
 
 
-def page_of(name, path, cost, loads, lights, counts, rows):
+def page_of(name, words, heading, loads, lights, counts, rows):
     """The page holds the show, the cost, the plan and the sheet, each number in its place, and the light where some slot gets more than its
     load."""
-    root = ElementTree.fromstring(lamp("page", path)[1])
+    root = ElementTree.fromstring(lamp("page", *words)[1])
     said = [text.text for text in root.iter(f"{HTML}p") if text.text.startswith(BRIGHTER)]
     require(f"the page of {name} says where there is more light", len(said) == (1 if lights else 0))
     without_references(f"page of {name}", root)
-    require(f"heading of {name}", root.find(f"{HTML}body/{HTML}h1").text == f"Least cost {cost:,}")
-    require(f"show of {name}", root.find(f".//{HTML}pre").text.encode() == lamp("show", path)[1])
+    require(f"heading of {name}", root.find(f"{HTML}body/{HTML}h1").text == heading)
+    require(f"show of {name}", root.find(f".//{HTML}pre").text.encode() == lamp("show", words[0])[1])
     require(f"picture of {name}", root.find(f".//{SVG}svg") is not None)
     cells = lambda element: [cell.text or "" for cell in element if cell.tag in (f"{HTML}th", f"{HTML}td")]
     plans = [table for table in root.iter(f"{HTML}table") if table.get("class") is None]
@@ -1252,8 +1513,8 @@ def page_of(name, path, cost, loads, lights, counts, rows):
         return
     modules = len(rows[0])
     names = ["slot", "load", *(["light"] if lights else []), "count"]
-    heading = [*names, *(["modules"] if modules > 25 else []), *map(str, range(1, min(modules, 25) + 1))]
-    require(f"heading of the sheet of {name}", cells(sheet.find(f"{HTML}thead")[0]) == heading)
+    columns = [*names, *(["modules"] if modules > 25 else []), *map(str, range(1, min(modules, 25) + 1))]
+    require(f"heading of the sheet of {name}", cells(sheet.find(f"{HTML}thead")[0]) == columns)
     wanted = []
     for slot, row in enumerate(rows):
         lines = [row[at : at + 25] for at in range(0, modules, 25)]
@@ -1266,7 +1527,8 @@ def page_of(name, path, cost, loads, lights, counts, rows):
 WRONG = """
 #include "lamp.h"
 /* Answers as a library does whose sheet costs one point more than its planner says, unless the rack has one module. Then it
- * explains a sheet wrongly for most top steps. It refuses to mark a sheet that begins with step 1. */
+ * explains a sheet wrongly for most top steps. It refuses to mark a sheet that begins with step 1. With counts 0 and 3 and areas just as
+ * long as asked for, it plans at the sheet's cost for ratio 1, and so with a count that is not in the list for ratio 2. */
 struct lamp_answer lamp_check_card(const uint8_t *card, size_t card_len) { (void)card, (void)card_len; return (struct lamp_answer){0, 0}; }
 struct lamp_answer lamp_running_cost(const uint8_t *card, size_t card_len, uint64_t count, uint64_t load)
 { (void)card, (void)card_len, (void)count, (void)load; return (struct lamp_answer){13, 7}; }
@@ -1274,6 +1536,17 @@ struct lamp_answer lamp_plan_exact(const uint8_t *card, size_t card_len, uint8_t
 { (void)card_len, (void)plan, (void)plan_len, (void)work, (void)work_len; return (struct lamp_answer){0, card[5] == 1 ? 33 : 32}; }
 struct lamp_answer lamp_plan_coarse(const uint8_t *card, size_t card_len, uint8_t *plan, size_t plan_len, uint8_t *work, size_t work_len)
 { (void)card, (void)card_len, (void)plan, (void)plan_len, (void)work, (void)work_len; return (struct lamp_answer){99, 0}; }
+struct lamp_answer lamp_plan_groups(
+    const uint8_t *card, size_t card_len, const uint16_t *list, size_t list_len, uint64_t ratio, uint8_t *plan, size_t plan_len,
+    uint8_t *work, size_t work_len)
+{
+    static const struct lamp_answer given[] = {{0, 32}, {0, 33}, {0, 33}, {18, 0}, {18, 7}, {99, 0}};
+    (void)card, (void)card_len, (void)work;
+    if (list_len != 2 || list[0] != 0 || list[1] != 3 || plan_len != 3 || work_len != 6)
+        return (struct lamp_answer){99, 0};
+    plan[2] = ratio == 2 ? 1 : 3;
+    return given[ratio];
+}
 struct lamp_answer lamp_sheet(const uint8_t *card, size_t card_len, const uint8_t *plan, size_t plan_len, uint8_t *sheet, size_t sheet_len)
 { (void)card, (void)card_len, (void)plan, (void)plan_len, (void)sheet, (void)sheet_len; return (struct lamp_answer){0, 33}; }
 struct lamp_answer lamp_mark(const uint8_t *card, size_t card_len, const uint8_t *sheet, size_t sheet_len)
@@ -1317,6 +1590,23 @@ def a_wrong_library(folder):
         expect(f"a show of top {top} over a wrong library", found, 2, b"", "a fault of the tool; nothing was written")
     require("no card of a wrong library", contents(into) == {})
     wrong_explanations(folder, wrong)
+    wrong_group_plans(wrong)
+
+
+def wrong_group_plans(wrong):
+    """A group plan is printed only if its sheet costs what it names and its counts are in the list. A refusal by 18 for which no rule is
+    found is the number and its words alone."""
+    a = SAMPLES / "a.card"
+    for ratio in range(6):
+        ended = subprocess.run([wrong, "key", a, *groups((0, 3), ratio)], capture_output=True)
+        found, name = (ended.returncode, ended.stdout, ended.stderr), f"ratio {ratio} over a wrong library"
+        if ratio == 1:
+            listing = b"cost 33\nplan 0 0 3\nslot 1: 0 0 0\nslot 2: 0 0 0\nslot 3: 0 0 0\n"
+            expect(name, found, 0, A_TEXT + b"\n" + group_notes((0, 3), 1) + listing)
+        elif ratio == 3:
+            against_rules(name, found, ())
+        else:
+            expect(name, found, 2, b"", "a fault of the tool; nothing was written")
 
 
 def wrong_explanations(folder, wrong):
@@ -1339,6 +1629,11 @@ with tempfile.TemporaryDirectory() as place:
     shows_and_cards()
     checks()
     keys()
+    group_keys(pathlib.Path(place))
+    groups_as_planners()
+    refused_groups()
+    wrong_groups()
+    readme_groups()
     course_book()
     course_book_list()
     marks()
