@@ -268,12 +268,15 @@ AGAINST_RULES = {
     ("1,2,4,8", "2"): ("entry 1 is 1; it has to be 0",),
     ("0,2,4,7", "2"): ("entry 4, the last, is 7; it has to be 8, the number of modules",),
     ("0,2,4,9", "3"): ("entry 4, the last, is 9; it has to be 8, the number of modules",),
+    ("0,2,4,264", "200"): ("entry 4, the last, is 264; it has to be 8, the number of modules",),
     ("0,2,4,8,8", "2"): ("entry 5 is 8; it has to be above entry 4, which is 8",),
     ("0,2,4,9,8", "3"): ("entry 5 is 8; it has to be above entry 4, which is 9",),
     ("0,0,8", "200"): ("entry 2 is 0; it has to be above entry 1, which is 0",),
     ("0,4,4,2,8", "4"): ("entry 3 is 4; it has to be above entry 2, which is 4", "entry 4 is 2; it has to be above entry 3, which is 4"),
     ("0,2,4,8", "0"): ("the ratio is 0; it has to be 1 to 200",),
     ("0,2,4,8", "201"): ("the ratio is 201; it has to be 1 to 200",),
+    ("0,2,4,8", "258"): ("the ratio is 258; it has to be 1 to 200",),
+    ("0,2,4,8", str(2**32 + 2)): ("the ratio is 4,294,967,298; it has to be 1 to 200",),
     ("0,2,4,8", str(2**64 - 1)): ("the ratio is 18,446,744,073,709,551,615; it has to be 1 to 200",),
     ("0,3,8", "2"): ("entry 2 is 3; the first entry after 0 has to be at most 2, the ratio",),
     ("0,8", "7"): ("entry 2 is 8; the first entry after 0 has to be at most 7, the ratio",),
@@ -316,6 +319,27 @@ def refused_groups():
     zeros = [f"entry {at} is 0; it has to be above entry {at - 1}, which is 0" for at in range(2, 13)]
     many = lamp("key", "-", *groups([0] * 13, 1), data=card(m=1, loads=()))
     against_rules("many places", many, ("entry 13, the last, is 0; it has to be 1, the number of modules", *zeros[:9], "and 3 more"))
+
+
+def keeps_rules(counts, ratio, modules):
+    """The rules of document 02 section 8 for a list of counts and its ratio."""
+    gaps = [high - low for low, high in itertools.pairwise(counts)]
+    ends = 2 <= len(counts) <= 201 and (counts[0], counts[-1]) == (0, modules)
+    narrow = all(after <= ratio * before for before, after in itertools.pairwise(gaps))
+    return ends and min(gaps) > 0 and 1 <= ratio <= 200 and counts[1] <= ratio and narrow
+
+
+def rules_of_groups():
+    """Every short list of small counts is planned if it keeps the rules, and else refused by 18 with a place at least."""
+    lists = [counts for length in (1, 2, 3) for counts in itertools.product(range(6), repeat=length)]
+    lists += [counts for length in (4, 5) for counts in itertools.combinations(range(6), length)]
+    for ratio in range(5):
+        for counts in lists:
+            status, out, err = lamp("key", "-", *groups(counts, ratio), data=card(m=4, loads=()))
+            told = err.startswith(f"lamp: {RULES}  ".encode()) and not out
+            found = (status, told) == ((0, False) if keeps_rules(counts, ratio, 4) else (1, True))
+            ensure(f"{counts} and ratio {ratio}, which gives {status}, {err}", found)
+        require(f"the lists of ratio {ratio}", any(keeps_rules(counts, ratio, 4) for counts in lists) == (ratio > 0))
 
 
 LIST_FORM = "; LIST is one word with commas, as 0,2,4,8"
@@ -1632,6 +1656,7 @@ with tempfile.TemporaryDirectory() as place:
     group_keys(pathlib.Path(place))
     groups_as_planners()
     refused_groups()
+    rules_of_groups()
     wrong_groups()
     readme_groups()
     course_book()
