@@ -2,11 +2,13 @@
 //! document 01 and from section 2 of document 02, `practice` from section 1 of document 02, `history` and `values` from its section 4,
 //! `catalogue` from its section 5, and `explanation` from its section 7.
 pub mod acts;
+pub mod areas;
 pub mod boundary;
 pub mod cards;
 pub mod catalogue;
 pub mod classes;
 pub mod explanation;
+pub mod faults;
 pub mod history;
 pub mod plain;
 pub mod points;

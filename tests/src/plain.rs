@@ -285,17 +285,26 @@ pub fn sheet(card: &[u8], plan: &[u8], sheet: &[u8]) -> Outcome {
     Outcome { answer: Answer::cost(show.sheet_cost(&made)), buffers: vec![written(&made, sheet)] }
 }
 
+/// A planner that refuses leaves both areas as they were.
+pub fn unplanned(number: u64, plan: &[u8], work: &[u8]) -> Outcome {
+    Outcome { answer: Answer::refused(number), buffers: vec![plan.to_vec(), work.to_vec()] }
+}
+
+/// What a planner over these counts does with an accepted card, if it asks for so many bytes of work.
+pub fn plan_over(show: &Show, counts: &[u64], asked: usize, plan: &[u8], work: &[u8]) -> Outcome {
+    if plan.len() < show.slots() || work.len() < asked {
+        return unplanned(10, plan, work);
+    }
+    let (cost, least) = show.least_plan(counts);
+    Outcome { answer: Answer::cost(cost), buffers: vec![written(&least, plan), written(&vec![0; asked], work)] }
+}
+
 pub fn plan(planner: Planner, card: &[u8], plan: &[u8], work: &[u8]) -> Outcome {
-    let refused = |number| Outcome { answer: Answer::refused(number), buffers: vec![plan.to_vec(), work.to_vec()] };
     let show = match read_card(card) {
         Ok(show) => show,
-        Err(number) => return refused(number),
+        Err(number) => return unplanned(number, plan, work),
     };
     let coarse = planner == Planner::Coarse;
     let asked = if coarse { 10 * show.slots() } else { (show.modules as usize + 1) * show.slots() };
-    if plan.len() < show.slots() || work.len() < asked {
-        return refused(10);
-    }
-    let (cost, least) = show.least_plan(&show.counts(coarse));
-    Outcome { answer: Answer::cost(cost), buffers: vec![written(&least, plan), written(&vec![0; asked], work)] }
+    plan_over(&show, &show.counts(coarse), asked, plan, work)
 }

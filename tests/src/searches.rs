@@ -3,11 +3,11 @@ use crate::boundary::{mark, Answer};
 use crate::cards::Card;
 use crate::plain::{Show, OFF};
 
-/// All lists of `length` bytes from `bytes`, the last place counting slowest.
-fn lists(bytes: &[u8], length: usize) -> Vec<Vec<u8>> {
+/// All lists of `length` entries from `entries`, the last place counting slowest.
+pub fn lists<T: Copy>(entries: &[T], length: usize) -> Vec<Vec<T>> {
     let mut out = vec![Vec::new()];
     for _ in 0..length {
-        out = bytes.iter().flat_map(|byte| out.iter().map(move |list: &Vec<u8>| [&list[..], &[*byte]].concat())).collect();
+        out = entries.iter().flat_map(|entry| out.iter().map(move |list: &Vec<T>| [&list[..], &[*entry]].concat())).collect();
     }
     out
 }

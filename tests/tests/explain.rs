@@ -1,9 +1,11 @@
 //! `lamp_explain`: the three numbers against searches through all sheets, all patterns and all plans, and against section 7 of document 02
 //! written out plainly; their sum; the refusals and their order; and every byte of the work area and beside it.
+use lamp_tests::areas::{self, lent, BESIDE};
 use lamp_tests::boundary::{self, mark, planned, Planner, BOTH};
 use lamp_tests::cards::{card_a, largest, lowest_at, small, Card};
 use lamp_tests::classes::Classes;
 use lamp_tests::explanation;
+use lamp_tests::faults::{self, set, Change, Fault};
 use lamp_tests::plain::{self, Show, OFF};
 use lamp_tests::points::{self, difference, Outcome, Points};
 use lamp_tests::random::Random;
@@ -13,14 +15,6 @@ use std::collections::HashMap;
 use std::ops::Range;
 
 const D: [u8; 9] = [2, 2, 2, OFF, 0, OFF, 2, OFF, OFF];
-
-/// How many bytes stand before the work area and after it that are not lent.
-const BESIDE: usize = 3;
-
-/// The bytes that a call with `length` bytes of work is lent, in an area that begins and ends with bytes that are not.
-fn lent(length: usize) -> Range<usize> {
-    BESIDE..BESIDE + length
-}
 
 fn compare(card: &[u8], sheet: &[u8], area: &[u8], lent: Range<usize>) -> Points {
     let found = points::explain(card, sheet, area, lent.clone());
@@ -460,36 +454,14 @@ fn largest_shows() {
 
 // ---------------------------------------------------------------- refusals and the work area
 
-/// What a call is handed and lent: at first card A, example D's sheet and just the work bytes that are asked for.
+/// What a call is handed and lent beside card A: at first example D's sheet and just the work bytes that are asked for.
 struct Request {
-    card: Vec<u8>,
     sheet: Vec<u8>,
     work: usize,
 }
 
-fn set(bytes: &mut [u8], at: usize, value: u8) {
-    if let Some(byte) = bytes.get_mut(at) {
-        *byte = value;
-    }
-}
-
-/// A refusal, and a change of a request that brings it about. No change undoes another one.
-type Fault = (u64, fn(&mut Request));
-
-const FAULTS: [Fault; 22] = [
-    (1, |request| request.card.truncate(16)),
-    (1, |request| set(&mut request.card, 2, 0)),
-    (2, |request| set(&mut request.card, 3, 2)),
-    (2, |request| set(&mut request.card, 4, 1)),
-    (3, |request| set(&mut request.card, 5, 0)),
-    (3, |request| set(&mut request.card, 6, 201)),
-    (4, |request| set(&mut request.card, 8, 4)),
-    (5, |request| request.card.truncate(34)),
-    (6, |request| set(&mut request.card, 12, 255)),
-    (6, |request| set(&mut request.card, 16, 255)),
-    (6, |request| set(&mut request.card, 28, 255)),
-    (7, |request| set(&mut request.card, 21, 3)),
-    (8, |request| set(&mut request.card, 29, 7)),
+/// The faults of the sheet and the work area. No change undoes another one.
+const FAULTS: [(u64, Change<Request>); 9] = [
     (10, |request| request.work = 11.min(request.work)),
     (10, |request| request.work = 0),
     (11, |request| request.sheet.truncate(8)),
@@ -502,22 +474,18 @@ const FAULTS: [Fault; 22] = [
 ];
 
 /// The request with these faults is refused by the lowest of their numbers. All three numbers are 0, and no byte is altered.
-fn refuse(classes: &mut Classes, faults: [&Fault; 3]) {
-    let mut request = Request { card: card_a(), sheet: D.to_vec(), work: 12 };
-    faults.iter().for_each(|(_, change)| change(&mut request));
-    let wanted = faults.iter().map(|(number, _)| *number).min().unwrap();
+fn refuse(classes: &mut Classes, three: [&Fault<Request>; 3]) {
+    let numbers = faults::numbers(&three);
+    let (card, request) = faults::request(&three, Request { sheet: D.to_vec(), work: 12 });
     for paint in [7, 255] {
         let area = vec![paint; 2 * BESIDE + request.work];
-        let expected = Outcome { points: points::refused(wanted), area: area.clone() };
-        let found = points::explain(&request.card, &request.sheet, &area, lent(request.work));
-        let text = || format!("faults {:?}, card {:?}, sheet {:?}", faults.map(|fault| fault.0), request.card, request.sheet);
+        let expected = Outcome { points: points::refused(numbers[0]), area: area.clone() };
+        let found = points::explain(&card, &request.sheet, &area, lent(request.work));
+        let text = || format!("faults {numbers:?}, card {card:?}, sheet {:?}", request.sheet);
         difference(&found, &expected).unwrap_or_else(|difference| panic!("{difference}; {}", text()));
     }
-    classes.see_number(wanted);
-    let mut numbers = faults.map(|fault| fault.0).to_vec();
-    numbers.sort_unstable();
-    numbers.dedup();
-    classes.see(["one number", "two numbers", "three numbers"][numbers.len() - 1]);
+    classes.see_number(numbers[0]);
+    classes.see(faults::together(&numbers));
     if numbers.starts_with(&[10, 11]) {
         classes.see("10 and 11");
     }
@@ -526,13 +494,9 @@ fn refuse(classes: &mut Classes, faults: [&Fault; 3]) {
 /// Every fault, every two of them and every three.
 #[test]
 fn lowest_number_wins() {
-    let names = ["one number", "two numbers", "three numbers", "10 and 11"];
+    let names = [&faults::TOGETHER[..], &["10 and 11"]].concat();
     let mut classes = Classes::new("explanations refused for up to three faults", &names).with_numbers((1..=8).chain(10..=13));
-    for (first, one) in FAULTS.iter().enumerate() {
-        for (second, two) in FAULTS.iter().enumerate().skip(first) {
-            FAULTS[second..].iter().for_each(|three| refuse(&mut classes, [one, two, three]));
-        }
-    }
+    faults::every_three(&faults::all(&FAULTS), |three| refuse(&mut classes, three));
     classes.require_all();
 }
 
@@ -589,22 +553,11 @@ fn spoil(random: &mut Random, sheet: &mut Vec<u8>, top: u8) {
     }
 }
 
-/// Draws the length of the work area, mostly the one that is asked for, and names its class.
-fn random_length(random: &mut Random, asked: usize) -> (usize, &'static str) {
-    match random.below(8) {
-        0 if asked > 0 => (asked - 1, "work one short"),
-        1 => (0, "work empty"),
-        2 | 3 => (asked + 1 + random.below(5) as usize, "work longer"),
-        _ => (asked, "work exact"),
-    }
-}
-
 /// Cards, sheets and work areas with every fault and with none, against the plain rules. A sheet is explained exactly if it is marked and the
 /// work area is long enough.
 #[test]
 fn random_requests() {
-    let names = ["work exact", "work one short", "work empty", "work longer"];
-    let mut classes = classes("explanations of 60,000 requests (seed 74)", &names, (0..=8).chain(10..=13));
+    let mut classes = classes("explanations of 60,000 requests (seed 74)", &areas::LENGTHS, (0..=8).chain(10..=13));
     let mut random = Random::new(74);
     for _ in 0..60_000 {
         let (modules, top, slots) = (1 + random.below(5), 1 + random.below(4), random.below(5));
@@ -613,7 +566,7 @@ fn random_requests() {
         let bytes = shows::damaged(&mut random, &card);
         spoil(&mut random, &mut sheet, card.top);
         let asked = ((modules + 1) * slots) as usize;
-        let (length, class) = random_length(&mut random, asked);
+        let (length, class) = areas::length(&mut random, asked);
         let area: Vec<u8> = (0..length + 2 * BESIDE).map(|_| random.below(256) as u8).collect();
         let found = compare(&bytes, &sheet, &area, lent(length));
         let marked = mark(&bytes, &sheet).number == 0;

@@ -1,6 +1,7 @@
 //! `lamp_plan_exact` and `lamp_plan_coarse` against searches through all sheets with enough light and through all plans, and against a
 //! plain dynamic program; and that no call gives 9.
 use lamp_tests::acts::{self, Act, Seat, Sitting};
+use lamp_tests::areas;
 use lamp_tests::boundary::{self, difference, mark, Answer, Outcome, Planner, BOTH};
 use lamp_tests::cards::{card_a, largest, lowest_at, small, Card};
 use lamp_tests::classes::Classes;
@@ -215,8 +216,7 @@ fn largest_show() {
 /// Every refusal, with areas exact, one short, empty and longer.
 #[test]
 fn refusals() {
-    let names = ["area exact", "area one short", "area empty", "area longer"];
-    let mut classes = Classes::new("planners' refusals (seed 81)", &names).with_numbers((0..=8).chain([10]));
+    let mut classes = Classes::new("planners' refusals (seed 81)", &areas::LENGTHS).with_numbers((0..=8).chain([10]));
     let mut random = Random::new(81);
     for _ in 0..30_000 {
         let (modules, top, slots) = (1 + random.below(9), 1 + random.below(5), random.below(5));
@@ -224,13 +224,8 @@ fn refusals() {
         let bytes = shows::damaged(&mut random, &card);
         let planner = random.pick(&BOTH);
         let asked = if planner == Planner::Exact { (modules + 1) * slots } else { 10 * slots } as usize;
-        let mut area = |asked: usize| match random.below(8) {
-            0 if asked > 0 => (asked - 1, "area one short"),
-            1 => (0, "area empty"),
-            2 | 3 => (asked + 1 + random.below(5) as usize, "area longer"),
-            _ => (asked, "area exact"),
-        };
-        let ((plan, first), (work, second)) = (area(slots as usize), area(asked));
+        let (plan, first) = areas::length(&mut random, slots as usize);
+        let (work, second) = areas::length(&mut random, asked);
         let found = compare(planner, &bytes, &vec![7; plan], &vec![9; work]);
         classes.see_number(found.answer.number);
         classes.see(first);
