@@ -11,10 +11,10 @@
  * step from 0 to Q. Each slot has a load, and the steps of its active modules must sum to at least that
  * load. More light is allowed, because the projectors have a shutter. An active module costs points in
  * each slot, and switching a module on or off costs points too. The library finds how many modules should
- * be active in each slot, and at which steps, so that the whole show costs the least. It also gives the
- * cost of any other choice and tells where its points above the least went, it makes practice cards, each
- * from a number, it writes the table of the catalogue module into a card, and it keeps the rules of a
- * sitting, in which candidates submit sheets.
+ * be active in each slot, and at which steps, so that the whole show costs the least. It also plans for a
+ * rack that allows certain counts only, gives the cost of any other choice and tells where its points
+ * above the least went, it makes practice cards, each from a number, it writes the table of the catalogue
+ * module into a card, and it keeps the rules of a sitting, in which candidates submit sheets.
  *
  *
  * HOW TO LINK IT
@@ -169,6 +169,60 @@
  *
  * Several plans may have the least cost. Both planners then give the one with the smallest count in slot
  * T; among those the one with the smallest count in slot T - 1; and so on back to slot 1.
+ *
+ *
+ * A RACK THAT SWITCHES IN GROUPS
+ *
+ * The cooling of some racks allows certain counts only. lamp_plan_groups plans for such a rack. The host
+ * hands it the allowed counts as a list, an array of uint16_t, and a whole number, the ratio r. The call
+ * gives a plan of least cost among the plans whose counts are all in the list. If there are several, it
+ * gives the one that has the smallest count in slot T, and so on back, as the two planners do. It is proved
+ * that after number 0 the cost is at most r times the least cost of any sheet that serves the show,
+ * whatever the counts of that sheet are.
+ *
+ * The list and the ratio must keep these rules, else the call on an accepted card gives refusal 18:
+ *
+ *   ratio     It is from 1 to LAMP_MAX_RATIO.
+ *   entries   There are 2 to LAMP_MAX_LIST of them. The first is 0, the last is m, and each is larger than
+ *             the one before it. So there are at most m + 1.
+ *   gaps      A gap is the difference between two neighbouring entries. The first gap, which is the entry
+ *             after 0, is at most r. Each later gap is at most r times the gap before it.
+ *
+ * All entries are looked at, whatever T is, also in a show without slots.
+ *
+ * The ratio says how much the plan may cost, and it does not change the plan: a list that keeps the rules
+ * with some ratio keeps them with every higher one up to LAMP_MAX_RATIO, and the plan and its cost are the
+ * same. So the smallest ratio with which a list keeps the rules says the most. With ratio 1 just one list
+ * keeps them, that of all counts from 0 to m: then the plan and its cost are those of lamp_plan_exact. The
+ * allowed counts of lamp_plan_coarse keep them with ratio 2: then the plan and its cost are those of
+ * lamp_plan_coarse.
+ *
+ * An example, in hex: m = 8, Q = 1, T = 3, warm-up price 1, cool-down price 0, F = 0 0, loads 5 3 5.
+ *     44 4C 53 01 00 08 01 03 00 01 00 00 00 00 00 00 00 00 00 00 00 00 00 00 00 05 00 03 00 05 00
+ * lamp_plan_exact gives cost 5 and the plan 5 5 5. If the modules switch in groups, of which the allowed
+ * counts are 0, 2, 4 and 8, the gaps are 2, 2 and 4, and the list keeps the rules with ratio 2. The other
+ * buffers are those of A SHORT HOST above.
+ *
+ *     static const uint16_t list[] = {0, 2, 4, 8};
+ *     const size_t list_len = sizeof list / sizeof list[0];
+ *     struct lamp_answer grouped = lamp_plan_groups(card, card_len, list, list_len, 2, plan, sizeof plan,
+ *                                                   work, sizeof work);
+ *     if (grouped.number == 0)
+ *         printf("cost %llu, at most twice the least\n", (unsigned long long)grouped.cost);
+ *     else
+ *         printf("refused %u\n", (unsigned)grouped.number);
+ *
+ * The call gives cost 8 and the plan 8 8 8, since only count 8 can serve load 5, and to switch four modules
+ * off in slot 2 and on again in slot 3 would cost 4 points more. With ratio 1 it gives refusal 18: the
+ * entry after 0 is 2.
+ *
+ * A work buffer that is long enough for lamp_plan_exact is so for every list that keeps the rules. The plan
+ * is T bytes, like every plan, and lamp_sheet makes its sheet.
+ *
+ * list_len counts entries, and not bytes. If a host puts a number of more than 16 bits into the list, C
+ * takes its low 16 bits: 65,540 becomes 4. So a host that reads a list from its user first looks whether
+ * each number is at least 0 and at most UINT16_MAX. The ratio has 64 bits, so a host hands on the number
+ * itself. If it gives a negative number as the ratio, C makes it a number far above LAMP_MAX_RATIO.
  *
  *
  * WHERE THE POINTS WENT
@@ -416,10 +470,12 @@
  * cost 0. lamp_explain gives spread, swaps and counts in the place of the cost, and all three are 0 with a
  * refusal. If several refusals apply, the call gives the lowest number, wherever in the input each of them
  * lies. For example, a count above m in the last slot (12) is given before a count in slot 1 that cannot
- * serve (13). Two calls have an order of their own. lamp_practice_card tests 14 before 10, so start 0
- * gives 14 with every buffer, also with one of length 0. lamp_sitting_submit tests 15, 16 and 17 before
- * 11, 12 and 13, so a caller that may not submit is told nothing of the sheet. The comment at each call
- * below has its refusals in the order in which they are tested. No call sets errno.
+ * serve (13). Three calls have an order of their own. lamp_practice_card tests 14 before 10, so start 0
+ * gives 14 with every buffer, also with one of length 0. lamp_plan_groups tests 18 after 8 and before 10,
+ * so on an accepted card a list or ratio against the rules gives 18 with every plan and work buffer.
+ * lamp_sitting_submit tests 15, 16 and 17 before 11, 12 and 13, so a caller that may not submit is told
+ * nothing of the sheet. The comment at each call below has its refusals in the order in which they are
+ * tested. No call sets errno.
  *
  * The acts of a sitting give a third number, marked, and the sitting. marked is 1 only where
  * lamp_sitting_lowest gives a lowest cost, so that a candidate without a marked sheet can be told from
@@ -434,17 +490,18 @@
  *
  * BUFFERS
  *
- * A buffer is a pointer and a length in bytes; only the list of seats has its length in records. All
- * buffers belong to the host, and a call uses them until it returns and no longer. A buffer must be as
- * long as its length says, no two buffers of a call may overlap, and a list of seats must be aligned to 8
- * bytes, as every array of struct lamp_seat in C is: these three rules the library cannot check. A buffer
- * of length 0 may come with any pointer, also NULL.
+ * A buffer is a pointer and a length in bytes; only the list of counts has its length in entries, and the
+ * list of seats in records. All buffers belong to the host, and a call uses them until it returns and no
+ * longer. A buffer must be as long as its length says, no two buffers of a call may overlap, and a list
+ * must be aligned, a list of counts to 2 bytes and a list of seats to 8, as every array of uint16_t and of
+ * struct lamp_seat in C is: these three rules the library cannot check. A buffer of length 0 may come with
+ * any pointer, also NULL.
  *
- * Buffers that are read (card of every call but lamp_practice_card, a plan given to lamp_sheet, a sheet
- * given to lamp_mark, lamp_explain or lamp_sitting_submit) have exactly the length of what they hold. So a
- * plan is given to lamp_sheet with length T, even if it lies in a longer array. A host that reads a card
- * from a file needs LAMP_MAX_CARD + 1 bytes for it and may leave the rest of the file unread: a card of
- * that length is refused like any longer one.
+ * Buffers that are read (card of every call but lamp_practice_card, list of lamp_plan_groups, a plan given
+ * to lamp_sheet, a sheet given to lamp_mark, lamp_explain or lamp_sitting_submit) have exactly the length
+ * of what they hold, and no call alters them. So a plan is given to lamp_sheet with length T, even if it
+ * lies in a longer array. A host that reads a card from a file needs LAMP_MAX_CARD + 1 bytes for it and may
+ * leave the rest of the file unread: a card of that length is refused like any longer one.
  *
  * Buffers that are written (plan and work of a planner or of lamp_sitting_open, work of lamp_explain, sheet
  * of lamp_sheet, card of lamp_practice_card, table of lamp_catalogue_table) have at least the length that
@@ -459,6 +516,7 @@
  *   plan                            T
  *   work of lamp_plan_exact         (m + 1) * T, also of lamp_explain and lamp_sitting_open
  *   work of lamp_plan_coarse        10 * T, for every m
+ *   work of lamp_plan_groups        list_len * T, at most (m + 1) * T where the list keeps the rules
  *   sheet                           m * T
  *   card of lamp_practice_card      17 + 4(Q + 1) + 2T of the practice card, at most LAMP_MAX_PRACTICE
  *   table of lamp_catalogue_table   4(top + 1), at most LAMP_MAX_TABLE for a top from 1 to 200
@@ -502,7 +560,7 @@ extern "C" {
 #endif
 
 /* The release of this library. */
-#define LAMP_RELEASE "2.5.0"
+#define LAMP_RELEASE "2.6.0"
 
 /* The version of the cards that this library accepts, and of those that it makes. */
 #define LAMP_CARD_VERSION 1
@@ -511,7 +569,8 @@ extern "C" {
 #define LAMP_OFF 255
 
 /* The sizes that are enough for every card, for every start and for every top step, in bytes. A host whose buffers have
- * these sizes never gets refusal 10. The work of lamp_explain and of lamp_sitting_open is that of lamp_plan_exact. */
+ * these sizes never gets refusal 10. The work of lamp_explain and of lamp_sitting_open is that of lamp_plan_exact, and
+ * its size is enough for the work of lamp_plan_groups too. */
 #define LAMP_MAX_CARD 2869         /* a card of Q 200 and T 1,024: 17 + 4 * (200 + 1) + 2 * 1,024 */
 #define LAMP_MAX_PLAN 1024         /* a plan of T 1,024 */
 #define LAMP_MAX_EXACT_WORK 205824 /* work of lamp_plan_exact for m 200 and T 1,024: (200 + 1) * 1,024 */
@@ -519,6 +578,10 @@ extern "C" {
 #define LAMP_MAX_SHEET 204800      /* a sheet of m 200 and T 1,024: 200 * 1,024 */
 #define LAMP_MAX_PRACTICE 949      /* a practice card of Q 200 and T 64 (start 6,548): 17 + 4 * (200 + 1) + 2 * 64 */
 #define LAMP_MAX_TABLE 804         /* table of lamp_catalogue_table for top 200: 4 * (200 + 1) */
+
+/* The most entries of a list of counts that keeps the rules, and the largest ratio. */
+#define LAMP_MAX_LIST 201
+#define LAMP_MAX_RATIO 200
 
 /* The most seats of a sitting, and its largest allowance. A list of seats may have more records: those after the 32nd
  * are not used. */
@@ -588,7 +651,7 @@ LAMP_ASSERT_SIZE(struct lamp_reply, 56)
 #undef LAMP_ASSERT_SIZE
 
 /* The refusals. The word before the colon is that of the papers which define the planner. They have no words for 14 to
- * 17, and `start`, `right`, `seat` and `allowance` are taken from what they say of them. */
+ * 18, and `start`, `right`, `seat`, `allowance` and `groups` are taken from what they say of them. */
 enum lamp_refusal {
     LAMP_NOT_A_CARD = 1,        /* not a card: under 17 bytes, or wrong mark */
     LAMP_WRONG_VERSION = 2,     /* version: the card's version is not 1 */
@@ -606,7 +669,8 @@ enum lamp_refusal {
     LAMP_ZERO_START = 14,       /* start: start 0 of a practice card */
     LAMP_NOT_PERMITTED = 15,    /* right: an act that the caller has no right to, at all or as the sitting stands */
     LAMP_SEAT_UNAVAILABLE = 16, /* seat: candidate 0, not seated, seated already, or no empty record in the first 32 */
-    LAMP_ALLOWANCE_SPENT = 17   /* allowance: the allowance is used up, or outside 1 to 1,000 at an opening */
+    LAMP_ALLOWANCE_SPENT = 17,  /* allowance: the allowance is used up, or outside 1 to 1,000 at an opening */
+    LAMP_COUNT_LIST = 18        /* groups: list of counts or ratio against the rules */
 };
 
 /* Checks a card.
@@ -655,6 +719,22 @@ struct lamp_answer lamp_plan_exact(const uint8_t *card, size_t card_len, uint8_t
  *            they were. */
 struct lamp_answer lamp_plan_coarse(const uint8_t *card, size_t card_len, uint8_t *plan, size_t plan_len, uint8_t *work,
                                     size_t work_len);
+
+/* The planner over a list: a plan of least cost among those whose counts are all in the list, as A RACK THAT SWITCHES IN
+ * GROUPS above describes. After number 0 its cost is at most `ratio` times the least cost of any sheet
+ * that serves the show.
+ *
+ * Reads:     card, list. list_len counts entries, and not bytes.
+ * Writes:    plan, work.
+ * Asks for:  T bytes of plan, list_len * T bytes of work.
+ * Success:   the plan's cost. The first T bytes of plan hold the plan, the first list_len * T bytes of
+ *            work are zero, and all further bytes are as they were. An accepted card, with a list and a
+ *            ratio that keep the rules and with buffers long enough, is always planned.
+ * Refusals:  1 to 8; then 18 if the list or the ratio breaks one of the rules, whatever T and the buffers
+ *            are; then 10 if plan_len or work_len is less than asked for. All bytes of plan and work are as
+ *            they were. */
+struct lamp_answer lamp_plan_groups(const uint8_t *card, size_t card_len, const uint16_t *list, size_t list_len,
+                                    uint64_t ratio, uint8_t *plan, size_t plan_len, uint8_t *work, size_t work_len);
 
 /* Makes the sheet of a plan, from a planner or from anywhere else.
  *
