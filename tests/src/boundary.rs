@@ -1,4 +1,5 @@
 //! The calls of the safe binding with their whole outcome: a call that is lent buffers returns them with its answer.
+use crate::areas::{beside, given_back, lent};
 use crate::cards::Card;
 use lamp::calls;
 pub use lamp::planning::Planner;
@@ -94,6 +95,17 @@ pub fn plan(planner: Planner, card: &[u8], plan: &[u8], work: &[u8]) -> Outcome 
     let (mut plan, mut work) = (plan.to_vec(), work.to_vec());
     let answer = planner.plan(card, &mut plan, &mut work).into();
     Outcome { answer, buffers: vec![plan, work] }
+}
+
+/// The planner over a list. Card and list are seen to be as they were; the outcome has both areas.
+pub fn plan_groups(card: &[u8], list: &[u16], ratio: u64, plan: &[u8], work: &[u8]) -> Outcome {
+    let (card_area, list_area) = (beside(card, 0x5A), beside(list, 0x5A));
+    let (mut plan_area, mut work_area) = (beside(plan, 0x5A), beside(work, 0x5A));
+    let (read, counts) = (&card_area[lent(card.len())], &list_area[lent(list.len())]);
+    let (write, room) = (&mut plan_area[lent(plan.len())], &mut work_area[lent(work.len())]);
+    let answer = calls::plan_groups(read, counts, ratio, write, room).into();
+    assert_eq!((given_back(card_area, 0x5A), given_back(list_area, 0x5A)), (card.to_vec(), list.to_vec()));
+    Outcome { answer, buffers: vec![given_back(plan_area, 0x5A), given_back(work_area, 0x5A)] }
 }
 
 /// The cost and the plan that a planner gives for an accepted card, in areas that are just long enough.

@@ -55,7 +55,7 @@ fn words_without_fields_are_the_headers() {
 fn no_call_names_nine() {
     let header = read("include/lamp.h");
     let calls: Vec<&str> = header.split(" * Refusals: ").skip(1).map(|rest| rest.split("*/").next().unwrap()).collect();
-    assert_eq!(calls.len(), 17);
+    assert_eq!(calls.len(), 18);
     for refusals in calls {
         assert!(refusals.split(|c: char| !c.is_ascii_digit()).all(|number| number != "9"), "{refusals}");
     }
@@ -63,7 +63,7 @@ fn no_call_names_nine() {
 
 /// A parameter or a field of C as Rust writes it.
 fn parameter(text: &str) -> String {
-    let pointers = [("const uint8_t *", "*const u8"), ("uint8_t *", "*mut u8")];
+    let pointers = [("const uint8_t *", "*const u8"), ("uint8_t *", "*mut u8"), ("const uint16_t *", "*const u16")];
     let numbers = [("size_t ", "usize"), ("uint16_t ", "u16"), ("uint32_t ", "u32"), ("uint64_t ", "u64")];
     let records = [("struct lamp_sitting ", "Sitting"), ("const struct lamp_seat *", "*const Seat"), ("struct lamp_seat *", "*mut Seat")];
     let types = pointers.iter().chain(&numbers).chain(&records);
@@ -81,7 +81,7 @@ fn on_a_line(text: &str) -> String {
 fn every_call_is_bound() {
     let (header, binding) = (read("include/lamp.h"), read("tool/src/calls.rs"));
     let declared = on_a_line(&binding).replace("( ", "(").replace(", )", ")");
-    for (c, rust, count) in [("lamp_answer", "LampAnswer", 9), ("lamp_points", "Points", 1), ("lamp_reply", "Reply", 7)] {
+    for (c, rust, count) in [("lamp_answer", "LampAnswer", 10), ("lamp_points", "Points", 1), ("lamp_reply", "Reply", 7)] {
         let start = format!("\nstruct {c} lamp_");
         let calls: Vec<&str> = header.split(start.as_str()).skip(1).collect();
         assert_eq!(calls.len(), count);
@@ -122,4 +122,5 @@ fn release_and_limits() {
     assert_eq!(defined(&header, "LAMP_CARD_VERSION"), lamp::show::VERSION.to_string());
     assert_eq!(defined(&header, "LAMP_OFF"), lamp::show::OFF.to_string());
     assert_eq!((defined(&header, "LAMP_MAX_SEATS").as_str(), defined(&header, "LAMP_MAX_ALLOWANCE").as_str()), ("32", "1000"));
+    assert_eq!((defined(&header, "LAMP_MAX_LIST").as_str(), defined(&header, "LAMP_MAX_RATIO").as_str()), ("201", "200"));
 }
