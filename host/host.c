@@ -65,6 +65,8 @@ static const char *words(enum lamp_refusal refusal)
         return "candidate 0, not seated, seated already, or no empty record in the first 32";
     case LAMP_ALLOWANCE_SPENT:
         return "the allowance is used up, or outside 1 to 1,000 at an opening";
+    case LAMP_COUNT_LIST:
+        return "list of counts or ratio against the rules";
     }
     return "a refusal that this host does not know";
 }

@@ -14,14 +14,16 @@
 /* The names of lamp.h can be used by the preprocessor. */
 #if LAMP_CARD_VERSION < 1 || LAMP_MAX_CARD < 1 || LAMP_MAX_PLAN < 1 || LAMP_MAX_EXACT_WORK < 1 || \
     LAMP_MAX_COARSE_WORK < 1 || LAMP_MAX_SHEET < 1 || LAMP_MAX_PRACTICE < 1 || LAMP_MAX_TABLE < 1 || \
-    LAMP_MAX_SEATS < 1 || LAMP_MAX_ALLOWANCE < 1 || LAMP_MAX_STACK < 1 || LAMP_OFF < 1
+    LAMP_MAX_LIST < 1 || LAMP_MAX_RATIO < 1 || LAMP_MAX_SEATS < 1 || LAMP_MAX_ALLOWANCE < 1 || \
+    LAMP_MAX_STACK < 1 || LAMP_OFF < 1
 #error "a limit of lamp.h is not a positive number"
 #endif
 
-/* The bounds of document 01, the most slots of a practice card (02, section 1), and the most seats and submissions of a
- * sitting (02, section 4). They stand here and nowhere else in this file. */
+/* The bounds of document 01, the most slots of a practice card (02, section 1), the most seats and submissions of a
+ * sitting (02, section 4), and the most entries of a list of counts and the largest ratio (02, section 8). They stand
+ * here and nowhere else in this file. */
 enum { MODULES = 200, TOP_STEP = 200, SLOTS = 1024, PRICE = 500000000, ENTRY = 1000000, PRACTICE_SLOTS = 64 };
-enum { SEATS = 32, ALLOWANCE = 1000 };
+enum { SEATS = 32, ALLOWANCE = 1000, LIST = 201, RATIO = 200 };
 
 /* The sizes that the documents' rules give for these bounds, and the places of a card's fields. */
 enum {
@@ -45,6 +47,7 @@ enum { LONGEST_START = 6548, STARTS = 100000 };
 
 static uint8_t card[CARD_BYTES], plan[PLAN_BYTES], work[EXACT_BYTES], sheet[SHEET_BYTES], practice[PRACTICE_BYTES];
 static uint8_t table[TABLE_BYTES];
+static uint16_t list[LIST + 1];
 static struct lamp_seat seats[SEATS + 1];
 static unsigned compared, faults;
 static size_t largest_stack; /* of the calls measured so far */
@@ -97,6 +100,8 @@ static void make_card(void)
     put_table(0);
     for (uint64_t slot = 0; slot < SLOTS; slot++) /* the first load is at its bound */
         put(LOADS_AT + 2 * slot, (MODULES * TOP_STEP + slot * 7919) % (MODULES * TOP_STEP + 1), 2);
+    for (uint16_t k = 0; k <= LIST; k++) /* all counts of the rack, and one entry more */
+        list[k] = k;
 }
 
 /* The header's sizes are those of the rules. */
@@ -109,6 +114,8 @@ static void compare_sizes(void)
     compare("LAMP_MAX_SHEET", "bytes", LAMP_MAX_SHEET, SHEET_BYTES);
     compare("LAMP_MAX_PRACTICE", "bytes", LAMP_MAX_PRACTICE, PRACTICE_BYTES);
     compare("LAMP_MAX_TABLE", "bytes", LAMP_MAX_TABLE, TABLE_BYTES);
+    compare("LAMP_MAX_LIST", "entries", LAMP_MAX_LIST, LIST);
+    compare("LAMP_MAX_RATIO", "ratio", LAMP_MAX_RATIO, RATIO);
     compare("LAMP_MAX_SEATS", "records", LAMP_MAX_SEATS, SEATS);
     compare("LAMP_MAX_ALLOWANCE", "submissions", LAMP_MAX_ALLOWANCE, ALLOWANCE);
 }
@@ -142,6 +149,7 @@ static void compare_bounds(void)
 /* What the measured calls are given, and what they answer. */
 static struct {
     uint64_t card_len, plan_len, work_len, sheet_len, practice_len, table_len, count, load, modules, state, seats_len;
+    uint64_t list_len, ratio;
 } given;
 static struct lamp_answer answer;
 static struct lamp_reply reply;
@@ -164,6 +172,12 @@ static void plan_exact(void)
 static void plan_coarse(void)
 {
     answer = lamp_plan_coarse(card, given.card_len, plan, given.plan_len, work, given.work_len);
+}
+
+static void plan_groups(void)
+{
+    answer = lamp_plan_groups(card, given.card_len, list, given.list_len, given.ratio, plan, given.plan_len, work,
+                              given.work_len);
 }
 
 static void make_sheet(void)
@@ -308,8 +322,9 @@ static size_t stack_of(void (*function)(void))
 }
 
 /* Each call, the work bytes and the state of the sitting that it is given, and which of the given numbers makes it
- * refuse when it is one less. The order matters: the sheet is made from the exact plan, and then it is marked and
- * explained. The calls that read no card come last. */
+ * refuse when it is one less. The planner over a list stands here twice, since it refuses a list before it looks at
+ * its buffers. The order matters: the sheet is made from the exact plan, and then it is marked and explained. The calls
+ * that read no card come last. */
 static const struct call {
     const char *name;
     void (*make)(void);
@@ -320,6 +335,8 @@ static const struct call {
     {"lamp_check_card", check_card, 0, 0, &given.card_len, LAMP_CARD_LENGTH},
     {"lamp_running_cost", running_cost, 0, 0, &given.count, LAMP_LOAD_NOT_SERVED},
     {"lamp_plan_coarse", plan_coarse, LAMP_MAX_COARSE_WORK, 0, &given.work_len, LAMP_BUFFER_TOO_SHORT},
+    {"lamp_plan_groups", plan_groups, LAMP_MAX_EXACT_WORK, 0, &given.work_len, LAMP_BUFFER_TOO_SHORT},
+    {"lamp_plan_groups", plan_groups, LAMP_MAX_EXACT_WORK, 0, &given.list_len, LAMP_COUNT_LIST},
     {"lamp_plan_exact", plan_exact, LAMP_MAX_EXACT_WORK, 0, &given.work_len, LAMP_BUFFER_TOO_SHORT},
     {"lamp_sheet", make_sheet, 0, 0, &given.sheet_len, LAMP_BUFFER_TOO_SHORT},
     {"lamp_mark", mark, 0, 0, &given.sheet_len, LAMP_WRONG_LENGTH},
@@ -359,6 +376,8 @@ static void give_largest(size_t work_len, uint64_t state)
     given.count = MODULES;
     given.load = MODULES * TOP_STEP;
     given.modules = MODULES;
+    given.list_len = LAMP_MAX_LIST;
+    given.ratio = LAMP_MAX_RATIO;
     memset(work, LAMP_OFF, sizeof work);
 }
 
@@ -404,6 +423,32 @@ static void compare_plan_length(void)
     given.work_len = LAMP_MAX_EXACT_WORK;
     plan_exact();
     compare("lamp_plan_exact", "number for a short plan", answer.number, LAMP_BUFFER_TOO_SHORT);
+    plan_groups();
+    compare("lamp_plan_groups", "number for a short plan", answer.number, LAMP_BUFFER_TOO_SHORT);
+}
+
+/* The library's bounds of a list and a ratio are those of this file. The list of all counts keeps the rules with every
+ * ratio from 1 to the largest, and then the cost is the exact planner's. */
+static void compare_lists(void)
+{
+    uint64_t planned = 0, least;
+
+    give_largest(LAMP_MAX_EXACT_WORK, 0);
+    plan_exact();
+    least = answer.cost;
+    for (given.ratio = 0; given.ratio <= RATIO + 1; given.ratio++) {
+        plan_groups();
+        planned += answer.number == 0 && answer.cost == least;
+    }
+    compare("ratios 0 to 201", "plans of the exact planner's cost", planned, RATIO);
+    compare("ratio 201", "number", answer.number, LAMP_COUNT_LIST);
+    given.ratio = 0;
+    plan_groups();
+    compare("ratio 0", "number", answer.number, LAMP_COUNT_LIST);
+    given.ratio = RATIO;
+    given.list_len = LIST + 1;
+    plan_groups();
+    compare("a list of 202 entries", "number", answer.number, LAMP_COUNT_LIST);
 }
 
 /* The sheet of the exact plan has no points above the least. Without its last byte it is not explained. */
@@ -441,14 +486,18 @@ static void compare_sitting(void)
     compare("a list of 33 records", "seated candidates", seated, SEATS);
 }
 
-/* Buffers of length 0 may be NULL: no card at all, a show without slots, no room for a practice card or a table, no
- * seat. */
+/* Buffers of length 0 may be NULL: no card at all, a show without slots, no list, no room for a practice card or a
+ * table, no seat. */
 static void compare_empty(void)
 {
     put(7, 0, 2);
     compare("no card", "number", lamp_check_card(NULL, 0).number, LAMP_NOT_A_CARD);
     compare("empty exact plan", "number", lamp_plan_exact(card, LOADS_AT, NULL, 0, NULL, 0).number, 0);
     compare("empty coarse plan", "number", lamp_plan_coarse(card, LOADS_AT, NULL, 0, NULL, 0).number, 0);
+    compare("empty plan of a list", "number",
+            lamp_plan_groups(card, LOADS_AT, list, LIST, 1, NULL, 0, NULL, 0).number, 0);
+    compare("no list", "number", lamp_plan_groups(card, LOADS_AT, NULL, 0, 1, NULL, 0, NULL, 0).number,
+            LAMP_COUNT_LIST);
     compare("sheet of an empty plan", "number", lamp_sheet(card, LOADS_AT, NULL, 0, NULL, 0).number, 0);
     compare("empty sheet", "number", lamp_mark(card, LOADS_AT, NULL, 0).number, 0);
     compare("empty sheet, explained", "number", lamp_explain(card, LOADS_AT, NULL, 0, NULL, 0).number, 0);
@@ -560,6 +609,7 @@ static void compare_with_library(void)
         measure(&calls[k], "the largest show with a falling table");
     compare("LAMP_MAX_STACK", "bytes", LAMP_MAX_STACK, (largest_stack + STACK_UNIT - 1) / STACK_UNIT * STACK_UNIT);
     compare_plan_length();
+    compare_lists();
     compare_explained();
     compare_sitting();
     compare_empty();

@@ -1,8 +1,8 @@
 /* Provokes each refusal through the public calls and compares its number with the name that lamp.h gives it. Only 9 is
  * never given: a table that falls, for which it once stood, is planned. Makes practice cards and tables of the
- * catalogue module and explains sheets too, and compares every byte of their buffers; of the acts of a sitting it
- * compares the sitting that they give back and every record. Prints each fault and how many answers and buffers were
- * compared; fails if there is a fault.
+ * catalogue module, explains sheets and plans with lists of counts too, and compares every byte of their buffers; of
+ * the acts of a sitting it compares the sitting that they give back and every record. Prints each fault and how many
+ * answers and buffers were compared; fails if there is a fault.
  *
  *   gcc -std=c11 -Wall -Wextra -Werror -Iinclude host/refusals.c target/staticlib/liblamp.a -o target/host/refusals
  */
@@ -134,6 +134,56 @@ static const struct explanation explanations[] = {
     {{LAMP_LOAD_NOT_SERVED, 0, 0, 0}, dark, 9, 12},       /* light 1 for load 2 */
 };
 
+/* Lists of counts for card A's rack of three. The last three end with no 3, though a low byte may be 3. */
+static const uint16_t all_counts[] = {0, 1, 2, 3, 4}, one_and_three[] = {0, 1, 3}, two_and_three[] = {0, 2, 3};
+static const uint16_t three[] = {0, 3}, from_one[] = {1, 2, 3}, from_256[] = {256, 1, 3}, equal[] = {0, 3, 3};
+static const uint16_t back[] = {0, 4, 3}, to_259[] = {0, 1, 256 + 3}, to_4[] = {0, 2, 4}, to_65535[] = {0, 1, 65535};
+
+/* A list that card A is planned with, and what is then given. A plan has 3 bytes, and the work 3 for each entry. */
+struct group {
+    enum lamp_refusal wanted; /* or 0 */
+    uint64_t cost;
+    uint8_t plan[3];
+    const uint16_t *list;
+    size_t list_len;
+    uint64_t ratio;
+    size_t plan_len, work_len;
+};
+static const struct group groups[] = {
+    {0, 32, {3, 1, 1}, all_counts, 4, 1, 3, 12},                   /* just the bytes asked for */
+    {0, 32, {3, 1, 1}, one_and_three, 3, 2, 3, 9},                 /* a gap of just twice the gap before it */
+    {0, 32, {3, 1, 1}, one_and_three, 3, LAMP_MAX_RATIO, 4, 11},   /* the largest ratio, and some bytes more */
+    {0, 33, {3, 2, 2}, two_and_three, 3, 2, 3, 10},                /* the entry after 0 is just the ratio */
+    {0, 35, {3, 3, 3}, three, 2, 3, 3, 6},                         /* all modules or none */
+    {LAMP_COUNT_LIST, 0, {0}, one_and_three, 3, 0, 3, 9},          /* ratio 0 */
+    {LAMP_COUNT_LIST, 0, {0}, one_and_three, 3, LAMP_MAX_RATIO + 1, 3, 9},
+    {LAMP_COUNT_LIST, 0, {0}, one_and_three, 3, 256 + 2, 3, 9},    /* the low 8 bits are 2 */
+    {LAMP_COUNT_LIST, 0, {0}, one_and_three, 3, (UINT64_C(1) << 32) + 2, 3, 9},
+    {LAMP_COUNT_LIST, 0, {0}, one_and_three, 3, UINT64_MAX, 3, 9}, /* -1, as C hands it on */
+    {LAMP_COUNT_LIST, 0, {0}, one_and_three, 3, 1, 3, 9},          /* a gap of twice the gap before it */
+    {LAMP_COUNT_LIST, 0, {0}, two_and_three, 3, 1, 3, 9},          /* the entry after 0 is above the ratio */
+    {LAMP_COUNT_LIST, 0, {0}, three, 2, 2, 3, 9},                  /* the same with two entries */
+    {LAMP_COUNT_LIST, 0, {0}, three, 1, 3, 3, 9},                  /* one entry */
+    {LAMP_COUNT_LIST, 0, {0}, three, 0, 3, 3, 9},                  /* no entry at all */
+    {LAMP_COUNT_LIST, 0, {0}, NULL, 0, 3, 3, 9},                   /* and no list */
+    {LAMP_COUNT_LIST, 0, {0}, all_counts, 3, 1, 3, 12},            /* the last entry is 2 */
+    {LAMP_COUNT_LIST, 0, {0}, all_counts, 5, 1, 3, 15},            /* the last entry is 4 */
+    {LAMP_COUNT_LIST, 0, {0}, from_one, 3, 2, 3, 9},               /* the first entry is 1 */
+    {LAMP_COUNT_LIST, 0, {0}, from_256, 3, 2, 3, 9},               /* the first entry's low byte is 0 */
+    {LAMP_COUNT_LIST, 0, {0}, equal, 3, 3, 3, 9},                  /* two entries are equal */
+    {LAMP_COUNT_LIST, 0, {0}, back, 3, 4, 3, 9},                   /* an entry is below the one before it */
+    {LAMP_COUNT_LIST, 0, {0}, to_259, 3, LAMP_MAX_RATIO, 3, 9},    /* the last entry's low byte is 3 */
+    {LAMP_COUNT_LIST, 0, {0}, to_4, 3, 2, 3, 9},                   /* the last entry is 4, and all else is kept */
+    {LAMP_COUNT_LIST, 0, {0}, to_65535, 3, LAMP_MAX_RATIO, 3, 9},  /* the largest number of 16 bits */
+    {LAMP_COUNT_LIST, 0, {0}, from_one, 3, 2, 2, 9},               /* 18 is tested before 10, for the plan */
+    {LAMP_COUNT_LIST, 0, {0}, from_one, 3, 2, 3, 8},               /* and for the work */
+    {LAMP_COUNT_LIST, 0, {0}, one_and_three, 3, 0, 0, 0},          /* and for both */
+    {LAMP_BUFFER_TOO_SHORT, 0, {0}, one_and_three, 3, 2, 2, 9},    /* one byte of the plan less */
+    {LAMP_BUFFER_TOO_SHORT, 0, {0}, one_and_three, 3, 2, 3, 8},    /* one byte of the work less */
+    {LAMP_BUFFER_TOO_SHORT, 0, {0}, all_counts, 4, 1, 3, 9},       /* enough for three entries */
+    {LAMP_BUFFER_TOO_SHORT, 0, {0}, one_and_three, 3, 2, 0, 0},    /* no byte at all */
+};
+
 static unsigned compared, looked, faults;
 static uint8_t card[LENGTH_A] = {CARD_A}, plan[3] = {3, 1, 1};
 static uint8_t sheet[9] = {2, 2, 2, 0, LAMP_OFF, LAMP_OFF, 2, LAMP_OFF, LAMP_OFF};
@@ -216,6 +266,45 @@ static void refuse_explaining(size_t length, enum lamp_refusal wanted)
     }
 }
 
+/* Plans with a list, over bytes that hold `paint`. After a success the plan is there and just the work bytes asked for
+ * are zero, and after a refusal all are as they were, also those before each buffer and beyond its length. */
+static void expect_group(size_t length, const struct group *group, enum lamp_refusal wanted, int paint)
+{
+    uint8_t found_plan[8], left_plan[8], found_work[20], left_work[20];
+    const char *call = "lamp_plan_groups";
+
+    memset(found_plan, paint, sizeof found_plan);
+    memset(left_plan, paint, sizeof left_plan);
+    memset(found_work, paint, sizeof found_work);
+    memset(left_work, paint, sizeof left_work);
+    if (wanted == 0) {
+        memcpy(left_plan + 2, group->plan, 3);
+        memset(left_work + 2, 0, 3 * group->list_len);
+    }
+    compare(call,
+            lamp_plan_groups(card, length, group->list, group->list_len, group->ratio, found_plan + 2, group->plan_len,
+                             found_work + 2, group->work_len),
+            (uint64_t)wanted, wanted == 0 ? group->cost : 0);
+    expect_bytes(call, found_plan, left_plan, sizeof found_plan);
+    expect_bytes(call, found_work, left_work, sizeof found_work);
+}
+
+/* Each list is planned with over two values, as the sheets are explained. */
+static void plan_groups(void)
+{
+    for (size_t k = 0; k < sizeof groups / sizeof groups[0]; k++) {
+        expect_group(LENGTH_A, &groups[k], groups[k].wanted, 0x5A);
+        expect_group(LENGTH_A, &groups[k], groups[k].wanted, 0xA5);
+    }
+}
+
+/* A refusal of the card comes before those of the list and of the buffers. */
+static void refuse_groups(size_t length, enum lamp_refusal wanted)
+{
+    for (size_t k = 0; k < sizeof groups / sizeof groups[0]; k++)
+        expect_group(length, &groups[k], wanted, 0x5A);
+}
+
 /* The sittings that the acts are handed, and the list that they are lent. One submission of two is used. */
 static const struct lamp_sitting unopened, opened = {1, 2, 1, 32}, closed = {2, 2, 1, 32}, spent = {1, 2, 2, 32};
 static const struct lamp_seat lent[] = {{37, 7, 1, 0}, {0, 0, 0, 0}};
@@ -257,6 +346,7 @@ static void refuse_card(size_t length, enum lamp_refusal wanted)
     expect("lamp_sheet", lamp_sheet(card, length, plan, 3, area, 9), wanted);
     expect("lamp_mark", lamp_mark(card, length, sheet, 9), wanted);
     refuse_explaining(length, wanted);
+    refuse_groups(length, wanted);
 }
 
 /* Refusal 10: buffers that are too short. */
@@ -524,6 +614,7 @@ int main(void)
     read_by_low_bits(UINT64_C(0x8000000000000000));
     read_by_low_bits(UINT64_C(0xFFFFFFFFFFFF0000));
     explain_sheets();
+    plan_groups();
     plan_falling();
     refuse_handed_in();
     make_practice();
