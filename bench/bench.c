@@ -14,13 +14,15 @@ enum { ROUNDS = 60, STARTS = 10000, LOWEST = 80, TIMES = 10000, LAST = LAMP_MAX_
 enum { RACKS = 201, COUNTS = 202, PAIRS = (RACKS + 1) * (COUNTS + 1) };
 
 /* What is measured. The acts after SUBMIT are so short that a round makes each of them TIMES times. */
-enum { EXACT, COARSE, SHEET, MARKING, EXPLAIN, PRACTICE, TABLE, ROUNDED, OPEN, SUBMIT, SEAT, CLOSE, LEAST, LOWEST_COST, USED, ALL };
-static const char *names[ALL] = {"exact", "coarse", "sheet", "marking", "explain", "practice", "table", "rounded",
+enum { EXACT, COARSE, SHEET, MARKING, GROUPS, EXPLAIN, PRACTICE, TABLE, ROUNDED, OPEN, SUBMIT, SEAT, CLOSE, LEAST, LOWEST_COST, USED, ALL };
+static const char *names[ALL] = {"exact", "coarse", "sheet", "marking", "groups", "explain", "practice", "table", "rounded",
                                  "open", "submit", "seat", "close", "least", "lowest", "used"};
 
 static uint8_t card[LAMP_MAX_CARD], plan[LAMP_MAX_PLAN], work[LAMP_MAX_EXACT_WORK], sheet[LAMP_MAX_SHEET];
 static uint8_t practice[LAMP_MAX_PRACTICE], practice_of_c[LAMP_MAX_PRACTICE];
 static uint8_t table[LAMP_MAX_TABLE + 1], table_of_c[LAMP_MAX_TABLE + 1];
+static uint16_t list[LAMP_MAX_LIST];
+static size_t list_len;
 static struct lamp_seat seats[LAMP_MAX_SEATS];
 static struct lamp_reply reply;
 static struct lamp_points points;
@@ -234,6 +236,9 @@ static struct lamp_answer run(int which, int plain)
         return (plain ? plain_sheet : lamp_sheet)(card, card_len, plan, slots, sheet, modules * slots);
     case MARKING:
         return (plain ? plain_mark : lamp_mark)(card, card_len, sheet, modules * slots);
+    case GROUPS:
+        return (plain ? plain_groups : lamp_plan_groups)(card, card_len, list, list_len, LAMP_MAX_RATIO, plan, slots, work,
+                                                         list_len * slots);
     case EXPLAIN:
         return run_explain(plain);
     case PRACTICE:
@@ -394,6 +399,31 @@ static void measure_explain(void)
     run(SHEET, 0);
 }
 
+/* A list of so many counts from 0 to the full rack, with gaps that differ by at most 1. */
+static void make_list(size_t entries)
+{
+    list_len = entries;
+    for (size_t k = 0; k < entries; k++)
+        list[k] = (uint16_t)(modules * k / (entries - 1));
+}
+
+/* Measures the planner over lists of some lengths, beside C, and over all counts beside the exact planner, whose plan and sheet
+ * are then there again. */
+static void measure_groups(void)
+{
+    static const size_t lengths[] = {10, 50, LAMP_MAX_LIST};
+    double best[2];
+    for (size_t k = 0; k < sizeof lengths / sizeof lengths[0]; k++) {
+        make_list(lengths[k]);
+        measure(GROUPS, best);
+        printf("%s with a list of %zu entries\n", names[GROUPS], list_len);
+        print_line(names[GROUPS], best);
+    }
+    printf("groups with all counts beside exact: %.2f times the time\n", beside(GROUPS, EXACT));
+    run(EXACT, 0);
+    run(SHEET, 0);
+}
+
 /* Measures the acts of a sitting on the card, whose sheet is there. */
 static void measure_sitting(void)
 {
@@ -415,11 +445,13 @@ int main(void)
     printf("m 200, Q 200, T 1,024 (microseconds, fastest of %d)\n", ROUNDS);
     printf("%-8s %10s %10s %8s\n", "call", "library", "C -O3", "ratio");
     double whole = measure_card();
+    measure_groups();
     measure_explain();
     measure_sitting();
     put_falling_table();
     printf("the same card with a table that falls up to step %d\n", LOWEST);
     measure_card();
+    measure_groups();
     measure_explain();
     compare_practice();
     measure(PRACTICE, best);

@@ -143,6 +143,42 @@ struct lamp_answer plain_coarse(const uint8_t *card, size_t card_len, uint8_t *p
     return search(&i, counts, width, plan, work, 10 * i.slots);
 }
 
+/* Whether a list of counts and its ratio keep the rules. The first gap may be the ratio, and each later one the ratio times the
+ * gap before it. */
+static int keeps_rules(const uint16_t *list, size_t width, uint64_t ratio, uint64_t modules)
+{
+    if (ratio < 1 || ratio > 200 || width < 2 || width > 201 || list[0] != 0 || list[width - 1] != modules)
+        return 0;
+    uint64_t most = ratio;
+    for (size_t j = 1; j < width; j++) {
+        if (list[j] <= list[j - 1])
+            return 0;
+        uint64_t gap = (uint64_t)list[j] - list[j - 1];
+        if (gap > most)
+            return 0;
+        most = ratio * gap;
+    }
+    return 1;
+}
+
+struct lamp_answer plain_groups(const uint8_t *card, size_t card_len, const uint16_t *list, size_t list_len, uint64_t ratio, uint8_t *plan,
+                                size_t plan_len, uint8_t *work, size_t work_len)
+{
+    struct show i;
+    uint64_t number = read_card(card, card_len, &i);
+    if (number)
+        return refused(number);
+    if (!keeps_rules(list, list_len, ratio, i.modules))
+        return refused(18);
+    if (plan_len < i.slots || work_len < list_len * i.slots)
+        return refused(10);
+    i.lowest = lowest_step(&i);
+    uint64_t counts[201];
+    for (size_t j = 0; j < list_len; j++)
+        counts[j] = list[j];
+    return search(&i, counts, list_len, plan, work, list_len * i.slots);
+}
+
 struct lamp_answer plain_sheet(const uint8_t *card, size_t card_len, const uint8_t *plan, size_t plan_len, uint8_t *sheet, size_t sheet_len)
 {
     struct show i;
