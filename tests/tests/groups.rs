@@ -82,17 +82,17 @@ fn no_slots() {
 
 // ---------------------------------------------------------------- all plans and all sheets
 
-/// The ratios of which the small racks attain each.
-const ATTAINED: std::ops::RangeInclusive<u64> = 1..=6;
-
-fn attained(ratio: u64) -> String {
-    format!("ratio {ratio}: the cost is just {ratio} times a least cost above 0")
+/// The name of a class of lists with a ratio. A list for at most six modules that keeps the rules with a higher ratio keeps them with 6.
+fn of_ratio(ratio: u64, what: &str) -> String {
+    match ratio {
+        ..=6 => format!("ratio {ratio}: {what}"),
+        7.. => format!("ratio 7 and more: {what}"),
+    }
 }
 
-fn above(ratio: u64) -> String {
-    format!("ratio {ratio}: the cost is above the least")
-}
-
+const LISTS: &str = "lists";
+const ABOVE: &str = "the cost is above the least";
+const ATTAINED: &str = "the cost is just the ratio times a least cost above 0";
 const TIES: &str = "two or more least plans over the list";
 const FALLS: &str = "the cost is above the least on a falling table";
 
@@ -119,18 +119,15 @@ fn compare_with_all(classes: &mut Classes, card: &Card, show: &Show, least: u64,
     if cost > least && show.falls() {
         classes.see(FALLS);
     }
-    if cost > least {
-        classes.see(&above(ratio.min(7)));
-    }
-    if least > 0 && cost == ratio * least {
-        classes.see(&attained(ratio));
-    }
+    let of_costs = [(LISTS, true), (ABOVE, cost > least), (ATTAINED, least > 0 && cost == ratio * least)];
+    of_costs.into_iter().filter(|(_, holds)| *holds).for_each(|(what, _)| classes.see(&of_ratio(ratio, what)));
 }
 
 /// Thousands of small shows, each with several lists, against a search through all plans over the list and through all sheets.
 #[test]
 fn all_plans_and_sheets() {
-    let names: Vec<String> = ATTAINED.map(attained).chain((2..=6).map(above)).collect();
+    let of_ratios = (1..=7).map(|ratio| of_ratio(ratio, LISTS)).chain((2..=7).map(|ratio| of_ratio(ratio, ABOVE)));
+    let names: Vec<String> = of_ratios.chain((1..=6).map(|ratio| of_ratio(ratio, ATTAINED))).collect();
     let lists = &count_lists::ALL_CLASSES[1..];
     let names: Vec<&str> =
         names.iter().map(String::as_str).chain(shows::ALL_CLASSES).chain(lists.iter().copied()).chain([TIES, FALLS]).collect();
@@ -168,7 +165,6 @@ fn every_ratio_is_attained() {
 /// Larger shows against the plain dynamic program, which `compare` uses, and the cost beside the exact planner's.
 #[test]
 fn larger_shows() {
-    const ABOVE: &str = "the cost is above the exact planner's";
     let names: Vec<&str> = shows::ALL_CLASSES.into_iter().chain(count_lists::ALL_CLASSES).chain(["200 modules", ABOVE]).collect();
     let mut classes = Classes::new("4,000 larger shows (seed 92)", &names).with_numbers([0]);
     let mut random = Random::new(92);
@@ -234,8 +230,8 @@ fn rack(modules: u8) -> Vec<u8> {
     small(modules, &[0, 1], &[]).bytes()
 }
 
-/// The number that a list gets on the rack, which is 18 exactly if a rule is broken. It is the same with areas of every length, since the show
-/// has no slots, and with a show that has slots and areas that are too short for it.
+/// The number that a list gets in a show without slots: 18 exactly if a rule is broken. So it is in a show with one slot and no byte of work,
+/// where a list that keeps the rules gets 10.
 fn judged(modules: u8, list: &[u16], ratio: u64) -> u64 {
     let number = plan_groups(&rack(modules), list, ratio, &[], &[]).answer.number;
     let rules = broken(list, ratio, modules.into());
@@ -251,8 +247,8 @@ fn names(rules: &[Rule]) -> String {
     rules.iter().map(name).collect::<Vec<_>>().join(" and ")
 }
 
-/// Each rule broken alone, where it can be. Ratio 0 is below every first entry, fewer than two entries cannot begin with 0 and end with m, and
-/// more than 201 do not ascend to at most 200.
+/// Each rule broken alone, where it can be. Ratio 0 is below every entry after 0, fewer than two entries cannot begin with 0 and end with m,
+/// and more than 201 cannot ascend from 0 to at most 200.
 #[test]
 fn each_rule_alone() {
     use Rule::*;
@@ -311,7 +307,8 @@ fn gaps(gaps: &[u64]) -> Vec<u16> {
     list
 }
 
-/// For every ratio, 0 and 201 too, the first entry and the gap behind each gap just at their bounds, and one above.
+/// For every ratio, 0 and 201 too, the first entry and the gap behind each gap just at their bounds, or as large as the rack leaves,
+/// and one above.
 #[test]
 fn bounds_of_entries_and_gaps() {
     let mut classes = Classes::new("first entries and gaps at their bounds", &["kept", "broken"]);
@@ -336,7 +333,7 @@ fn bounds_of_entries_and_gaps() {
 /// ALL lists of up to six entries from 0 to 5, for racks of 1 to 4 modules and ratios of 0 to 6 and a few large ones.
 #[test]
 fn all_small_lists() {
-    let mut classes = Classes::new("the rules that all small lists break", &["none"]).with_numbers([0, 18]);
+    let mut classes = Classes::new("how many rules all small lists break", &["none", "one", "two", "more"]).with_numbers([0, 18]);
     let all: Vec<Vec<u16>> = (0..=6).flat_map(|length| lists(&[0, 1, 2, 3, 4, 5], length)).collect();
     for modules in 1..=4 {
         for list in &all {
