@@ -93,7 +93,13 @@ fn plan_listed_on(
 }
 
 // The planner over a list: refusals 1 to 8, 18 and 10, in this order.
-pub fn plan_listed(card: &[u8], list: &[u16], ratio: u64, plan: &mut [u8], work: &mut [u8]) -> Answer
+pub fn plan_listed(
+    card: &[u8],
+    list: &[u16],
+    ratio: u64,
+    plan: &mut [u8],
+    work: &mut [u8],
+) -> Answer
     ensures { λ r. ⌜ r ≡ answer (planShow (listed (now (list .entry)) ratio) (now (card .entry)) (now (plan .entry)) (now (work .entry))) ⌝ }
     ensures { λ r. ⌜ now (plan .exit) ≡ planAtExit (planShow (listed (now (list .entry)) ratio) (now (card .entry)) (now (plan .entry)) (now (work .entry))) ⌝ }
     ensures { λ r. ⌜ now (work .exit) ≡ workAtExit (planShow (listed (now (list .entry)) ratio) (now (card .entry)) (now (plan .entry)) (now (work .entry))) ⌝ }

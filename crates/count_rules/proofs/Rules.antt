@@ -1,6 +1,6 @@
 -- The rules for a list of allowed counts and its ratio, test by test.
 use Prim.Native.Nat.{ℕ, _+_, _-_, _*_, _≤_, _<_}
-use mathlib.Core.Path.{_≡_, refl, sym}
+use mathlib.Core.Path.{_≡_, refl}
 use mathlib.Core.Bool.{Bool, true, false, _&&_}
 use mathlib.Core.List.{List}
 use native.Mathlib.Nat.{le-of-lt, mul-le-mul-left, mul-le-mul-right}
