@@ -176,7 +176,7 @@
  * The cooling of some racks allows certain counts only. lamp_plan_groups plans for such a rack. The host
  * hands it the allowed counts as a list, an array of uint16_t, and a whole number, the ratio r. The call
  * gives a plan of least cost among the plans whose counts are all in the list. If there are several, it
- * gives the one that has the smallest count in slot T, and so on back, as the two planners do. It is proved
+ * gives the one that has the smallest count in slot T, and so on back, as the other planners do. It is proved
  * that after number 0 the cost is at most r times the least cost of any sheet that serves the show,
  * whatever the counts of that sheet are.
  *

@@ -87,7 +87,7 @@ impl<'a> Words<'a> {
         match (&self.counts, self.ratio) {
             (Some(_), None) => Err(format!("--groups needs {} beside it", help::RATIO)),
             (None, Some(_)) => Err(format!("--ratio needs {} beside it", help::GROUPS)),
-            (Some(_), Some(_)) if self.is_coarse() => Err("--coarse and --groups are two planners".to_string()),
+            (Some(_), Some(_)) if self.is_coarse() => Err("--coarse and --groups are different planners".to_string()),
             _ => Ok(()),
         }
     }

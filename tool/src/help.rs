@@ -77,7 +77,7 @@ A show that the library refuses is refused in words, with the place, and no card
 
 const PRACTICE: &str = "\
 NUMBER, FIRST and LAST are 1 to 4,294,967,295, digits alone. A number has the same card on every machine. Every
-practice card is accepted, and can be planned by either planner.
+practice card is accepted, and can be planned by the exact and the coarse planner.
     lamp practice 1950 > 1950.card      # without --into the card goes to standard output
     lamp practice 1..30 --into cards    # the files 1.card to 30.card in the folder cards
 --into DIR  writes the file NUMBER.card, or one for each number from FIRST to LAST, into the folder DIR, which

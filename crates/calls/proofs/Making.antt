@@ -15,10 +15,8 @@ use Rattle.model.specs.declared.Answer.the-variants.{Cost, Refused}
 use Rattle.model.specs.Instance.{instanceOf}
 use Rattle.model.specs.Thesis.{countsCost}
 use Rattle.model.specs.Plans.{planServes, sheetOf}
-use Rattle.model.specs.HandedIn.{plan, rightLength, entriesInRange}
-use Rattle.model.specs.Calls.{makeSheet, answer, requestOf, refusals, applies, buffersOf, anyShort}
-use Rattle.model.specs.HandedIn.{loadsServed}
-use Rattle.model.specs.Calls.{firstRefusal, sheetBytes, sheetAtExit, atExit}
+use Rattle.model.specs.HandedIn.{plan, rightLength, entriesInRange, loadsServed}
+use Rattle.model.specs.Calls.{makeSheet, answer, requestOf, refusals, applies, buffersOf, anyShort, firstRefusal, sheetBytes, sheetAtExit, atExit}
 use Rattle.laws.specs.Acceptance.{top-range}
 use Rattle.laws.specs.OnCard.{on-card-refused}
 use Rattle.theory.specs.Hypotheses.{PlanFits}

@@ -19,7 +19,7 @@ use Rattle.model.specs.Sheets.{serves, sheetCost}
 use Rattle.model.specs.Plans.{sheetOf}
 use Rattle.model.specs.Planners.{Planner, exact, ratioOf, plannedBy, plannedCost}
 use Rattle.model.specs.Calls.{NumbersOf, Gives, Accepted, planShow, makeSheet, markSheet, practiceCard, catalogueTable, answer, successCost}
-use Rattle.model.specs.Calls.{planBuffer, planAtExit, workAtExit, sheetAtExit, cardAtExit, tableAtExit}
+use Rattle.model.specs.Calls.{planAtExit, workAtExit, sheetAtExit, cardAtExit, tableAtExit}
 use Rattle.model.specs.Calls.{actIn, requestOf, refusals, buffersAtExit, buffersOf, actBuffers, explainSheet}
 use Rattle.model.specs.ExplainedPoints.{explainedWork, pointsOf}
 use Rattle.model.specs.Acts.{Act, openSitting, readLeast, opened, unopened, isClosed}
@@ -36,7 +36,7 @@ use Rattle.theory.specs.Refusals.{succeeded}
 use Rattle.theory.specs.PracticeCards.{practice-writes, practice-enough}
 use Rattle.theory.specs.SittingBounds.{least-hidden, opened-planned}
 use Rattle.theory.specs.ExplainedSheets.{explains-marked, none-negative, above-least, zero-exactly}
-use Rattle.theory.specs.Outcomes.{written-taken, mark-number, made-marked, best-fits, plan-at-exit, planner-on, planner-keeps}
+use Rattle.theory.specs.Outcomes.{mark-number, made-marked, planner-on, planner-keeps, plan-written}
 
 -- What is given of an answer is given of an equal one.
 pub gives-as : {a b : Answer} {number cost : ℕ} → a ≡ b → NumbersOf a number cost → NumbersOf b number cost
@@ -103,9 +103,7 @@ module _ (k : Planner) (c p w : List ℕ) {number cost : ℕ} (given : Gives (pl
 
   -- The first T plan bytes at exit are the planner's plan.
   taken : {plan : List ℕ} → plan ≡ planAtExit (planShow k c p w) → number ≡ 0 → take (instanceOf c .slots) plan ≡ plannedBy k (instanceOf c)
-  taken is e =
-      rw (is, plan-at-exit k c p w)
-      (written-taken (planBuffer k (instanceOf c) p) (instanceOf c .slots) (success e) (best-fits k c (accepted e) (keeps e) .slotwise))
+  taken is e = rw is (plan-written k c p w (sym (given .number-is) ∙ e))
 
   own-sheet : {plan : List ℕ} → plan ≡ planAtExit (planShow k c p w) → OwnSheet c plan number cost
   own-sheet is =

@@ -1,12 +1,15 @@
 -- Examples of document 02, §8: a plan limited to a list of counts with a ratio. Beside them answers of wrong programs, which differ.
 use Prim.Native.Nat.{ℕ, _*_}
 use Prim.Native.String.{String}
+use mathlib.Core.Bool.{cond}
 use mathlib.Core.List.{List, [], _∷_}
 use lib.ListN.{length, take, replicate}
 use native.Mathlib.Omega.{arith}
 use Rattle.model.specs.Counts.{allCounts, coarseCounts}
-use Rattle.model.specs.Planners.{listed}
-use Rattle.model.specs.Calls.{planShow, planAtExit, workAtExit}
+use Rattle.model.specs.Instance.{instanceOf}
+use Rattle.model.specs.Planners.{exact, coarse, listed, ratioOf}
+use Rattle.model.specs.HandedIn.{countsInRules}
+use Rattle.model.specs.Calls.{planShow, planAtExit, workAtExit, handedTo}
 use Rattle.model.specs.Examples.{cardOf, cardE, cardG, cardI, cardUp, sevens, over, Example, row, one, numbers, costs}
 use Rattle.model.specs.Examples.{agrees, AllHold, NoneHold}
 
@@ -43,6 +46,10 @@ listRows =
     plans "E with 0 and 8 alone" cardE (0 ∷ 8 ∷ []) 8 8 (8 ∷ 8 ∷ 8 ∷ []) ∷
     plans "E with a gap of just twice the gap before it" cardE (0 ∷ 2 ∷ 6 ∷ 8 ∷ []) 2 6 (6 ∷ 6 ∷ 6 ∷ []) ∷
     plans "E with the first entry just the ratio" cardE (0 ∷ 3 ∷ 6 ∷ 8 ∷ []) 3 6 (6 ∷ 6 ∷ 6 ∷ []) ∷
+    plans "E with ratio 3 and a gap of three times the gap before it" cardE (0 ∷ 1 ∷ 4 ∷ 8 ∷ []) 3 8 (8 ∷ 8 ∷ 8 ∷ []) ∷
+    one "the exact planner has no list to be judged" (cond (countsInRules (instanceOf cardE) (handedTo exact)) 1 0 ∷ []) (1 ∷ []) ∷
+    one "the coarse planner has no list to be judged" (cond (countsInRules (instanceOf cardE) (handedTo coarse)) 1 0 ∷ []) (1 ∷ []) ∷
+    one "the ratio of a list is the one handed in" (ratioOf (listed listE 2) ∷ []) (2 ∷ []) ∷
     plans "E with all counts and ratio 1, as the exact planner" cardE (allCounts 8) 1 5 (5 ∷ 5 ∷ 5 ∷ []) ∷
     plans "E with the powers of two and ratio 2, as the coarse planner" cardE (coarseCounts 8) 2 8 (8 ∷ 8 ∷ 8 ∷ []) ∷
     plans "E with ratio 200" cardE listE 200 8 (8 ∷ 8 ∷ 8 ∷ []) ∷
@@ -70,6 +77,10 @@ listRefusedRows =
     refuses "first entry above the ratio" cardE (0 ∷ 3 ∷ 8 ∷ []) 2 18 ∷
     refuses "first gap more than twice the gap before it" cardE (0 ∷ 1 ∷ 4 ∷ 8 ∷ []) 2 18 ∷
     refuses "last gap more than twice the gap before it" cardE (0 ∷ 2 ∷ 3 ∷ 8 ∷ []) 2 18 ∷
+    refuses "ratio 1 and a gap of twice the gap before it" cardE (0 ∷ 1 ∷ 2 ∷ 3 ∷ 4 ∷ 5 ∷ 6 ∷ 8 ∷ []) 1 18 ∷
+    refuses "a gap of twice the gap before the last one" cardE (0 ∷ 2 ∷ 3 ∷ 7 ∷ 8 ∷ []) 2 18 ∷
+    refuses "a ratio whose low byte is 2" cardE listE 258 18 ∷
+    refuses "a last entry whose low byte is 8" cardE (0 ∷ 2 ∷ 4 ∷ 264 ∷ []) 200 18 ∷
     refuses "two entries, the second above the ratio" cardE (0 ∷ 8 ∷ []) 7 18 ∷
     refuses "no entry" cardE [] 2 18 ∷
     refuses "0 alone" cardE (0 ∷ []) 2 18 ∷

@@ -1,4 +1,5 @@
-// The planners: one search, over the counts that are allowed the planner, and the call of a planner, which answers every input.
+// The exact and the coarse planner: one search, over the counts that are allowed the planner, and their call, which answers every input. The search
+// over a list of counts (`least_over`) and the test on the areas (`has_room`) serve the planner over a list too.
 use card::Checked;
 use card::Header;
 use counts::PlannerKind;

@@ -24,7 +24,7 @@ use Rattle.columns.specs.Places.{count-fits}
 use Rattle.theory.specs.Least.{searched-least, searched-cost}
 use Rattle.theory.specs.Enumeration.{least-plan, least-plan-unique}
 use Rattle.theory.specs.Ratio.{ratio}
-use Rattle.theory.specs.CountLists.{InRules, rules-grow, all-rules, coarse-rules, planner-rules}
+use Rattle.theory.specs.CountLists.{InRules, rules-grow, ratio-some, all-rules, coarse-rules, planner-rules}
 
 module _ {i : Instance} (ready : Plannable i) where
   -- Plans over any list of allowed counts.
@@ -102,7 +102,7 @@ module _ {i : Instance} (ready : Plannable i) where
   list-ratio counts r rules s e =
       let asc = rules .ascending in
       let fit = sheet-counts-fit i s (ready .steps) e in
-      let bound = ratio i counts 0 asc (ready .loads) r (rules .ratio) (rules-grow rules) (countsOf i s) (fit .in-rack) (fit .served) in
+      let bound = ratio i counts 0 asc (ready .loads) r (ratio-some rules) (rules-grow rules) (countsOf i s) (fit .in-rack) (fit .served) in
       omega (arith, searched-plan counts asc .1, mul-le-mul-left r (sheet-at-least i (ready .convex) s e))
 
   -- Condition 3, exact: no sheet that serves costs less than the least plan over all counts (thesis 3.8), whose ratio is 1.

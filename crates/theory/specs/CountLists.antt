@@ -5,7 +5,7 @@ use mathlib.Core.Path.{_≡_, refl, ap}
 use mathlib.Core.Bool.{true}
 use mathlib.Core.List.{List}
 use mathlib.Core.Logic.{_⊎_, inl, inr, ⊎-elim}
-use native.Mathlib.Nat.{le-refl}
+use native.Mathlib.Nat.{le-refl, le-trans, mul-le-mul-right}
 use native.Mathlib.Numerals.{add-one}
 use native.Mathlib.Omega.{arith}
 use lib.ListN.{length, getD}
@@ -28,7 +28,6 @@ use Rattle.columns.specs.Column.{countAtPlace, lastPlace, Ascending, GrowsBy}
 -- The rules of 02 §8 for a list of allowed counts and a ratio r in a rack of m as propositions, without the bounds 201 and 200.
 pub record InRules (counts : List ℕ) (r m : ℕ) : Type 0 where
   pub ascending : Ascending counts m
-  pub ratio : 1 ≤ r
   pub first : countAtPlace counts 1 ≤ r
   pub gaps : (j : ℕ) → j + 2 < length counts → gapAfter counts (j + 1) ≤ r * gapAfter counts j
 
@@ -43,8 +42,13 @@ rules-grow {counts} {r} rules (suc j) h =
     omega (arith, rules-grow rules j (omega arith), rules .gaps j (omega arith), ap (λ (n : ℕ). r * n) rise) in
     rw (add-one j) at next
 
+-- The ratio is at least 1, since the first entry after 0 is at most that.
+pub ratio-some : {counts : List ℕ} {r m : ℕ} → InRules counts r m → 1 ≤ r
+ratio-some rules =
+    let asc = rules .ascending in omega (arith, asc .rises 0 (omega (arith, asc .two)), asc .first, rules .first)
+
 -- A list and a ratio that keep the rules by the test keep them.
-pub rules-hold : (l : List ℕ) (r m : ℕ) → keepsRules l r m ≡ true → InRules l r m × (length l ≤ 201)
+pub rules-hold : (l : List ℕ) (r m : ℕ) → keepsRules l r m ≡ true → InRules l r m × (length l ≤ 201) × (r ≤ 200)
 unfolding keepsRules strictlyAscends gapsGrowBy
 rules-hold l r m e =
     let rises : strictlyAscends l ≡ true = search (and-left, and-right) in
@@ -58,11 +62,11 @@ rules-hold l r m e =
     } in (
       record {
         ascending = asc;
-        ratio = leb-true 1 r (search (and-left, and-right));
         first = leb-true (getD l 1 0) r (search (and-left, and-right));
         gaps = λ j h. leb-true _ _ (every-at (length l - 2) _ grow j (omega arith));
       },
       leb-true (length l) 201 (search (and-left, and-right)),
+      leb-true r 200 (search (and-left, and-right)),
     )
 
 -- A list and a ratio that keep the rules keep them by the test, within the bounds 201 and 200.
@@ -76,7 +80,7 @@ rules-kept {l} {r} {m} rules short most =
       eq-eqb _ _ (asc .first),
       eq-eqb _ _ (asc .last),
       every-all (length l - 1) (λ j. ltb (getD l j 0) (getD l (j + 1) 0)) (λ j h. lt-ltb _ _ (asc .rises j (omega arith))),
-      le-leb _ _ (rules .ratio),
+      le-leb _ _ (ratio-some rules),
       le-leb _ _ most,
       le-leb _ _ (rules .first),
     )
@@ -102,7 +106,6 @@ all-rules m some =
       ascending =
           in-order-ascends (allCounts m) m (all-in-order m) (all-member m 0 .0 (omega arith))
           (all-member m m .0 (le-refl m)) (λ n. all-member m n .1) some;
-      ratio = omega arith;
       first = omega (arith, at 1 some);
       gaps = λ j h.
           let inside : j + 2 < m + 1 = rw length-tabulate at h in
@@ -167,7 +170,6 @@ module _ (m : ℕ) (some : 1 ≤ m) where
   coarse-rules =
       record {
         ascending = coarse-ascending;
-        ratio = omega arith;
         first = omega (arith, power-above 0 0 (coarse-ascending .two) (omega (arith, coarse-ascending .first)));
         gaps = coarse-gap;
       }
@@ -179,3 +181,15 @@ unfolding allowedCounts
 planner-rules exact i some keeps = all-rules (i .modules) some
 planner-rules coarse i some keeps = coarse-rules (i .modules) some
 planner-rules (listed l r) i some keeps = rules-hold l r (i .modules) keeps .0
+
+-- A list that keeps the rules with some ratio keeps them with every higher one.
+pub higher-ratio : (l : List ℕ) (r q m : ℕ) → keepsRules l r m ≡ true → r ≤ q → q ≤ 200 → keepsRules l q m ≡ true
+higher-ratio l r q m kept more most =
+    let (rules, short, _) = rules-hold l r m kept in
+    rules-kept
+    (record {
+      ascending = rules .ascending;
+      first = le-trans (rules .first) more;
+      gaps = λ j h. le-trans (rules .gaps j h) (mul-le-mul-right (gapAfter l j) more);
+    })
+    short most

@@ -172,16 +172,14 @@ BoundFails i counts r = (s : List ℕ) × (serves i s ≡ true) × (r * sheetCos
 abbrev BoundAttained : Instance → List ℕ → (r : ℕ) → Type 0
 BoundAttained i counts r = (s : List ℕ) × (serves i s ≡ true) × (r * sheetCost i s ≡ leastCost i counts)
 
--- The costs are 4 against 1, 8 against 1, 8 against 2, and 2 against 1.
+-- The costs are 4 against 1, 8 against 2, and 2 against 1.
 bounds-computed :
-    BoundFails (level 4 0 1) (noneOrAll 4) 2 × BoundFails (level 8 0 1) (noneOrAll 8) 2 × BoundFails (level 8 0 2) wideGap 2 ×
-    BoundAttained (level 2 0 1) (noneOrAll 2) 2
+    BoundFails (level 4 0 1) (noneOrAll 4) 2 × BoundFails (level 8 0 2) wideGap 2 × BoundAttained (level 2 0 1) (noneOrAll 2) 2
 unfolding every sum rows tabulate keep flatMap canServe stateAt sheetLength sheetEntries lightAt sheetLight serves stepCost changeCost
     sheetOperatingCost sheetSwitchingCost sheetCost moduleByte slotRow sheetOf planCost planServes plansInOrder cheapest cheapestOf
     leastPlan leastOver firstOver leastFrom activeStep
 bounds-computed = (
   (1 ∷ off ∷ off ∷ off ∷ [], refl, lit< tt),
-  (1 ∷ off ∷ off ∷ off ∷ off ∷ off ∷ off ∷ off ∷ [], refl, lit< tt),
   (1 ∷ 1 ∷ off ∷ off ∷ off ∷ off ∷ off ∷ off ∷ [], refl, lit< tt),
   (1 ∷ off ∷ [], refl, refl),
 )
@@ -199,17 +197,12 @@ wider-gaps = (
   bounds-computed .0,
 )
 
--- So it may over a list whose first entry is above the ratio 2, with all other rules of 02 §8 kept: here 8 against 1.
+-- Its first entry is above the ratio 2, and it keeps all other rules of 02 §8.
 pub first-above-ratio :
-    Plannable (level 8 0 1) × Ascending (noneOrAll 8) 8 ×
-    ((j : ℕ) → j + 2 < length (noneOrAll 8) → gapAfter (noneOrAll 8) (j + 1) ≤ 2 * gapAfter (noneOrAll 8) j) ×
-    BoundFails (level 8 0 1) (noneOrAll 8) 2
-first-above-ratio = (
-  level-plannable 8 0 1 (omega arith) (omega arith),
-  none-or-all-ascending 8 (omega arith),
-  λ j h. absurd (omega arith),
-  bounds-computed .1,
-)
+    Plannable (level 4 0 1) × Ascending (noneOrAll 4) 4 ×
+    ((j : ℕ) → j + 2 < length (noneOrAll 4) → gapAfter (noneOrAll 4) (j + 1) ≤ 2 * gapAfter (noneOrAll 4) j) ×
+    BoundFails (level 4 0 1) (noneOrAll 4) 2
+first-above-ratio = (wider-gaps .0, wider-gaps .1, λ j h. absurd (omega arith), wider-gaps .3)
 
 -- So it may over a list with a gap of more than twice the gap before it, with all other rules kept: here 8 against 2.
 pub gap-above-ratio : Plannable (level 8 0 2) × Ascending wideGap 8 × (countAtPlace wideGap 1 ≤ 2) × BoundFails (level 8 0 2) wideGap 2
@@ -218,13 +211,13 @@ gap-above-ratio = (
   level-plannable 8 0 2 (omega arith) (omega arith),
   rules-hold wideGap 7 8 refl .0 .ascending,
   omega arith,
-  bounds-computed .2,
+  bounds-computed .1,
 )
 
 -- Over a list that keeps all rules the least plan may cost exactly the ratio times as much as a sheet that serves: here 2 against 1.
 pub ratio-attained : Plannable (level 2 0 1) × InRules (noneOrAll 2) 2 2 × BoundAttained (level 2 0 1) (noneOrAll 2) 2
 unfolding every strictlyAscends gapsGrowBy keepsRules
-ratio-attained = (level-plannable 2 0 1 (omega arith) (omega arith), rules-hold (noneOrAll 2) 2 2 refl .0, bounds-computed .3)
+ratio-attained = (level-plannable 2 0 1 (omega arith) (omega arith), rules-hold (noneOrAll 2) 2 2 refl .0, bounds-computed .2)
 
 -- More modules may cost more in total, though their average falls: here 2 against 1.
 pub total-rises : operatingCost (level 2 1 1) 1 1 < operatingCost (level 2 1 1) 2 1

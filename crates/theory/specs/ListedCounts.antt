@@ -18,7 +18,7 @@ use Rattle.model.specs.RelatedShows.{PlannedAt, PlannedAs}
 use Rattle.laws.specs.Acceptance.{modules-range}
 use Rattle.columns.specs.Column.{countAtPlace, lastPlace}
 use Rattle.columns.specs.Places.{length-fits}
-use Rattle.theory.specs.CountLists.{InRules, rules-grow, rules-hold, rules-kept, all-rules, coarse-rules}
+use Rattle.theory.specs.CountLists.{InRules, rules-grow, rules-hold, rules-kept, planner-rules}
 use Rattle.theory.specs.CourseBook.{planned-at, planned-as}
 
 -- The counts allowed a planner for a show and its ratio, as a list that is handed in.
@@ -28,18 +28,20 @@ asListed k i = listed (allowedCounts k (i .modules)) (ratioOf k)
 -- On a rack of 1 to 200 modules this list keeps the rules where the planner does.
 listed-keeps : (k : Planner) (i : Instance) → 1 ≤ i .modules → i .modules ≤ 200 → KeepsRules k i → KeepsRules (asListed k i) i
 unfolding allowedCounts
-listed-keeps exact i some most keeps =
-    let rules = all-rules (i .modules) some in rules-kept rules (omega (arith, length-fits (rules .ascending))) (omega arith)
-listed-keeps coarse i some most keeps =
-    let rules = coarse-rules (i .modules) some in rules-kept rules (omega (arith, length-fits (rules .ascending))) (omega arith)
-listed-keeps (listed l r) i some most keeps = keeps
+listed-keeps k i some most keeps =
+    let rules = planner-rules k i some keeps in rules-kept rules (omega (arith, length-fits (rules .ascending))) (ratio-most k keeps)
+  where
+    ratio-most : (k : Planner) → KeepsRules k i → ratioOf k ≤ 200
+    ratio-most exact keeps = omega arith
+    ratio-most coarse keeps = omega arith
+    ratio-most (listed l r) keeps = rules-hold l r _ keeps .2
 
 -- Two planners give a card the same cost and the same plan.
 abbrev SamePlan : (k l : Planner) → (card : List ℕ) → Type 0
 SamePlan k l c = (x : ℕ) × (p : List ℕ) × PlannedAt k c x × PlannedAs k c p × PlannedAt l c x × PlannedAs l c p
 
 -- A planner and the list of its own counts with its own ratio give an accepted card the same cost and plan.
-pub listed-same : (k : Planner) (c : List ℕ) → Accepted c → KeepsRules k (instanceOf c) → SamePlan k (asListed k (instanceOf c)) c
+listed-same : (k : Planner) (c : List ℕ) → Accepted c → KeepsRules k (instanceOf c) → SamePlan k (asListed k (instanceOf c)) c
 unfolding allowedCounts plannedBy
 listed-same k c given keeps =
     let (some, most) = modules-range c given in

@@ -1,4 +1,3 @@
-use native.Mathlib.Omega.{arith}
 use borrow.Author.Tests.{lt-leb, le-leb}
 use Rattle.count_rules.specs.RuleRequires.{ratioInRange}
 use Rattle.count_rules.proofs.ratio_in_range.Statement.{statement}
