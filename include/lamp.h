@@ -11,9 +11,9 @@
  * step from 0 to Q. Each slot has a load, and the steps of its active modules must sum to at least that
  * load. More light is allowed, because the projectors have a shutter. An active module costs points in
  * each slot, and switching a module on or off costs points too. The library finds how many modules should
- * be active in each slot, and at which steps, so that the whole show costs the least. It also plans for a
- * rack that allows certain counts only, gives the cost of any other choice and tells where its points
- * above the least went, it makes practice cards, each from a number, it writes the table of the catalogue
+ * be active in each slot, and at which steps, so that the whole show costs the least. It also gives the
+ * cost of any other choice and tells where its points above the least went, it plans for a rack that allows
+ * certain counts only, it makes practice cards, each from a number, it writes the table of the catalogue
  * module into a card, and it keeps the rules of a sitting, in which candidates submit sheets.
  *
  *
@@ -162,10 +162,10 @@
  * This holds for all sheets that serve, whichever modules they have active, however they spread the light
  * and however much more of it they give than the loads, and not only for sheets of plans.
  *
- * lamp_plan_coarse gives a plan of least cost among the plans that use allowed counts only. The allowed
- * counts are 0, each power of two up to m, and m itself. It is proved that the plan's cost is at most
- * twice the least cost of any sheet that serves the show. Both planners take every accepted card, also
- * one whose table falls.
+ * lamp_plan_coarse gives a plan of least cost among the plans that serve the show and use coarse counts
+ * only. The coarse counts are 0, each power of two up to m, and m itself. It is proved that the plan's
+ * cost is at most twice the least cost of any sheet that serves the show. Both planners take every
+ * accepted card, also one whose table falls.
  *
  * Several plans may have the least cost. Both planners then give the one with the smallest count in slot
  * T; among those the one with the smallest count in slot T - 1; and so on back to slot 1.
@@ -175,10 +175,11 @@
  *
  * The cooling of some racks allows certain counts only. lamp_plan_groups plans for such a rack. The host
  * hands it the allowed counts as a list, an array of uint16_t, and a whole number, the ratio r. The call
- * gives a plan of least cost among the plans whose counts are all in the list. If there are several, it
- * gives the one that has the smallest count in slot T, and so on back, as the other planners do. It is proved
- * that after number 0 the cost is at most r times the least cost of any sheet that serves the show,
- * whatever the counts of that sheet are.
+ * gives a plan of least cost among the plans that serve the show and whose counts are all in the list. If
+ * there are several, it gives the one that has the smallest count in slot T, and so on back, as the other
+ * planners do. It is proved that after number 0 no sheet that serves the show, and in every slot has a
+ * count of the list, costs less than the plan; and that the plan's cost is at most r times the least cost
+ * of any sheet that serves the show, whatever the counts of that sheet are.
  *
  * The list and the ratio must keep these rules, else the call on an accepted card gives refusal 18:
  *
@@ -188,18 +189,19 @@
  *   gaps      A gap is the difference between two neighbouring entries. The first gap, which is the entry
  *             after 0, is at most r. Each later gap is at most r times the gap before it.
  *
- * All entries are looked at, whatever T is, also in a show without slots.
+ * All entries are looked at, whatever T is, also in a show without slots. The number 18 does not tell which
+ * rule is broken.
  *
  * The ratio says how much the plan may cost, and it does not change the plan: a list that keeps the rules
  * with some ratio keeps them with every higher one up to LAMP_MAX_RATIO, and the plan and its cost are the
  * same. So the smallest ratio with which a list keeps the rules says the most. With ratio 1 just one list
  * keeps them, that of all counts from 0 to m: then the plan and its cost are those of lamp_plan_exact. The
- * allowed counts of lamp_plan_coarse keep them with ratio 2: then the plan and its cost are those of
+ * coarse counts, as a list, keep them with ratio 2: then the plan and its cost are those of
  * lamp_plan_coarse.
  *
  * An example, in hex: m = 8, Q = 1, T = 3, warm-up price 1, cool-down price 0, F = 0 0, loads 5 3 5.
  *     44 4C 53 01 00 08 01 03 00 01 00 00 00 00 00 00 00 00 00 00 00 00 00 00 00 05 00 03 00 05 00
- * lamp_plan_exact gives cost 5 and the plan 5 5 5. If the modules switch in groups, of which the allowed
+ * lamp_plan_exact gives cost 5 and the plan 5 5 5. If the modules switch in groups, so that the allowed
  * counts are 0, 2, 4 and 8, the gaps are 2, 2 and 4, and the list keeps the rules with ratio 2. The other
  * buffers are those of A SHORT HOST above.
  *
@@ -216,13 +218,21 @@
  * off in slot 2 and on again in slot 3 would cost 4 points more. With ratio 1 it gives refusal 18: the
  * entry after 0 is 2.
  *
- * A work buffer that is long enough for lamp_plan_exact is so for every list that keeps the rules. The plan
- * is T bytes, like every plan, and lamp_sheet makes its sheet.
+ * A work buffer that is long enough for lamp_plan_exact is so for every list that keeps the rules;
+ * LAMP_MAX_COARSE_WORK bytes are enough for lists of up to 10 entries. The plan is T bytes, like every
+ * plan, and lamp_sheet makes its sheet, in which modules 1 to n are active where the count is n: so the
+ * modules from one entry of the list up to the next go on and off together. lamp_explain on this sheet
+ * gives spread 0, swaps 0, and as counts what the plan costs above the least.
  *
- * list_len counts entries, and not bytes. If a host puts a number of more than 16 bits into the list, C
- * takes its low 16 bits: 65,540 becomes 4. So a host that reads a list from its user first looks whether
- * each number is at least 0 and at most UINT16_MAX. The ratio has 64 bits, so a host hands on the number
- * itself. If it gives a negative number as the ratio, C makes it a number far above LAMP_MAX_RATIO.
+ * No other call knows the list. lamp_mark, lamp_explain and the acts of a sitting take sheets with any
+ * counts, and the least cost that they speak of is that of lamp_plan_exact. A host whose rack allows certain
+ * counts only looks at the counts of a sheet itself.
+ *
+ * list_len counts entries, and not bytes. An entry is a uint16_t of the host's own, not two bytes of a
+ * file. If a host puts a number of more than 16 bits into the list, C takes its low 16 bits: 65,540
+ * becomes 4. So a host that reads a list from its user first looks whether each number is at least 0 and
+ * at most UINT16_MAX. The ratio has 64 bits, so a host hands on the number itself. If it gives a negative
+ * number as the ratio, C makes it a number far above LAMP_MAX_RATIO.
  *
  *
  * WHERE THE POINTS WENT
@@ -492,10 +502,10 @@
  *
  * A buffer is a pointer and a length in bytes; only the list of counts has its length in entries, and the
  * list of seats in records. All buffers belong to the host, and a call uses them until it returns and no
- * longer. A buffer must be as long as its length says, no two buffers of a call may overlap, and a list
- * must be aligned, a list of counts to 2 bytes and a list of seats to 8, as every array of uint16_t and of
- * struct lamp_seat in C is: these three rules the library cannot check. A buffer of length 0 may come with
- * any pointer, also NULL.
+ * longer. A buffer must be as long as its length says, no two buffers of a call may overlap, and a list of
+ * a length above 0 must be aligned, a list of counts to 2 bytes and a list of seats to 8, as every array
+ * of uint16_t and of struct lamp_seat in C is: these three rules the library cannot check. A buffer of
+ * length 0 may come with any pointer, also NULL.
  *
  * Buffers that are read (card of every call but lamp_practice_card, list of lamp_plan_groups, a plan given
  * to lamp_sheet, a sheet given to lamp_mark, lamp_explain or lamp_sitting_submit) have exactly the length
@@ -720,9 +730,9 @@ struct lamp_answer lamp_plan_exact(const uint8_t *card, size_t card_len, uint8_t
 struct lamp_answer lamp_plan_coarse(const uint8_t *card, size_t card_len, uint8_t *plan, size_t plan_len, uint8_t *work,
                                     size_t work_len);
 
-/* The planner over a list: a plan of least cost among those whose counts are all in the list, as A RACK THAT SWITCHES IN
- * GROUPS above describes. After number 0 its cost is at most `ratio` times the least cost of any sheet
- * that serves the show.
+/* The planner over a list: a plan of least cost among those that serve and whose counts are all in the list, as A
+ * RACK THAT SWITCHES IN GROUPS above describes. After number 0 its cost is at most `ratio` times the least cost of
+ * any sheet that serves the show.
  *
  * Reads:     card, list. list_len counts entries, and not bytes.
  * Writes:    plan, work.

@@ -17,7 +17,7 @@ use Rattle.model.specs.Answers.{refusalNumber, numberOf, costOf}
 use Rattle.model.specs.Instance.{instanceOf}
 use Rattle.model.specs.Sheets.{serves, sheetCost}
 use Rattle.model.specs.Plans.{sheetOf}
-use Rattle.model.specs.Planners.{Planner, exact, ratioOf, plannedBy, plannedCost}
+use Rattle.model.specs.Planners.{Planner, exact, listed, allowedCounts, ratioOf, plannedBy, plannedCost}
 use Rattle.model.specs.Calls.{NumbersOf, Gives, Accepted, planShow, makeSheet, markSheet, practiceCard, catalogueTable, answer, successCost}
 use Rattle.model.specs.Calls.{planAtExit, workAtExit, sheetAtExit, cardAtExit, tableAtExit}
 use Rattle.model.specs.Calls.{actIn, requestOf, refusals, buffersAtExit, buffersOf, actBuffers, explainSheet}
@@ -26,13 +26,14 @@ use Rattle.model.specs.Acts.{Act, openSitting, readLeast, opened, unopened, isC
 use Rattle.model.specs.SittingState.{factsOf, stateOf, phaseOf}
 use Rattle.model.specs.Sittings.{answerTo, markedWith, told, toldBy, replyWith, replyOf}
 use Rattle.model.specs.Promises.{OwnSheet, AtMostTimes, MarkedAlike, AcceptsExactly, WritesAccepted, AlwaysEnough, HiddenTillClosed, WritesTable}
-use Rattle.model.specs.Promises.{KeepsRules, ExplainsMarked, NoneNegative, AboveLeast, ZeroExactly}
+use Rattle.model.specs.Promises.{KeepsRules, LeastWithin, ExplainsMarked, NoneNegative, AboveLeast, ZeroExactly}
 use borrow.Author.Tests.{ne-eqb}
 use Rattle.laws.specs.Acceptance.{modules-range}
 use Rattle.laws.specs.AnswerNumber.{number-zero}
 use Rattle.theory.specs.CountLists.{planner-rules}
 use Rattle.theory.specs.Condition3.{accepted-plannable, least-sheet, planner-bound}
 use Rattle.theory.specs.Refusals.{succeeded}
+use Rattle.theory.specs.ListedCounts.{within-least}
 use Rattle.theory.specs.PracticeCards.{practice-writes, practice-enough}
 use Rattle.theory.specs.SittingBounds.{least-hidden, opened-planned}
 use Rattle.theory.specs.ExplainedSheets.{explains-marked, none-negative, above-least, zero-exactly}
@@ -123,6 +124,33 @@ pub plans :
 plans k c p w (is, (plan-is, work-is)) given =
     let g = gives-as is given in
     (g, (plan-is, (work-is, (own-sheet k c p w g plan-is, at-most k c p w g))))
+
+-- The planner over a list brings with it, besides, that no sheet that keeps to the list costs less.
+pub plans-listed :
+    (l : List ℕ) (r : ℕ) (c p w : List ℕ) {a : Answer} {plan work : List ℕ} {number cost : ℕ} →
+    (a ≡ answer (planShow (listed l r) c p w)) ×
+    ((plan ≡ planAtExit (planShow (listed l r) c p w)) × (work ≡ workAtExit (planShow (listed l r) c p w))) →
+    NumbersOf a number cost →
+    Gives (planShow (listed l r) c p w) number cost ×
+    ((plan ≡ planAtExit (planShow (listed l r) c p w)) ×
+    ((work ≡ workAtExit (planShow (listed l r) c p w)) ×
+    (OwnSheet c plan number cost × (AtMostTimes r c number cost × LeastWithin l c number cost))))
+unfolding allowedCounts
+plans-listed l r c p w exit given =
+    let (g, (plan-is, (work-is, (own, bound)))) = plans (listed l r) c p w exit given in
+    let k : Planner = listed l r in (
+      g,
+      (
+        plan-is,
+        (
+          work-is,
+          (
+            own,
+            (bound, λ e s served within. rw (cost-of k c p w g e) (within-least k c (accepted k c p w g e) (keeps k c p w g e) s served within)),
+          ),
+        ),
+      ),
+    )
 
 -- The practice call.
 pub practises :

@@ -14,7 +14,7 @@ ghost use Rattle.model.specs.ExplainedPoints.{explainedWork, pointsOf};
 ghost use Rattle.model.specs.Acts.{openSitting, seatCandidate, closeSitting, submitSheet, readLeast, readLowest, readUsed};
 ghost use Rattle.model.specs.Sittings.{replyOf, seatsAtExit};
 ghost use Rattle.model.specs.Promises.{OwnSheet, AtMostTimes, MarkedAlike, AcceptsExactly, WritesAccepted, AlwaysEnough, HiddenTillClosed, WritesTable};
-ghost use Rattle.model.specs.Promises.{ExplainsMarked, NoneNegative, AboveLeast, ZeroExactly};
+ghost use Rattle.model.specs.Promises.{LeastWithin, ExplainsMarked, NoneNegative, AboveLeast, ZeroExactly};
 
 // What every call but the explanation and the acts of a sitting returns: a refusal's number and cost 0, or number 0 and the cost.
 #[repr(C)]
@@ -130,6 +130,7 @@ pub extern "C" fn lamp_plan_groups(
     ensures work_bytes { λ r. ⌜ now (work .exit) ≡ workAtExit (planShow (listed (now (list .entry)) ratio) (now (card .entry)) (now (plan .entry)) (now (work .entry))) ⌝ }
     ensures own_sheet { λ r. ⌜ OwnSheet (now (card .entry)) (now (plan .exit)) (r .number) (r .cost) ⌝ }
     ensures at_most { λ r. ⌜ AtMostTimes ratio (now (card .entry)) (r .number) (r .cost) ⌝ }
+    ensures least_within { λ r. ⌜ LeastWithin (now (list .entry)) (now (card .entry)) (r .number) (r .cost) ⌝ }
 {
     to_c(count_lists::plan_listed(card, list, ratio, plan, work))
 }

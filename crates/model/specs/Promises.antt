@@ -2,12 +2,12 @@
 -- the sheet call, marking and the planners conditions 2 and 3 of the tender, where the sheets are all lists that serve, of the practice call
 -- what document 02, §1, says of its cards, of reading the least cost what §4 says of it, of the catalogue call what its bytes are in a card,
 -- and of the explanation of a sheet what §7 says of its three numbers.
-use Prim.Native.Nat.{ℕ, _+_, _*_, _≤_}
+use Prim.Native.Nat.{ℕ, _+_, _*_, _≤_, _<_}
 use mathlib.Core.Path.{_≡_}
 use mathlib.Core.Bool.{true, false}
 use mathlib.Core.List.{List, [], _∷_, _++_}
 use mathlib.Core.Logic.{_↔_}
-use lib.ListN.{length, take}
+use lib.ListN.{length, getD, take}
 use Rattle.model.specs.declared.Refusal.{Refusal}
 use Rattle.model.specs.declared.Refusal.the-variants.{NotACard, Version, RackSize, SlotCount, CardLength, NotConvex, LoadRange}
 use Rattle.model.specs.declared.Answer.the-variants.{Cost}
@@ -17,7 +17,7 @@ use Rattle.model.specs.declared.Points.{Points}
 use Rattle.model.specs.Answers.{numberOf, costOf}
 use Rattle.model.specs.Instance.{Instance, instanceOf, headLength, cardLength, tableSize, tableOf, tableInRange, neverFalls, priceBound}
 use Rattle.model.specs.Sheets.{serves, sheetOperatingCost, sheetSwitchingCost, sheetCost, countsOf}
-use Rattle.model.specs.Plans.{sheetOf, planCost}
+use Rattle.model.specs.Plans.{Member, sheetOf, planCost}
 use Rattle.model.specs.Planners.{Planner, exact, workBytes, plannedCost}
 use Rattle.model.specs.Explanation.{countsOperatingCost, countsSwitchingCost, NoBetterSpread, NoBetterChoice, NoBetterOrder}
 use Rattle.model.specs.Explanation.{NoBetterPlan, NoBetterSheet}
@@ -42,6 +42,16 @@ pub record OwnSheet (card plan : List ℕ) (number cost : ℕ) : Type 0 where
 abbrev pub AtMostTimes : ℕ → (card : List ℕ) → (number cost : ℕ) → Type 0
 AtMostTimes r card number cost =
     number ≡ 0 → (s : List ℕ) → serves (instanceOf card) s ≡ true → cost ≤ r * sheetCost (instanceOf card) s
+
+-- Each slot of a sheet has as many active modules as some number of the list.
+abbrev pub CountsWithin : (counts : List ℕ) → (card sheet : List ℕ) → Type 0
+CountsWithin counts card s = (t : ℕ) → t < instanceOf card .slots → Member (getD (countsOf (instanceOf card) s) t 0) counts
+
+-- 'The plan limited to the list' (02 §8) is the least of all sheets that keep to the list: no sheet that serves, with counts of the list
+-- alone, costs less.
+abbrev pub LeastWithin : (counts : List ℕ) → (card : List ℕ) → (number cost : ℕ) → Type 0
+LeastWithin counts card number cost =
+    number ≡ 0 → (s : List ℕ) → serves (instanceOf card) s ≡ true → CountsWithin counts card s → cost ≤ sheetCost (instanceOf card) s
 
 -- 'Each sheet the planner makes is accepted at the cost the planner named': marking accepts the first m × T bytes of the sheet
 -- buffer at the cost given.

@@ -1,5 +1,5 @@
--- Racks that switch in groups, on cards (document 02, §8): the planners of document 01 are two of these lists, and with ratio 1 there is no
--- other list.
+-- Racks that switch in groups, on cards (document 02, §8): the planners of document 01 are two of these lists, with ratio 1 there is no other
+-- list, and no sheet that keeps to a list costs less than its plan.
 use Prim.Native.Nat.{ℕ, zero, suc, _+_, _≤_, _<_}
 use mathlib.Core.Path.{_≡_, refl}
 use mathlib.Core.Bool.{true}
@@ -11,14 +11,19 @@ use Rattle.lists.specs.Lists.{equal-tabulate}
 use Rattle.model.specs.Instance.{Instance, instanceOf}
 use Rattle.model.specs.Counts.{allCounts, coarseCounts}
 use Rattle.model.specs.CountRules.{keepsRules}
-use Rattle.model.specs.Planners.{Planner, exact, coarse, listed, allowedCounts, ratioOf, plannedBy}
+use Rattle.model.specs.Sheets.{serves, sheetCost, countsOf}
+use Rattle.model.specs.Plans.{Allowed}
+use Rattle.model.specs.Planners.{Planner, exact, coarse, listed, allowedCounts, ratioOf, plannedBy, plannedCost}
 use Rattle.model.specs.Calls.{Accepted}
-use Rattle.model.specs.Promises.{KeepsRules}
+use Rattle.model.specs.Promises.{KeepsRules, CountsWithin}
 use Rattle.model.specs.RelatedShows.{PlannedAt, PlannedAs}
 use Rattle.laws.specs.Acceptance.{modules-range}
 use Rattle.columns.specs.Column.{countAtPlace, lastPlace}
 use Rattle.columns.specs.Places.{length-fits}
 use Rattle.theory.specs.CountLists.{InRules, rules-grow, rules-hold, rules-kept, planner-rules}
+use Rattle.theory.specs.SheetLaws.{sheet-counts-fit}
+use Rattle.theory.specs.Enumeration.{least-plan}
+use Rattle.theory.specs.Condition3.{accepted-plannable, sheet-counts-cost}
 use Rattle.theory.specs.CourseBook.{planned-at, planned-as}
 
 -- The counts allowed a planner for a show and its ratio, as a list that is handed in.
@@ -57,6 +62,19 @@ coarse-listed c given = listed-same coarse c given refl
 pub exact-listed : (c : List ℕ) → Accepted c → SamePlan exact (listed (allCounts (instanceOf c .modules)) 1) c
 unfolding allowedCounts
 exact-listed c given = listed-same exact c given refl
+
+-- No sheet that serves, with counts that are all allowed the planner, costs less than the planner's plan.
+pub within-least :
+    (k : Planner) (c : List ℕ) → Accepted c → KeepsRules k (instanceOf c) → (s : List ℕ) → serves (instanceOf c) s ≡ true →
+    CountsWithin (allowedCounts k (instanceOf c .modules)) c s → plannedCost k (instanceOf c) ≤ sheetCost (instanceOf c) s
+within-least k c given keeps s e within =
+    let i = instanceOf c in
+    let ready = accepted-plannable c given in
+    let fit = sheet-counts-fit i s (ready .steps) e in
+    let own : Allowed i (allowedCounts k (i .modules)) (countsOf i s) =
+    record { slotwise = fit .slotwise; member = within; served = fit .served } in
+    let least = least-plan i _ (planner-rules k i (ready .some) keeps .ascending) (ready .loads) .least (countsOf i s) own in
+    omega (arith, sheet-counts-cost ready s e)
 
 -- With ratio 1 each entry is its place.
 entry-is : {l : List ℕ} {m : ℕ} → InRules l 1 m → (j : ℕ) → j < length l → countAtPlace l j ≡ j
