@@ -106,10 +106,18 @@ fn small_card(random: &mut Random) -> Card {
     card
 }
 
-/// The planner gives the first of the least plans over the list, at the cost of its sheet, which is at most the ratio times the least cost of
-/// ALL sheets.
-fn compare_with_all(classes: &mut Classes, card: &Card, show: &Show, least: u64, list: &[u16], ratio: u64) {
+/// The least cost of the sheets, given by their counts and costs, whose counts are all allowed.
+fn least_cost(sheets: &[(Vec<u8>, u64)], allowed: impl Fn(u16) -> bool) -> u64 {
+    let within = sheets.iter().filter(|(counts, _)| counts.iter().all(|count| allowed(u16::from(*count))));
+    within.map(|(_, cost)| *cost).min().expect("the full rack serves")
+}
+
+/// The planner gives the first of the least plans over the list, at the cost of its sheet, which is the least cost of all sheets that keep to
+/// the list, and at most the ratio times the least cost of ALL sheets.
+fn compare_with_all(classes: &mut Classes, card: &Card, show: &Show, sheets: &[(Vec<u8>, u64)], list: &[u16], ratio: u64) {
     let (cost, plan) = grouped(card, list, ratio);
+    assert_eq!(cost, least_cost(sheets, |count| list.contains(&count)), "sheets that keep to the list: {card:?}, {list:?}, ratio {ratio}");
+    let least = least_cost(sheets, |_| true);
     let plans = least_plans(show, &counts(list));
     assert_eq!((cost, &plan), (show.sheet_cost(&show.sheet(&plans[0])), &plans[0]), "{card:?}, {list:?}, ratio {ratio}");
     assert!(least <= cost && cost <= ratio * least, "{cost}, where the least is {least}: {card:?}, {list:?}, ratio {ratio}");
@@ -136,12 +144,12 @@ fn all_plans_and_sheets() {
     for _ in 0..6_000 {
         let card = small_card(&mut random);
         let show = plain::read_card(&card.bytes()).unwrap();
-        let least = serving_sheets(&card, &show).iter().map(|(_, cost)| *cost).min().expect("the full rack serves");
+        let sheets: Vec<_> = serving_sheets(&card, &show).iter().map(|(sheet, cost)| (show.active(sheet), *cost)).collect();
         shows::classes(&card).into_iter().for_each(|name| classes.see(name));
         for _ in 0..4 {
             let ratio = count_lists::ratio(&mut random);
             let list = count_lists::list(&mut random, show.modules, ratio);
-            compare_with_all(&mut classes, &card, &show, least, &list, ratio);
+            compare_with_all(&mut classes, &card, &show, &sheets, &list, ratio);
             count_lists::classes(&list, ratio).into_iter().for_each(|name| classes.see(name));
         }
     }
