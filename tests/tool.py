@@ -349,7 +349,7 @@ WRONG_GROUPS = {
     ("--ratio", "8"): "--ratio needs --groups LIST beside it",
     ("--groups", "0,8", "--coarse"): "--groups needs --ratio RATIO beside it",
     ("--coarse", "--ratio", "8"): "--ratio needs --groups LIST beside it",
-    (*E_GROUPS, "--coarse"): "--coarse and --groups are two planners",
+    (*E_GROUPS, "--coarse"): "--coarse and --groups are different planners",
     ("--ratio", "2", "--groups"): "--groups names no list",
     ("--groups", "", "--ratio", "2"): "--groups names no list",
     ("--groups", "0,8", "--ratio"): "--ratio names no ratio",
