@@ -266,6 +266,14 @@ AGAINST_RULES = {
     ("0", "1"): ("the list has 1 entry; it has to have 2 to 201", "entry 1, the last, is 0; it has to be 8, the number of modules"),
     ("8", "8"): ("the list has 1 entry; it has to have 2 to 201", "entry 1 is 8; it has to be 0"),
     ("1,2,4,8", "2"): ("entry 1 is 1; it has to be 0",),
+    ("2,4,8", "2"): ("entry 1 is 2; it has to be 0",),
+    ("8,4,2,0", "2"): (
+        "entry 1 is 8; it has to be 0",
+        "entry 4, the last, is 0; it has to be 8, the number of modules",
+        "entry 2 is 4; it has to be above entry 1, which is 8",
+        "entry 3 is 2; it has to be above entry 2, which is 4",
+        "entry 4 is 0; it has to be above entry 3, which is 2",
+    ),
     ("0,2,4,7", "2"): ("entry 4, the last, is 7; it has to be 8, the number of modules",),
     ("0,2,4,9", "3"): ("entry 4, the last, is 9; it has to be 8, the number of modules",),
     ("0,2,4,264", "200"): ("entry 4, the last, is 264; it has to be 8, the number of modules",),
@@ -330,7 +338,8 @@ def keeps_rules(counts, ratio, modules):
 
 
 def rules_of_groups():
-    """Every short list of small counts is planned if it keeps the rules, and else refused by 18 with a place at least."""
+    """Every short list of small counts is planned if it keeps the rules, and else refused by 18 with a place at least. Only of a list that
+    begins with 0 the first entry after 0 is told."""
     lists = [counts for length in (1, 2, 3) for counts in itertools.product(range(6), repeat=length)]
     lists += [counts for length in (4, 5) for counts in itertools.combinations(range(6), length)]
     for ratio in range(5):
@@ -339,6 +348,8 @@ def rules_of_groups():
             told = err.startswith(f"lamp: {RULES}  ".encode()) and not out
             found = (status, told) == ((0, False) if keeps_rules(counts, ratio, 4) else (1, True))
             ensure(f"{counts} and ratio {ratio}, which gives {status}, {err}", found)
+            high = len(counts) > 1 and counts[0] == 0 and counts[1] > ratio > 0
+            ensure(f"the first entry after 0 in {err}", (b"; the first entry after 0 has to be " in err) == high)
         require(f"the lists of ratio {ratio}", any(keeps_rules(counts, ratio, 4) for counts in lists) == (ratio > 0))
 
 

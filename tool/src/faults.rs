@@ -175,10 +175,14 @@ fn not_above(counts: &[u64]) -> impl Iterator<Item = String> + '_ {
     })
 }
 
-/// The first entry after 0, if it is above the ratio.
+/// The first entry after 0, if it is above the ratio. A list that does not begin with 0 has none.
 fn above_ratio(counts: &[u64], ratio: u64) -> Option<String> {
-    let entry = counts.get(1).filter(|entry| **entry > ratio)?;
-    Some(format!("entry 2 is {}; the first entry after 0 has to be at most {ratio}, the ratio", grouped(*entry)))
+    match counts {
+        [0, entry, ..] if *entry > ratio => {
+            Some(format!("entry 2 is {}; the first entry after 0 has to be at most {ratio}, the ratio", grouped(*entry)))
+        }
+        _ => None,
+    }
 }
 
 /// The entries at a gap that is too wide for the gap before it.
