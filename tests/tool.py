@@ -354,6 +354,8 @@ def rules_of_groups():
 
 
 LIST_FORM = "; LIST is one word with commas, as 0,2,4,8"
+NO_NUMBER = "is not a whole number in digits alone"
+COMMAS = f"{NO_NUMBER}, without commas\n"
 # What follows the card in a wrong use, and what is said of it.
 WRONG_GROUPS = {
     ("--groups", "0,8"): "--groups needs --ratio RATIO beside it",
@@ -371,28 +373,37 @@ WRONG_GROUPS = {
     ("--groups", ",0,8", "--ratio", "8"): f"COUNT is empty (entry 1 of LIST){LIST_FORM}",
     ("--groups", "0,,8", "--ratio", "8"): f"COUNT is empty (entry 2 of LIST){LIST_FORM}",
     ("--groups", "0, ,8", "--ratio", "8"): f"COUNT is empty (entry 2 of LIST){LIST_FORM}",
-    ("--groups", "0 2 4 8", "--ratio", "2"): f"COUNT '0 2 4 8' is not a number (entry 1 of LIST){LIST_FORM}",
-    ("--groups", " 0,8", "--ratio", "8"): f"COUNT ' 0' is not a number (entry 1 of LIST){LIST_FORM}",
-    ("--groups", "0,8 ", "--ratio", "8"): f"COUNT '8 ' is not a number (entry 2 of LIST){LIST_FORM}",
-    ("--groups", "0 ,8", "--ratio", "8"): f"COUNT '0 ' is not a number (entry 1 of LIST){LIST_FORM}",
-    ("--groups", "0,\u00a08", "--ratio", "8"): f"COUNT '\u00a08' is not a number (entry 2 of LIST){LIST_FORM}",
-    ("--groups", "0,2.5,8", "--ratio", "8"): f"COUNT 2.5 is not a number (entry 2 of LIST){LIST_FORM}",
-    ("--groups", "0,2,x", "--ratio", "2"): f"COUNT x is not a number (entry 3 of LIST){LIST_FORM}",
-    ("--groups", "0,-2,8", "--ratio", "2"): f"COUNT -2 is not a number (entry 2 of LIST){LIST_FORM}",
-    ("--groups", "0..8", "--ratio", "1"): f"COUNT 0..8 is not a number (entry 1 of LIST){LIST_FORM}",
-    ("--groups", "--ratio", "2"): f"COUNT --ratio is not a number (entry 1 of LIST){LIST_FORM}",
+    ("--groups", "0 2 4 8", "--ratio", "2"): f"COUNT '0 2 4 8' {NO_NUMBER} (entry 1 of LIST){LIST_FORM}",
+    ("--groups", " 0,8", "--ratio", "8"): f"COUNT ' 0' {NO_NUMBER} (entry 1 of LIST){LIST_FORM}",
+    ("--groups", "0,8 ", "--ratio", "8"): f"COUNT '8 ' {NO_NUMBER} (entry 2 of LIST){LIST_FORM}",
+    ("--groups", "0 ,8", "--ratio", "8"): f"COUNT '0 ' {NO_NUMBER} (entry 1 of LIST){LIST_FORM}",
+    ("--groups", "0,\u00a08", "--ratio", "8"): f"COUNT '\u00a08' {NO_NUMBER} (entry 2 of LIST){LIST_FORM}",
+    ("--groups", "0,2.5,8", "--ratio", "8"): f"COUNT 2.5 {NO_NUMBER} (entry 2 of LIST){LIST_FORM}",
+    ("--groups", "0,2,x", "--ratio", "2"): f"COUNT x {NO_NUMBER} (entry 3 of LIST){LIST_FORM}",
+    ("--groups", "0,-2,8", "--ratio", "2"): f"COUNT -2 {NO_NUMBER} (entry 2 of LIST){LIST_FORM}",
+    ("--groups", "0..8", "--ratio", "1"): f"COUNT 0..8 {NO_NUMBER} (entry 1 of LIST){LIST_FORM}",
+    ("--groups", "-2", "--ratio", "2"): f"COUNT -2 {NO_NUMBER} (entry 1 of LIST){LIST_FORM}",
+    ("--groups", "--ratio", "2"): "--groups names no list",
+    ("--groups", "--coarse"): "--groups names no list",
+    ("--ratio", "--groups", "0,8"): "--ratio names no ratio",
+    ("--groups", "0", "2", "4", "8", "--ratio", "2"): f"4 words where it takes CARD{LIST_FORM}",
+    ("--groups", "0", "2,4,8", "--ratio", "2"): f"2 words where it takes CARD{LIST_FORM}",
+    (*E_GROUPS, "a.card"): "2 words where it takes CARD",
+    (*E_GROUPS, ""): "2 words where it takes CARD",
+    ("8",): "2 words where it takes CARD",
     ("--groups", "0,08", "--ratio", "8"): "COUNT 08 begins with a needless 0 (entry 2 of LIST)",
     ("--groups", "0,65536,8", "--ratio", "8"): "COUNT 65536 is above 65,535 (entry 2 of LIST)",
     ("--groups", f"0,8,{2**64}", "--ratio", "8"): f"COUNT {2**64} is above 65,535 (entry 3 of LIST)",
     ("--groups", "0,8", "--ratio", str(2**64)): f"RATIO {2**64} is above 18,446,744,073,709,551,615",
-    ("--groups", "0,8", "--ratio", "x"): "RATIO x is not a number",
-    ("--groups", "0,8", "--ratio", "1.5"): "RATIO 1.5 is not a number",
-    ("--groups", "0,8", "--ratio", "-8"): "RATIO -8 is not a number",
-    ("--groups", "0,8", "--ratio", "8 "): "RATIO '8 ' is not a number",
-    ("--groups", "0,8", "--ratio", "1,000"): "RATIO 1,000 is not a number; digits alone, without commas",
+    ("--groups", "0,8", "--ratio", "x"): f"RATIO x {NO_NUMBER}",
+    ("--groups", "0,8", "--ratio", "1.5"): f"RATIO 1.5 {NO_NUMBER}",
+    ("--groups", "0,8", "--ratio", "-8"): f"RATIO -8 {NO_NUMBER}",
+    ("--groups", "0,8", "--ratio", "8 "): f"RATIO '8 ' {NO_NUMBER}",
+    ("--groups", "0,8", "--ratio", "4.0"): f"RATIO 4.0 {NO_NUMBER}",
+    ("--groups", "0,8", "--ratio", "1,000"): f"RATIO 1,000 {COMMAS[:-1]}",
     ("--groups", "0,8", "--ratio", "08"): "RATIO 08 begins with a needless 0",
     ("--groups=0,8", "--ratio", "8"): "no option --groups=0,8",
-    (*E_GROUPS, "0"): "2 words where it takes CARD",
+    (*E_GROUPS, "0"): f"2 words where it takes CARD{LIST_FORM}",
 }
 
 
@@ -669,13 +680,13 @@ def numbers():
     expect("a falling table, too few modules", lamp("cost", falling, "1", "4"), 1, b"", few)
     expect("a count above the rack", lamp("cost", a, "4", "0"), 1, b"", "refused 12", "count 4 in a rack of 3 modules")
     expect("cost on a refused card", lamp("cost", SAMPLES / "not-convex.card", "1", "1"), 1, b"", "refused 7: table not convex")
-    expect("a load that is no number", lamp("cost", a, "3", "x"), 2, b"", "LOAD x is not a number")
-    expect("a load that is a dash", lamp("cost", a, "3", "-"), 2, b"", "LOAD - is not a number")
+    expect("a load that is no number", lamp("cost", a, "3", "x"), 2, b"", f"LOAD x {NO_NUMBER}")
+    expect("a load that is a dash", lamp("cost", a, "3", "-"), 2, b"", f"LOAD - {NO_NUMBER}")
     expect("a needless zero", lamp("cost", a, "03", "4"), 2, b"", "COUNT 03 begins with a needless 0")
     expect("a count of 21 digits", lamp("cost", a, "1" * 21, "0"), 2, b"", f"COUNT {'1' * 21} is above 18,446,744,073,709,551,615")
     expect("a count with a comma", lamp("cost", a, "1,000", "4"), 2, b"", f"COUNT 1,000 {COMMAS}")
-    expect("a count with a blank", lamp("round", "5 ", "6"), 2, b"", "COUNT '5 ' is not a number\n")
-    expect("a count that looks like a range", lamp("round", "1-3", "6"), 2, b"", "COUNT 1-3 is not a number\n")
+    expect("a count with a blank", lamp("round", "5 ", "6"), 2, b"", f"COUNT '5 ' {NO_NUMBER}\n")
+    expect("a count that looks like a range", lamp("round", "1-3", "6"), 2, b"", f"COUNT 1-3 {NO_NUMBER}\n")
     expect("round", lamp("round", "5", "6"), 0, b"6\n")
     expect("round above the rack", lamp("round", "7", "6"), 1, b"", "refused 12", "count 7 in a rack of 6 modules")
     expect("round, rack", lamp("round", "7", "201"), 1, b"", "refused 3")
@@ -868,12 +879,12 @@ WRONG_TABLE = {
     (): ("table: 0 words where it takes TOP", TABLE_USAGE),
     ("1", "2"): ("table: 2 words where it takes TOP", TABLE_USAGE),
     ("",): ("TOP is empty",),
-    ("x",): ("TOP x is not a number\n",),
-    ("-",): ("TOP - is not a number\n",),
-    ("catalogue",): ("TOP catalogue is not a number\n",),
-    ("1,0",): ("TOP 1,0 is not a number; digits alone, without commas\n",),
-    ("8 ",): ("TOP '8 ' is not a number\n",),
-    ("1..8",): ("TOP 1..8 is not a number\n",),
+    ("x",): (f"TOP x {NO_NUMBER}\n",),
+    ("-",): (f"TOP - {NO_NUMBER}\n",),
+    ("catalogue",): (f"TOP catalogue {NO_NUMBER}\n",),
+    ("1,0",): (f"TOP 1,0 {COMMAS}",),
+    ("8 ",): (f"TOP '8 ' {NO_NUMBER}\n",),
+    ("1..8",): (f"TOP 1..8 {NO_NUMBER}\n",),
     ("08",): ("TOP 08 begins with a needless 0\n",),
     ("-8",): ("table: no option -8", TABLE_USAGE),
     ("8", "--coarse"): ("table: no option --coarse", TABLE_USAGE),
@@ -989,31 +1000,30 @@ def cards(*numbers):
 
 
 PRACTICE_USAGE = "usage: lamp practice NUMBER [--into DIR]\n       lamp practice FIRST..LAST --into DIR\n"
-COMMAS = "is not a number; digits alone, without commas\n"
-A_RANGE = "is not a number; a range is written 1..30\n"
+A_RANGE = f"{NO_NUMBER}; a range is written 1..30\n"
 WRONG_PRACTICE = {
     (): ("practice: 0 words where it takes NUMBER", PRACTICE_USAGE),
     ("1", "2"): ("practice: 2 words where it takes NUMBER", PRACTICE_USAGE),
     ("",): ("NUMBER is empty",),
-    ("x",): ("NUMBER x is not a number\n",),
-    ("-",): ("NUMBER - is not a number\n",),
+    ("x",): (f"NUMBER x {NO_NUMBER}\n",),
+    ("-",): (f"NUMBER - {NO_NUMBER}\n",),
     ("1,950",): (f"NUMBER 1,950 {COMMAS}",),
     ("4,294,967,295",): (f"NUMBER 4,294,967,295 {COMMAS}",),
     ("1,000..2,000", "--into", "into"): (f"FIRST 1,000 {COMMAS}",),
     ("1..2,000", "--into", "into"): (f"LAST 2,000 {COMMAS}",),
-    ("1,",): ("NUMBER 1, is not a number\n",),
-    ("1.950",): ("NUMBER 1.950 is not a number\n",),
+    ("1,",): (f"NUMBER 1, {NO_NUMBER}\n",),
+    ("1.950",): (f"NUMBER 1.950 {NO_NUMBER}\n",),
     ("1-30", "--into", "into"): (f"NUMBER 1-30 {A_RANGE}",),
     ("1:3",): (f"NUMBER 1:3 {A_RANGE}",),
     ("1\u20133",): (f"NUMBER 1\u20133 {A_RANGE}",),
     ("1\u20263",): (f"NUMBER 1\u20263 {A_RANGE}",),
     ("1...30", "--into", "into"): (f"NUMBER 1...30 {A_RANGE}",),
     ("1 .. 30", "--into", "into"): (f"NUMBER '1 .. 30' {A_RANGE}",),
-    (" 5",): ("NUMBER ' 5' is not a number\n",),
-    ("5\u00a0",): ("NUMBER '5\u00a0' is not a number\n",),
-    ("5 6",): ("NUMBER '5 6' is not a number\n",),
+    (" 5",): (f"NUMBER ' 5' {NO_NUMBER}\n",),
+    ("5\u00a0",): (f"NUMBER '5\u00a0' {NO_NUMBER}\n",),
+    ("5 6",): (f"NUMBER '5 6' {NO_NUMBER}\n",),
     ("5 ..6", "--into", "into"): (f"NUMBER '5 ..6' {A_RANGE}",),
-    ("5.. ", "--into", "into"): ("LAST ' ' is not a number\n",),
+    ("5.. ", "--into", "into"): (f"LAST ' ' {NO_NUMBER}\n",),
     ("007",): ("NUMBER 007 begins with a needless 0\n",),
     ("4294967296",): ("NUMBER 4294967296 is above 4,294,967,295",),
     ("1" * 30, "--into", "into"): ("is above 4,294,967,295",),
@@ -1024,13 +1034,14 @@ WRONG_PRACTICE = {
     ("4..3", "--into", "into"): ("FIRST 4 is above LAST 3",),
     ("..3", "--into", "into"): ("FIRST is empty",),
     ("1..", "--into", "into"): ("LAST is empty",),
-    ("1..3..5", "--into", "into"): ("LAST 3..5 is not a number\n",),
+    ("1..3..5", "--into", "into"): (f"LAST 3..5 {NO_NUMBER}\n",),
     ("1..4294967296", "--into", "into"): ("LAST 4294967296 is above 4,294,967,295",),
     ("1..10001", "--into", "into"): ("1..10001 has 10,001 numbers; at most 10,000 cards are written at a time\n",),
     ("0..10000", "--into", "into"): ("0..10000 has 10,001 numbers; at most 10,000 cards are written",),
     ("0..4294967295", "--into", "into"): ("has 4,294,967,296 numbers; at most 10,000 cards are written",),
     ("5", "--into"): ("practice: --into names no folder", PRACTICE_USAGE),
     ("5", "--into", ""): ("practice: --into names no folder", PRACTICE_USAGE),
+    ("5", "--into", "--into", "into"): ("practice: --into names no folder", PRACTICE_USAGE),
     ("5", "--into", "into", "--into", "into"): ("practice: --into names two folders", PRACTICE_USAGE),
     ("5", "--into", "none"): ("none: no such folder; make it first",),
     ("5", "--into", "a file"): ("a file: not a folder",),

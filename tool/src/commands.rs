@@ -66,11 +66,17 @@ impl<'a> Words<'a> {
         self.options.contains(&"--coarse")
     }
 
-    /// Takes an option, and the word after it where it names something.
-    fn take(&mut self, option: &'static str, rest: &mut impl Iterator<Item = &'a OsString>) -> Result<(), String> {
+    /// Takes an option of a command, and the word after it where it names something. Another option is no such word.
+    fn take(
+        &mut self,
+        command: &help::Command,
+        option: &'static str,
+        rest: &mut impl Iterator<Item = &'a OsString>,
+    ) -> Result<(), String> {
         self.options.push(option);
         let Some((name, what)) = help::naming(option) else { return Ok(()) };
-        let word = rest.next().filter(|word| !word.is_empty()).ok_or_else(|| format!("{name} names no {what}"))?;
+        let word = rest.next().filter(|word| !word.is_empty() && command.option(word).is_none());
+        let word = word.ok_or_else(|| format!("{name} names no {what}"))?;
         let is_second = match option {
             help::GROUPS => self.counts.replace(numbers::counts(&input::printable(word))?).is_some(),
             help::RATIO => self.ratio.replace(numbers::number("RATIO", &input::printable(word), u64::MAX)?).is_some(),
@@ -90,6 +96,16 @@ impl<'a> Words<'a> {
             (Some(_), Some(_)) if self.is_coarse() => Err("--coarse and --groups are different planners".to_string()),
             _ => Ok(()),
         }
+    }
+
+    /// A hint where words beside a list look like more of its counts.
+    fn list_hint(&self) -> String {
+        let is_part = |byte: u8| byte.is_ascii_digit() || byte == b',';
+        let looks = |word: &str| !word.is_empty() && word.bytes().all(is_part);
+        if self.counts.is_some() && self.plain.iter().any(|word| word.to_str().is_some_and(looks)) {
+            return format!("; {}", numbers::LIST_FORM);
+        }
+        String::new()
     }
 }
 
@@ -123,13 +139,13 @@ fn split<'a>(command: &help::Command, words: &'a [OsString]) -> Result<Words<'a>
             out.plain.push(word);
         } else {
             let option = command.option(word).ok_or_else(|| misuse(format!("no option {}", input::printable(word))))?;
-            out.take(option, &mut rest).map_err(misuse)?;
+            out.take(command, option, &mut rest).map_err(misuse)?;
         }
     }
     out.go_together().map_err(misuse)?;
     if out.plain.len() != command.takes.len() {
         let found = several(out.plain.len() as u64, "word");
-        return Err(misuse(format!("{found} where it takes {}", command.takes.join(" and "))));
+        return Err(misuse(format!("{found} where it takes {}{}", command.takes.join(" and "), out.list_hint())));
     }
     if out.plain.iter().filter(|word| **word == "-").count() > 1 {
         return Err(format!("{}: standard input can be read once only", command.name));

@@ -7,23 +7,26 @@ use std::ops::RangeInclusive;
 pub fn number(name: &str, word: &str, most: u64) -> Result<u64, String> {
     typed::number(word, most).map_err(|fault| match fault {
         NoNumber::NotDigits if word.is_empty() => format!("{name} is empty"),
-        NoNumber::NotDigits if has_comma(word) => no_number(name, word, "; digits alone, without commas"),
+        NoNumber::NotDigits if has_comma(word) => no_number(name, word, ", without commas"),
         NoNumber::NotDigits => no_number(name, word, ""),
         NoNumber::NeedlessZero => format!("{name} {word} begins with a needless 0"),
         NoNumber::TooLarge => format!("{name} {word} is above {}", grouped(most)),
     })
 }
 
-/// What is said of a word that is not a number. One with blanks is quoted, so that they are seen.
+/// What is said of a word that is not digits. One with blanks is quoted, so that they are seen.
 fn no_number(name: &str, word: &str, hint: &str) -> String {
     let quote = if word.contains(char::is_whitespace) { "'" } else { "" };
-    format!("{name} {quote}{word}{quote} is not a number{hint}")
+    format!("{name} {quote}{word}{quote} is not a whole number in digits alone{hint}")
 }
 
 /// Whether a word has a comma between two digits.
 fn has_comma(word: &str) -> bool {
     word.as_bytes().windows(3).any(|part| part[1] == b',' && part[0].is_ascii_digit() && part[2].is_ascii_digit())
 }
+
+/// How a list of counts is written.
+pub const LIST_FORM: &str = "LIST is one word with commas, as 0,2,4,8";
 
 /// The counts of a list with a comma between two, after which plain blanks may stand.
 pub fn counts(word: &str) -> Result<Vec<u16>, String> {
@@ -33,7 +36,7 @@ pub fn counts(word: &str) -> Result<Vec<u16>, String> {
 
 /// A count by its place in a list.
 fn count(at: usize, word: &str) -> Result<u16, String> {
-    let hint = if typed::is_digits(word) { "" } else { "; LIST is one word with commas, as 0,2,4,8" };
+    let hint = if typed::is_digits(word) { String::new() } else { format!("; {LIST_FORM}") };
     let found = number("COUNT", word, u16::MAX.into()).map_err(|message| format!("{message} (entry {at} of LIST){hint}"))?;
     Ok(found as u16)
 }
