@@ -172,13 +172,24 @@ cool-down 0
 table 0 0
 loads 5 3 5
 
-# group plan: at most 2 times the least cost of any sheet; the least cost may be lower, NOT the key of the exact plan
-# limited to the counts 0, 2, 4, 8
+# group plan, limited to the counts 0, 2, 4, 8; NOT the key of the exact plan
+# the least cost of any sheet is 5; this plan costs at most 2 times that
+# made with --groups 0,2,4,8 --ratio 2
 cost 8
 plan 8 8 8
 slot 1: 1 1 1 1 1 0 0 0
 slot 2: 1 1 1 0 0 0 0 0
 slot 3: 1 1 1 1 1 0 0 0
+"""
+A_GROUP_NOTES = b"""
+# group plan, limited to the counts 0 to 1, 3; the same as the exact plan
+# the least cost of any sheet is 32; this plan costs just that
+# made with --groups 0,1,3 --ratio 2
+"""
+E_ALL_NOTES = b"""
+# group plan, limited to the counts 0 to 8; the same as the exact plan
+# the least cost of any sheet is 5; this plan costs just that
+# made with --groups 0,1,2,3,4,5,6,7,8 --ratio 1
 """
 
 
@@ -198,14 +209,34 @@ def in_words(counts):
     return ", ".join(f"{first} to {last}" if first < last else f"{first}" for first, last in runs)
 
 
-def group_notes(counts, ratio):
-    """The lines of a group plan's key between the show and the listing."""
-    may = "; the least cost may be lower, NOT the key of the exact plan" if ratio > 1 else ", so no sheet that serves the show costs less"
-    return f"# group plan: at most {ratio} times the least cost of any sheet{may}\n# limited to the counts {in_words(counts)}\n".encode()
+def likeness(same):
+    """What a group plan is beside the exact one."""
+    return "the same as the exact plan" if same else "NOT the key of the exact plan"
+
+
+def bound(ratio, cost, least):
+    """What is said of a group plan's cost before the words for the least."""
+    return f"this plan costs at most {ratio} times" if cost > least else "this plan costs just"
+
+
+def group_notes(counts, ratio, cost, least, same):
+    """The first lines of a group plan's key between the show and the listing."""
+    first = f"# group plan, limited to the counts {in_words(counts)}; {likeness(same)}\n"
+    return f"{first}# the least cost of any sheet is {least:,}; {bound(ratio, cost, least)} that\n".encode()
+
+
+def made_with(counts, ratio):
+    """The last line of a group plan's key before the listing."""
+    return f"# made with {' '.join(groups(counts, ratio))}\n".encode()
+
+
+def cost_and_plan(key):
+    """The lines of a key that begin its listing."""
+    return re.search(rb"^cost (\d+)\nplan ?(.*)$", key, re.MULTILINE).groups()
 
 
 def group_keys(folder):
-    """The key of a plan limited to a list of counts, with its options in any place; what it costs, and how its sheet is marked."""
+    """The key of a plan limited to a list of counts, with its options in any place."""
     e, blanks = SAMPLES / "e.card", ("--groups", "0, 2,  4,8", "--ratio", "2")
     for words in ((e, *E_GROUPS), (*E_GROUPS, e), (*E_GROUPS[2:], e, *E_GROUPS[:2]), (*blanks, e), (*E_GROUPS, "--", e)):
         expect(f"group key by {words}", lamp("key", *words), 0, E_GROUP_KEY)
@@ -213,38 +244,52 @@ def group_keys(folder):
     expect("group key of a show's text", lamp("key", *E_GROUPS, "-", data=lamp("show", e)[1]), 0, E_GROUP_KEY)
     expect("group key for a card", lamp("key", "-", data=E_GROUP_KEY), 2, b"", "this is a key, not a card")
     expect("group key for a sheet", lamp("mark", e, "-", data=E_GROUP_KEY), 2, b"", "a sheet is its lines from 'cost' on")
+    for name, counts, ratio, notes in (("a", (0, 1, 3), 2, A_GROUP_NOTES), ("e", range(9), 1, E_ALL_NOTES)):
+        path = SAMPLES / f"{name}.card"
+        wanted = lamp("show", path)[1] + notes + (SAMPLES / f"{name}.out").read_bytes()
+        expect(f"group key of {name}, which is the exact one", lamp("key", path, *groups(counts, ratio)), 0, wanted)
+    group_plans(folder)
+
+
+def group_plans(folder):
+    """What a group plan costs and what is said of it, how its sheet is marked, and that the options in its key make it again."""
     made = {
         "free": card(m=4, q=1, up=0, down=0, table=(0, 0), loads=(1, 0, 2)),
         "rising": card(m=4, q=1, table=(1, 2), loads=(1, 3)),
-        "e": e.read_bytes(),
+        "dear": card(m=3, q=1, up=500, down=500, table=(0, 500), loads=(1,)),
+        "e": (SAMPLES / "e.card").read_bytes(),
         "empty": card(loads=()),
         "falls": (SAMPLES / "falls-first.card").read_bytes(),
     }
-    for name, counts, ratio, cost, plan, least in GROUP_PLANS:
+    for name, counts, ratio, cost, plan, least, same in GROUP_PLANS:
         path, told = folder / f"{name} in groups.card", f"{name}, {counts}, ratio {ratio}"
         path.write_bytes(made[name])
         status, out, err = lamp("key", path, *groups(counts, ratio))
-        head, _, listing = out.partition(group_notes(counts, ratio))
+        head, _, listing = out.partition(group_notes(counts, ratio, cost, least, same))
         expect(f"show before the group key, {told}", (status, head, err), 0, lamp("show", path)[1] + b"\n")
         brighter, _, listing = listing.rpartition(b"cost ")
-        expect(f"more light, {told}", (0, brighter, b""), 0, f"# {BRIGHTER}2 to 3\n".encode() if name == "falls" else b"")
+        more = f"# {BRIGHTER}2 to 3\n".encode() if name == "falls" else b""
+        expect(f"more light, {told}", (0, brighter, b""), 0, more + made_with(counts, ratio))
+        again = brighter.decode().partition("# made with ")[2].split()
+        expect(f"made again, {told}", lamp("key", path, *again), 0, out)
         require(f"cost and plan, {told}", listing.decode().splitlines()[:2] == [str(cost), f"plan {plan}".rstrip()])
         marked = b"cost %d\nleast %d\nabove %d\n" % (cost, least, cost - least)
         expect(f"marks, {told}", lamp("mark", path, "-", data=b"cost " + listing), 0, marked)
         expect(f"points, {told}", lamp("explain", path, "-", data=b"cost " + listing), 0, explained(least, 0, 0, cost - least))
 
 
-# Cards by their names, lists and ratios, with the cost and the plan limited to the list, and the least cost.
+# Cards by their names, lists and ratios, with the cost and the plan limited to the list, the least cost, and whether it is the exact plan.
 GROUP_PLANS = (
-    ("e", (0, 2, 4, 8), 200, 8, "8 8 8", 5),
-    ("e", (0, 5, 8), 5, 5, "5 5 5", 5),
-    ("e", (0, 8), 8, 8, "8 8 8", 5),
-    ("e", (0, 2, 6, 8), 2, 6, "6 6 6", 5),
-    ("e", (0, 3, 6, 7, 8), 3, 6, "6 6 6", 5),
-    ("free", (0, 2, 3, 4), 2, 0, "2 0 2", 0),
-    ("rising", (0, 1, 3, 4), 2, 23, "1 3", 23),
-    ("empty", (0, 1, 3), 2, 0, "", 0),
-    ("falls", (0, 2, 4), 2, 52, "4 4 4 4", 48),
+    ("e", (0, 2, 4, 8), 200, 8, "8 8 8", 5, False),
+    ("e", (0, 5, 8), 5, 5, "5 5 5", 5, True),
+    ("e", (0, 8), 8, 8, "8 8 8", 5, False),
+    ("e", (0, 2, 6, 8), 2, 6, "6 6 6", 5, False),
+    ("e", (0, 3, 6, 7, 8), 3, 6, "6 6 6", 5, False),
+    ("free", (0, 2, 3, 4), 2, 0, "2 0 2", 0, False),
+    ("rising", (0, 1, 3, 4), 2, 23, "1 3", 23, True),
+    ("empty", (0, 1, 3), 2, 0, "", 0, True),
+    ("falls", (0, 2, 4), 2, 52, "4 4 4 4", 48, False),
+    ("dear", (0, 2, 3), 2, 2500, "2", 1500, False),
 )
 
 
@@ -255,8 +300,12 @@ def groups_as_planners():
     cards_of["1,024 slots"] = card(m=20, loads=tuple(7 * t % 41 for t in range(1024)))
     for name, data in cards_of.items():
         powers = sorted({0, data[5], *(2**k for k in range(8) if 2**k < data[5])})
+        least, exact = cost_and_plan(lamp("key", "-", data=data)[1])
         for notes, options, counts, ratio in ((EXACT, (), range(data[5] + 1), 1), (COARSE, ("--coarse",), powers, 2)):
-            wanted = lamp("key", "-", *options, data=data)[1].replace(notes, group_notes(counts, ratio))
+            wanted = lamp("key", "-", *options, data=data)[1]
+            cost, plan = cost_and_plan(wanted)
+            wanted = wanted.replace(notes, group_notes(counts, ratio, int(cost), int(least), plan == exact))
+            wanted = wanted.replace(b"\ncost ", b"\n" + made_with(counts, ratio) + b"cost ")
             expect(f"{name}, {in_words(counts)}, ratio {ratio}", lamp("key", "-", *groups(counts, ratio), data=data), 0, wanted)
 
 
@@ -414,12 +463,8 @@ def wrong_groups():
         for words, message in WRONG_GROUPS.items():
             found = lamp(command, SAMPLES / "e.card", *words)
             expect(f"{command} {words}", (found[0], found[1] + found[2], b""), 2, f"lamp: {command}: {message}\n{usage}".encode())
-        told = lamp(command, "--help")[1]
-        require(f"the forms in the help of {command}", told.startswith(f"{usage}{command}: ".encode()))
-        require(f"no least cost in the help of {command}", b"of any sheet; the least cost may be lower.\n" in told)
+        require(f"the forms in the help of {command}", lamp(command, "--help")[1].startswith(f"{usage}{command}: ".encode()))
         require(f"the list in the help of {command}", f"\n  lamp {command} CARD --groups LIST --ratio RATIO ".encode() in lamp("--help")[1])
-    line = re.search(r"^    (lamp key e\.card .*) # the rack of e\.card has 8 modules$", lamp("key", "--help")[1].decode(), re.MULTILINE)
-    expect("the example of the help", shell(line[1].replace("lamp", '"$0"', 1), cwd=SAMPLES), 0, E_GROUP_KEY)
     for words in ("card a", "show a", "check a", "mark a b", "explain a b", "cost a 1 1", "round 1 1", "table 8", "practice 1"):
         command = words.split()[0]
         expect(f"{command} with a list", lamp(*words.split(), *E_GROUPS), 2, b"", f"{command}: no option --groups\nusage: lamp {command} ")
@@ -1416,19 +1461,30 @@ def group_pictures(cards):
         ("33 slots", (0, 1, 2, 4, 6, 8, 12, 16, 24, 32, 48, 60), 2, "0 to 2, 4, 6, 8, 12, 16, and 4 more"),
         ("largest", tuple(range(0, 201, 2)), 2, "0, 2, 4, 6, 8, 10, and 95 more"),
         ("40 slots", tuple(range(27)), 1, "0 to 26"),
+        ("a", (0, 1, 3), 2, "0 to 1, 3"),
+        ("several-least", (0, 2), 2, "0, 2"),
     ):
-        words, least = (cards[name], *groups(counts, ratio)), listed(cards[name])[0]
-        cost = listed(*words)[0]
+        words, (least, _, exact, _) = (cards[name], *groups(counts, ratio)), listed(cards[name])
+        cost, _, plan, _ = listed(*words)
         require(f"the group plan of {name} is within its ratio", least <= cost <= ratio * least)
-        drawn(f"{name} in groups", words, f"Group plan, cost {cost:,}, at most {ratio} times the least", least)
-        root = ElementTree.fromstring(lamp("picture", *words)[1])
-        lines, chart = root.findall(f"{SVG}text")[:4], int(root.findall(f"{SVG}rect")[1].get("y"))
-        require(f"the counts in the picture of {name}", lines[3].text == f"limited to the counts {told}")
-        above, here, size = int(lines[2].get("y")), int(lines[3].get("y")), int(lines[3].get("font-size"))
-        require(f"they stand between the show and the chart of {name}", above + size <= here <= chart - size // 3)
-        texts = [text.text for text in ElementTree.fromstring(lamp("page", *words)[1]).iter(f"{HTML}p")]
-        notes = [note.removeprefix("# ") + "." for note in group_notes(counts, ratio).decode().splitlines()]
-        require(f"the counts on the page of {name}", texts[1:3] == notes)
+        drawn(f"{name} in groups", words, f"Group plan, cost {cost:,}; the least cost is {least:,}", least)
+        beside = f"{likeness(plan == exact)}; {bound(ratio, cost, least)} the least"
+        group_titles(name, ElementTree.fromstring(lamp("picture", *words)[1]), told, beside)
+        page = ElementTree.fromstring(lamp("page", *words)[1])
+        notes = group_notes(counts, ratio, cost, least, plan == exact).decode().splitlines()
+        texts = [text.text for text in page.iter(f"{HTML}p")]
+        require(f"the counts on the page of {name}", texts[1:3] == [note.removeprefix("# ") + "." for note in notes])
+        group_titles(f"{name} on the page", page.find(f".//{SVG}svg"), told, beside)
+
+
+def group_titles(name, root, told, beside):
+    """The picture of a group plan names its counts, and says what it is beside the exact plan, between the show and the chart."""
+    lines, chart = root.findall(f"{SVG}text")[:5], int(root.findall(f"{SVG}rect")[1].get("y"))
+    require(f"the counts in the picture of {name}", lines[3].text == f"limited to the counts {told}")
+    require(f"the exact plan in the picture of {name}", lines[4].text == beside)
+    size, places = int(lines[3].get("font-size")), [int(line.get("y")) for line in lines[2:]]
+    require(f"room for the lines of {name}", all(low + size <= high for low, high in itertools.pairwise(places)))
+    require(f"they stand before the chart of {name}", places[-1] <= chart - size // 3)
 
 
 def drawn(name, words, heading, least):
@@ -1572,31 +1628,38 @@ def page_of(name, words, heading, loads, lights, counts, rows):
 
 WRONG = """
 #include "lamp.h"
-/* Answers as a library does whose sheet costs one point more than its planner says, unless the rack has one module. Then it
- * explains a sheet wrongly for most top steps. It refuses to mark a sheet that begins with step 1. With counts 0 and 3 and areas just as
- * long as asked for, it plans at the sheet's cost for ratio 1, and so with a count that is not in the list for ratio 2. */
+/* Answers as a library does whose sheet costs one point more than its exact planner says, unless the rack has one module or two. With one
+ * it explains a sheet wrongly for most top steps. It refuses to mark a sheet that begins with step 1. A rack of two has the least cost 33,
+ * and for the counts 0 and 3 and areas just as long as asked for a group plan that costs the top step, both with such sheets; but for top
+ * step 40 no exact plan, for 41 a count that is not in the list, and for 42 a sheet that costs less than is named. */
+static uint64_t sheets = 33;
 struct lamp_answer lamp_check_card(const uint8_t *card, size_t card_len) { (void)card, (void)card_len; return (struct lamp_answer){0, 0}; }
 struct lamp_answer lamp_running_cost(const uint8_t *card, size_t card_len, uint64_t count, uint64_t load)
 { (void)card, (void)card_len, (void)count, (void)load; return (struct lamp_answer){13, 7}; }
 struct lamp_answer lamp_plan_exact(const uint8_t *card, size_t card_len, uint8_t *plan, size_t plan_len, uint8_t *work, size_t work_len)
-{ (void)card_len, (void)plan, (void)plan_len, (void)work, (void)work_len; return (struct lamp_answer){0, card[5] == 1 ? 33 : 32}; }
+{
+    (void)card_len, (void)plan, (void)plan_len, (void)work, (void)work_len;
+    sheets = 33;
+    return card[5] == 2 && card[6] == 40 ? (struct lamp_answer){8, 0} : (struct lamp_answer){0, card[5] == 3 ? 32 : 33};
+}
 struct lamp_answer lamp_plan_coarse(const uint8_t *card, size_t card_len, uint8_t *plan, size_t plan_len, uint8_t *work, size_t work_len)
 { (void)card, (void)card_len, (void)plan, (void)plan_len, (void)work, (void)work_len; return (struct lamp_answer){99, 0}; }
 struct lamp_answer lamp_plan_groups(
     const uint8_t *card, size_t card_len, const uint16_t *list, size_t list_len, uint64_t ratio, uint8_t *plan, size_t plan_len,
     uint8_t *work, size_t work_len)
 {
-    static const struct lamp_answer given[] = {{0, 32}, {0, 33}, {0, 33}, {18, 0}, {18, 7}, {99, 0}};
-    (void)card, (void)card_len, (void)work;
+    static const struct lamp_answer given[] = {{18, 0}, {18, 7}, {99, 0}};
+    (void)card_len, (void)work;
     if (list_len != 2 || list[0] != 0 || list[1] != 3 || plan_len != 3 || work_len != 6)
         return (struct lamp_answer){99, 0};
-    plan[2] = ratio == 2 ? 1 : 3;
-    return given[ratio];
+    plan[2] = card[6] == 41 ? 1 : 3;
+    sheets = card[6];
+    return card[5] == 3 ? given[ratio - 3] : (struct lamp_answer){0, card[6] == 42 ? 43 : card[6]};
 }
 struct lamp_answer lamp_sheet(const uint8_t *card, size_t card_len, const uint8_t *plan, size_t plan_len, uint8_t *sheet, size_t sheet_len)
-{ (void)card, (void)card_len, (void)plan, (void)plan_len, (void)sheet, (void)sheet_len; return (struct lamp_answer){0, 33}; }
+{ (void)card, (void)card_len, (void)plan, (void)plan_len, (void)sheet, (void)sheet_len; return (struct lamp_answer){0, sheets}; }
 struct lamp_answer lamp_mark(const uint8_t *card, size_t card_len, const uint8_t *sheet, size_t sheet_len)
-{ (void)card, (void)card_len; return sheet_len && *sheet == 1 ? (struct lamp_answer){13, 0} : (struct lamp_answer){0, 33}; }
+{ (void)card, (void)card_len; return sheet_len && *sheet == 1 ? (struct lamp_answer){13, 0} : (struct lamp_answer){0, sheets}; }
 struct lamp_points lamp_explain(
     const uint8_t *card, size_t card_len, const uint8_t *sheet, size_t sheet_len, uint8_t *work, size_t work_len)
 {
@@ -1640,19 +1703,30 @@ def a_wrong_library(folder):
 
 
 def wrong_group_plans(wrong):
-    """A group plan is printed only if its sheet costs what it names and its counts are in the list. A refusal by 18 for which no rule is
-    found is the number and its words alone."""
-    a = SAMPLES / "a.card"
-    for ratio in range(6):
-        ended = subprocess.run([wrong, "key", a, *groups((0, 3), ratio)], capture_output=True)
-        found, name = (ended.returncode, ended.stdout, ended.stderr), f"ratio {ratio} over a wrong library"
-        if ratio == 1:
-            listing = b"cost 33\nplan 0 0 3\nslot 1: 0 0 0\nslot 2: 0 0 0\nslot 3: 0 0 0\n"
-            expect(name, found, 0, A_TEXT + b"\n" + group_notes((0, 3), 1) + listing)
-        elif ratio == 3:
+    """A group plan is printed only if its sheet costs what it names, its counts are in the list, and it costs from the least cost to the
+    ratio times that. A refusal by 18 for which no rule is found is the number and its words alone."""
+    rack = lambda modules, top: card(m=modules, q=top, table=range(top + 1), loads=(0, 0, 0))
+    for ratio in (3, 4, 5):
+        found, name = keyed(wrong, rack(3, 2), groups((0, 3), ratio)), f"ratio {ratio} over a wrong library"
+        if ratio == 3:
             against_rules(name, found, ())
         else:
             expect(name, found, 2, b"", "a fault of the tool; nothing was written")
+    for ratio, top in itertools.product((1, 2, 3), (32, 33, 34, 40, 41, 42, 43, 66, 67, 99, 100)):
+        data, name = rack(2, top), f"ratio {ratio} at cost {top} over a wrong library"
+        found = keyed(wrong, data, groups((0, 3), ratio))
+        if top not in (40, 41, 42) and 33 <= top <= 33 * ratio:
+            notes = group_notes((0, 3), ratio, top, 33, False) + made_with((0, 3), ratio)
+            listing = b"cost %d\nplan 0 0 3\nslot 1: 0 0\nslot 2: 0 0\nslot 3: 0 0\n" % top
+            expect(name, found, 0, lamp("show", "-", data=data)[1] + b"\n" + notes + listing)
+        else:
+            expect(name, found, 2, b"", "a fault of the tool; nothing was written")
+
+
+def keyed(program, data, options):
+    """How a program's key of a card ends."""
+    ended = subprocess.run([program, "key", "-", *options], input=data, capture_output=True)
+    return ended.returncode, ended.stdout, ended.stderr
 
 
 def wrong_explanations(folder, wrong):

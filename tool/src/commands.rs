@@ -256,7 +256,8 @@ fn list_places(planner: Planner, card: &Card) -> Vec<String> {
 
 pub fn key(words: &Words) -> Ended {
     with_plan(words, |planned, _| {
-        let notes: String = planned.notes().map(|sentence| format!("# {sentence}\n")).collect();
+        let made = planned.beside.map(|beside| format!("made with {}", beside.groups.options()));
+        let notes: String = planned.notes().chain(made).map(|sentence| format!("# {sentence}\n")).collect();
         format!("{}\n{notes}{}", show_text::write(&planned.show), listing::write(planned))
     })
 }

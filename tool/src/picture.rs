@@ -12,6 +12,7 @@ struct Layout {
     slots: usize,
     modules: usize,
     top: usize,
+    title: usize,
     cell_width: usize,
     cell_height: usize,
     scale: usize,
@@ -19,6 +20,8 @@ struct Layout {
 
 const MARGIN: usize = 64;
 const TITLE: usize = 66;
+/// What the title of a group plan takes besides, for the second of its own two lines.
+const MORE_TITLE: usize = 15;
 const CHART: usize = 110;
 const NUMBERS: usize = 40;
 const LEGEND: usize = 74;
@@ -37,6 +40,7 @@ impl Layout {
             slots,
             modules,
             top: planned.show.top.into(),
+            title: if planned.beside.is_some() { TITLE + MORE_TITLE } else { TITLE },
             cell_width,
             cell_height: (600 / modules.max(1)).clamp(3, 32),
             scale: if slots * cell_width > WIDE { 2 } else { 1 },
@@ -61,7 +65,7 @@ impl Layout {
     }
 
     fn grid_top(&self) -> usize {
-        self.size(TITLE + CHART + NUMBERS)
+        self.size(self.title + CHART + NUMBERS)
     }
 
     fn grid_bottom(&self) -> usize {
@@ -124,14 +128,13 @@ pub fn draw(planned: &Planned, name: &str) -> String {
     out + "</svg>\n"
 }
 
-/// The cost, and whose it is.
+/// The cost, and whose it is, with the least cost beside that of a group plan.
 pub fn heading(planned: &Planned) -> String {
-    match planned.planner {
-        Planner::Exact => format!("Least cost {}", grouped(planned.cost)),
-        Planner::Coarse => format!("Coarse plan, cost {}", grouped(planned.cost)),
-        Planner::Groups(groups) => {
-            format!("Group plan, cost {}, at most {} times the least", grouped(planned.cost), grouped(groups.ratio))
-        }
+    let cost = grouped(planned.cost);
+    match (&planned.beside, planned.planner) {
+        (Some(beside), _) => format!("Group plan, cost {cost}; the least cost is {}", grouped(beside.least)),
+        (None, Planner::Exact) => format!("Least cost {cost}"),
+        (None, _) => format!("Coarse plan, cost {cost}"),
     }
 }
 
@@ -144,8 +147,12 @@ fn titles(planned: &Planned, name: &str, layout: &Layout) -> String {
         let (x, y, size) = (layout.left(), layout.size(y), layout.size(size));
         format!("<text x=\"{x}\" y=\"{y}\" font-size=\"{size}\">{}</text>\n", escaped(text))
     };
-    let limit = planned.planner.groups().map_or(String::new(), |groups| line(72, 12, &groups.limit(MOST_RUNS)));
-    line(24, 17, &heading(planned)) + &line(42, 12, &shown) + &line(57, 12, &planned.show.summary()) + &limit
+    let mut out = line(24, 17, &heading(planned)) + &line(42, 12, &shown) + &line(57, 12, &planned.show.summary());
+    if let Some(beside) = &planned.beside {
+        out += &line(72, 12, &beside.groups.limit(MOST_RUNS));
+        out += &line(72 + MORE_TITLE, 12, &format!("{}; {}", beside.likeness(), beside.bound("the least")));
+    }
+    out
 }
 
 /// A text with its anchor: start, middle or end.
@@ -161,7 +168,7 @@ const COUNT_COLOUR: &str = "#08306b";
 /// modules are at the same height. The line of the light, if there is one, lies below that of the loads, which covers it where both are
 /// the same.
 fn chart(planned: &Planned, layout: &Layout) -> String {
-    let (upper, lower) = (layout.size(TITLE + 14), layout.size(TITLE + CHART));
+    let (upper, lower) = (layout.size(layout.title + 14), layout.size(layout.title + CHART));
     let (left, right, gap) = (layout.left(), layout.x(layout.slots), layout.size(6));
     let (most_load, most_count) = (layout.modules * layout.top, layout.modules);
     let loads: Vec<usize> = planned.show.loads.iter().map(|load| usize::from(*load)).collect();

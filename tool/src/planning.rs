@@ -15,13 +15,10 @@ pub struct Groups<'a> {
 }
 
 impl Groups<'_> {
-    /// What the cost of such a plan is. With ratio 1 the list has all counts, and the cost is the least.
-    fn promise(&self) -> String {
-        let bound = format!("group plan: at most {} times the least cost of any sheet", grouped(self.ratio));
-        if self.ratio == 1 {
-            return format!("{bound}, so {LEAST}");
-        }
-        format!("{bound}; the least cost may be lower, NOT the key of the exact plan")
+    /// The options by which the plan is made again.
+    pub fn options(&self) -> String {
+        let counts: Vec<String> = self.counts.iter().map(u16::to_string).collect();
+        format!("--groups {} --ratio {}", counts.join(","), self.ratio)
     }
 
     /// The counts in a sentence, with neighbours taken together. After so many of these it is said how many counts follow.
@@ -33,6 +30,54 @@ impl Groups<'_> {
     /// Whether every count of a plan is in the list.
     fn has_all(&self, plan: &[u8]) -> bool {
         plan.iter().all(|count| self.counts.contains(&u16::from(*count)))
+    }
+}
+
+/// What is said of a plan that is not the exact one.
+const NOT_EXACT: &str = "NOT the key of the exact plan";
+
+/// A group plan beside the exact plan of its card.
+#[derive(Clone, Copy, Debug)]
+pub struct Beside<'a> {
+    pub groups: Groups<'a>,
+    pub least: u64,
+    is_least: bool,
+    is_exact: bool,
+}
+
+impl<'a> Beside<'a> {
+    /// Plans the card exactly too. The group plan has counts of its list alone, and costs at least the least cost and at most the ratio
+    /// times that.
+    fn of(groups: Groups<'a>, card: &[u8], cost: u64, counts: &[u8]) -> Self {
+        assert!(groups.has_all(counts), "the plan has a count that the list has not");
+        let exact = plan(Planner::Exact, card).expect("the exact planner takes every accepted card");
+        let range = exact.cost..=exact.cost.saturating_mul(groups.ratio);
+        assert!(range.contains(&cost), "the group plan costs less than the least cost, or more than the ratio times that");
+        Beside { groups, least: exact.cost, is_least: cost == exact.cost, is_exact: counts == exact.plan }
+    }
+
+    /// Whether the plan is the exact one, in words. Plans of the same counts have the same sheet.
+    pub fn likeness(&self) -> &'static str {
+        if self.is_exact {
+            "the same as the exact plan"
+        } else {
+            NOT_EXACT
+        }
+    }
+
+    /// What the plan costs, with these words for the least cost.
+    pub fn bound(&self, least: &str) -> String {
+        if self.is_least {
+            return format!("this plan costs just {least}");
+        }
+        format!("this plan costs at most {} times {least}", grouped(self.groups.ratio))
+    }
+
+    /// The sentences that stand before the plan.
+    fn notes(&self) -> Vec<String> {
+        let limit = self.groups.limit(usize::MAX);
+        let least = format!("the least cost of any sheet is {}; {}", grouped(self.least), self.bound("that"));
+        vec![format!("group plan, {limit}; {}", self.likeness()), least]
     }
 }
 
@@ -67,15 +112,6 @@ impl<'a> Planner<'a> {
         }
     }
 
-    /// What the planner's cost is.
-    fn promise(self) -> String {
-        match self {
-            Planner::Exact => format!("exact plan: {LEAST}"),
-            Planner::Coarse => "coarse plan: at most twice the least cost, NOT the key of the exact plan".to_string(),
-            Planner::Groups(groups) => groups.promise(),
-        }
-    }
-
     /// The list that the planner's plans are limited to, where one was given.
     pub fn groups(self) -> Option<Groups<'a>> {
         match self {
@@ -85,7 +121,7 @@ impl<'a> Planner<'a> {
     }
 }
 
-/// An accepted show with a planner's cost, plan and sheet.
+/// An accepted show with a planner's cost, plan and sheet, and for a group plan what it is beside the exact one.
 #[derive(Clone, Debug)]
 pub struct Planned<'a> {
     pub planner: Planner<'a>,
@@ -93,6 +129,7 @@ pub struct Planned<'a> {
     pub cost: u64,
     pub plan: Vec<u8>,
     pub sheet: Vec<u8>,
+    pub beside: Option<Beside<'a>>,
 }
 
 /// How many runs of slots a sentence names.
@@ -115,15 +152,19 @@ impl Planned<'_> {
         (!numbers.is_empty()).then(sentence)
     }
 
-    /// The sentences that stand before the plan: what its cost is, the counts that it is limited to, and where there is more light.
+    /// The sentences that stand before the plan: whose it is and what its cost is, and where there is more light.
     pub fn notes(&self) -> impl Iterator<Item = String> {
-        let limit = self.planner.groups().map(|groups| groups.limit(usize::MAX));
-        [Some(self.planner.promise()), limit, self.brighter()].into_iter().flatten()
+        let notes = match (&self.beside, self.planner) {
+            (Some(beside), _) => beside.notes(),
+            (None, Planner::Exact) => vec![format!("exact plan: {LEAST}")],
+            (None, _) => vec![format!("coarse plan: at most twice the least cost, {NOT_EXACT}")],
+        };
+        notes.into_iter().chain(self.brighter())
     }
 }
 
-/// Plans a card. The sheet is made from the plan and marked, and both have to cost what the planner named; where a list was given, the
-/// plan has its counts alone. The library's contract says so, and a machine on which it does not hold must not print a key.
+/// Plans a card. The sheet is made from the plan and marked, and both have to cost what the planner named; a group plan is held to its
+/// list and to the exact plan's cost. The library's contract says so, and a machine on which it does not hold must not print a key.
 pub fn plan<'a>(planner: Planner<'a>, card: &[u8]) -> Result<Planned<'a>, Refusal> {
     calls::check_card(card)?;
     let show = Show::read(card).expect("an accepted card has a readable length");
@@ -131,6 +172,6 @@ pub fn plan<'a>(planner: Planner<'a>, card: &[u8]) -> Result<Planned<'a>, Refusa
     let cost = planner.plan(card, &mut plan, &mut planner.work(&show))?;
     let (made, marked) = (calls::sheet(card, &plan, &mut sheet), calls::mark(card, &sheet));
     assert_eq!((made, marked), (Ok(cost), Ok(cost)), "the sheet does not cost what the planner named");
-    assert!(planner.groups().is_none_or(|groups| groups.has_all(&plan)), "the plan has a count that the list has not");
-    Ok(Planned { planner, show, cost, plan, sheet })
+    let beside = planner.groups().map(|groups| Beside::of(groups, card, cost, &plan));
+    Ok(Planned { planner, show, cost, plan, sheet, beside })
 }
