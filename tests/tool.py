@@ -457,7 +457,7 @@ WRONG_GROUPS = {
 
 
 def wrong_groups():
-    """Options for a list of counts that cannot be read, and commands that have none; and what the help says of them."""
+    """Options for a list of counts that cannot be read, and commands that have none."""
     for command in ("key", "page", "picture"):
         usage = f"usage: lamp {command} CARD [--coarse]\n       lamp {command} CARD --groups LIST --ratio RATIO\n"
         for words, message in WRONG_GROUPS.items():
@@ -468,6 +468,36 @@ def wrong_groups():
     for words in ("card a", "show a", "check a", "mark a b", "explain a b", "cost a 1 1", "round 1 1", "table 8", "practice 1"):
         command = words.split()[0]
         expect(f"{command} with a list", lamp(*words.split(), *E_GROUPS), 2, b"", f"{command}: no option --groups\nusage: lamp {command} ")
+
+
+NO_LIST = "'lamp mark' and 'lamp explain' know no list of counts: marking accepts every count, and whoever allows only certain "
+NO_LIST += "counts has to look at the counts of a sheet as well. "
+SHOW_AND_PLAN = "prints the show, the plan, its cost and the sheet; without an option the cost is the least"
+COARSE_COUNT = "gives the smallest count not below COUNT that the coarse planner allows"
+
+
+def help_of_groups():
+    """What the help says of plans limited to a list: nothing that holds of the exact plan alone, and an example of the command itself."""
+    wrong = f"A count above 65,535, a RATIO above {2**64 - 1:,} and what is not digits alone are wrong use, status 2. "
+    for command in ("key", "page", "picture"):
+        told = lamp(command, "--help")[1].decode()
+        require(f"the cost in the help of {command}", " times the least cost of any sheet, which is named beside it. " in one_line(told))
+        require(f"wrong use in the help of {command}", wrong in one_line(told) and "told by entry" not in told)
+        examples = re.findall(r"^    (lamp .*) # the rack of e\.card has 8 modules$", told, re.MULTILINE)
+        require(f"one example in the help of {command}", len(examples) == told.count("\n    lamp ") == 1)
+        made = lamp(command, "e.card", *E_GROUPS, cwd=SAMPLES)[1]
+        expect(f"the example of {command}", shell(examples[0].replace("lamp", '"$0"', 1), cwd=SAMPLES), 0, made)
+    require("the key in its help", lamp("key", "--help")[1].decode().splitlines()[2] == f"key: {SHOW_AND_PLAN}.")
+    require("the coarse planner's counts", lamp("round", "--help")[1].decode().splitlines()[1] == f"round: {COARSE_COUNT}.")
+    rows = dict(re.findall(r"^  lamp (\S+ .*?)  +(.*)$", lamp("--help")[1].decode(), re.MULTILINE))
+    require("key and round in the help", (rows["key CARD [--coarse]"], rows["round COUNT MODULES"]) == (SHOW_AND_PLAN, COARSE_COUNT))
+    for command in ("card", "show", "check", "cost", "round", "table", "practice", "key", "page", "picture", "mark", "explain"):
+        said = NO_LIST in one_line(lamp(command, "--help")[1].decode())
+        require(f"no list for marking, {command}", said == (command in ("key", "page", "picture", "mark", "explain")))
+
+
+def one_line(text):
+    return " ".join(text.split())
 
 
 def readme_day():
@@ -1754,6 +1784,7 @@ with tempfile.TemporaryDirectory() as place:
     refused_groups()
     rules_of_groups()
     wrong_groups()
+    help_of_groups()
     readme_groups()
     course_book()
     course_book_list()

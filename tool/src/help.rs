@@ -38,16 +38,24 @@ fn name(option: &str) -> &str {
     option.split(' ').next().unwrap_or(option)
 }
 
+const KEY: &str = "prints the show, the plan, its cost and the sheet; without an option the cost is the least";
 const PLANNER: &[&str] = &["--coarse", GROUPS, RATIO];
 
+/// What the options of PLANNER are, with COMMAND for the command's name.
 const PLANNERS: &str = "\
 --coarse  the coarse planner's plan in place of the exact one; it costs at most twice as much, on every accepted card.
 --groups LIST --ratio RATIO  a plan limited to the counts of LIST, for a rack that switches in groups. It costs at
-    most RATIO times the least cost of any sheet; the least cost may be lower.
-    lamp key e.card --groups 0,2,4,8 --ratio 2    # the rack of e.card has 8 modules
+    most RATIO times the least cost of any sheet, which is named beside it.
+    lamp COMMAND e.card --groups 0,2,4,8 --ratio 2    # the rack of e.card has 8 modules
     LIST is 2 to 201 counts with commas between them, as one word, so in quotes if blanks follow the commas. It
     ascends from 0 to the number of modules. The first count after 0 is at most RATIO, and each gap is at most
-    RATIO times the gap before it. RATIO is 1 to 200. What breaks these rules is refused by 18 and told by entry.";
+    RATIO times the gap before it. RATIO is 1 to 200. What breaks these rules is refused by 18, in words. A count
+    above 65,535, a RATIO above 18,446,744,073,709,551,615 and what is not digits alone are wrong use, status 2.";
+
+/// What stands where a plan may be limited to a list, and where a sheet is marked.
+const ANY_COUNT: &str = "\
+'lamp mark' and 'lamp explain' know no list of counts: marking accepts every count, and whoever allows only certain
+counts has to look at the counts of a sheet as well.";
 
 /// The word of a command that takes a card, and what it may be.
 const CARD: &str = "CARD";
@@ -57,10 +65,11 @@ CARD is a card's bytes or a show's text, as 'lamp card --help' describes it; - i
 const COSTS: &str = "\
 The modules share LOAD as evenly as steps go. Each is at its share, or at a higher step if that costs less.";
 
+const ROUND: &str = "gives the smallest count not below COUNT that the coarse planner allows";
 const ALLOWED: &str = "\
-The allowed counts are 0, the powers of two up to MODULES, and MODULES. So COUNT is rounded to the last number of
-its case in the course book's list: 0, 1, 2, 3 to 4, 5 to 8, 9 to 16, 17 to 32, 33 to 64, 65 to 128, 129 to 200;
-or to MODULES, if that number is above MODULES. MODULES is 1 to 200 and COUNT is 0 to MODULES, digits alone.
+The coarse planner allows 0, the powers of two up to MODULES, and MODULES. So COUNT is rounded to the last number
+of its case in the course book's list: 0, 1, 2, 3 to 4, 5 to 8, 9 to 16, 17 to 32, 33 to 64, 65 to 128, 129 to
+200; or to MODULES, if that number is above MODULES. MODULES is 1 to 200 and COUNT is 0 to MODULES, digits alone.
     lamp round 70 200    # 128
     lamp round 70 100    # 100";
 
@@ -133,13 +142,13 @@ pub const COMMANDS: [Command; 12] = [
     command("table", &["TOP"], &[], commands::table, "prints the catalogue module's table for a show's text", TABLE),
     command("show", &[CARD], &[], commands::show, "reads a card back as text", ""),
     command("check", &[CARD], &[], commands::check, "says whether the card is accepted, or where it is at fault", ""),
-    command("key", &[CARD], PLANNER, commands::key, "prints the show, the least cost, the plan and the sheet", ""),
+    command("key", &[CARD], PLANNER, commands::key, KEY, ""),
     command("page", &[CARD], PLANNER, commands::page, "prints the key as a page of HTML, with the picture", ""),
     command("picture", &[CARD], PLANNER, commands::picture, "draws the plan as SVG", ""),
     command("mark", &[CARD, SHEET], BYTES, commands::mark, "marks a sheet", MARKS),
     command("explain", &[CARD, SHEET], BYTES, commands::explain, "says where a sheet's points above the least went", EXPLAINS),
     command("cost", &[CARD, "COUNT", "LOAD"], &[], commands::cost, "gives the running cost of a count and a load", COSTS),
-    command("round", &["COUNT", "MODULES"], &[], commands::round, "gives the smallest allowed count not below COUNT", ALLOWED),
+    command("round", &["COUNT", "MODULES"], &[], commands::round, ROUND, ALLOWED),
 ];
 
 const STATUS: &str = "Exit status: 0 done, 1 refused by a number, 2 wrong use or a file that cannot be read or written whole.";
@@ -174,8 +183,10 @@ impl Command {
         let card = self.takes.contains(&CARD).then_some(A_CARD);
         let sheet = self.takes.contains(&SHEET).then_some(A_SHEET);
         let more = (!self.more.is_empty()).then_some(self.more);
-        let planners = (self.options == PLANNER).then_some(PLANNERS);
-        let lines: String = card.into_iter().chain(sheet).chain(more).chain(planners).map(|part| format!("{part}\n")).collect();
+        let planners = (self.options == PLANNER).then(|| PLANNERS.replace("COMMAND", self.name));
+        let counts = (planners.is_some() || sheet.is_some()).then_some(ANY_COUNT);
+        let parts = card.into_iter().chain(sheet).chain(more).chain(planners.as_deref()).chain(counts);
+        let lines: String = parts.map(|part| format!("{part}\n")).collect();
         format!("{}\n{}: {}.\n{lines}{STATUS}\n", self.usage(), self.name, self.does)
     }
 }
