@@ -8,6 +8,9 @@ mul-result : tie.Need-mul-result
 mul-result c =
     omega (arith, product-small (c .args .ratio) (c .args .low) (c .args .middle) (c .pre .ratio-most) (omega (arith, c .fits .middle .fits)))
 
+returns : tie.Need-returns
+returns c = search needs
+
 pub gap-grows-spec : {M : Type 1} → statement M
 gap-grows-spec =
-    tie.close (tie.spec (λ c. search needs) (λ c. search needs) (λ c. search needs) (λ c. search needs) mul-result (λ c. search needs))
+    tie.close (tie.spec (λ c. search needs) (λ c. search needs) (λ c. search needs) (λ c. search needs) mul-result returns)
