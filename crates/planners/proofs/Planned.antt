@@ -13,8 +13,8 @@ use Rattle.model.specs.Plans.{leastPlan, leastCost}
 use Rattle.model.specs.Planners.{Planner, exact, coarse, listed, allowedCounts, workBytes, plannedBy, plannedCost}
 use Rattle.model.specs.Promises.{KeepsRules}
 use Rattle.laws.specs.Acceptance.{modules-range}
-use Rattle.columns.specs.Column.{searchedPlan, searchedCost}
-use Rattle.columns.specs.Places.{length-fits}
+use Rattle.theory.specs.Columns.{searchedPlan, searchedCost}
+use Rattle.thresholds.specs.Places.{length-fits}
 use Rattle.theory.specs.CountLists.{planner-rules}
 use Rattle.theory.specs.Condition3.{accepted-plannable, searched-plan}
 use Rattle.card.specs.declared.Header.{Header}

@@ -1,4 +1,4 @@
--- The best of several places, a place at a time: what each pass over the places does.
+-- The best of several places, a place at a time from the last one down.
 use Prim.Native.Nat.{ℕ, _+_, _≤_, _<_}
 use mathlib.Core.Path.{_≡_, refl, sym, ap, _∙_}
 use mathlib.Core.Bool.{Bool, true, false, cond}
@@ -7,7 +7,7 @@ use native.Mathlib.Omega.{arith}
 use lib.Dec.{leb}
 use borrow.Author.Tests.{leb-true, leb-false}
 use Rattle.lists.specs.Numbers.{le-or-lt}
-use Rattle.columns.specs.Column.{Choice, cheaper}
+use Rattle.theory.specs.Columns.{Choice, cheaper}
 
 -- A choice that is the least of a value over some places, at the smallest place that attains it.
 pub record Best (ok : ℕ → Type 0) (value : ℕ → ℕ) (c : Choice) : Type 0 where
@@ -16,7 +16,7 @@ pub record Best (ok : ℕ → Type 0) (value : ℕ → ℕ) (c : Choice) : Type 
   pub least : (k : ℕ) → ok k → c .cost ≤ value k
   pub first : (k : ℕ) → ok k → value k ≡ c .cost → c .at ≤ k
 
--- The downward pass at a place that serves takes its own value or the best above it.
+-- At a place that serves it is the place's own value or the best above it.
 pub best-here :
     {ok : ℕ → Type 0} {value : ℕ → ℕ} {c : Choice} (j : ℕ) → ok j → Best (λ k. (j < k) × ok k) value c →
     Best (λ k. (j ≤ k) × ok k) value (cheaper (record { cost = value j; at = j }) c)
@@ -54,7 +54,7 @@ best-here {ok} {value} {c} j serves above = go (leb (value j) (c .cost)) refl
               (le-or-lt k j);
         }
 
--- The downward pass at a place that does not serve takes the best above it.
+-- At a place that does not serve it is the best above it.
 pub best-skip :
     {ok : ℕ → Type 0} {value : ℕ → ℕ} {c : Choice} (j : ℕ) → ¬ ok j → Best (λ k. (j < k) × ok k) value c →
     Best (λ k. (j ≤ k) × ok k) value c
@@ -72,64 +72,3 @@ best-skip {ok} j stuck above =
         (λ (g : k ≤ j). let same : k ≡ j = omega arith in absurd (stuck (rw same at (h .1))))
         (λ (g : j < k). (g, h .1))
         (le-or-lt k j)
-
--- The upward pass goes from place j to the one above, which costs g more. There `now` and `later` are the values up to the one and the
--- other.
-pub best-raised :
-    {ok : ℕ → Type 0} {value now later : ℕ → ℕ} {low high : Choice} (j g : ℕ) →
-    ((k : ℕ) → k ≤ j → later k ≡ now k + g) → ((k : ℕ) → j < k → ok k → now k ≡ value k) →
-    ((k : ℕ) → j < k → ok k → later k ≡ value k) →
-    Best ok now low → Best (λ k. (j < k) × ok k) value high →
-    Best ok later (cheaper (record { cost = low .cost + g; at = low .at }) high)
-best-raised {ok} {value} {now} {later} {low} {high} j g up-to above above′ L H =
-    go (leb (low .cost + g) (high .cost)) refl
-  where
-    up : Choice
-    up = record { cost = low .cost + g; at = low .at }
-
-    -- Where the lower place's choice lies above it and still wins, switching on costs nothing.
-    free : low .cost + g ≤ high .cost → j < low .at → g ≡ 0
-    free h far = omega (arith, L .cost-is, above (low .at) far (L .found), H .least (low .at) (omega arith, L .found))
-
-    least-of : (x : ℕ) → x ≤ low .cost + g → x ≤ high .cost → (k : ℕ) → ok k → x ≤ later k
-    least-of x to-low to-high k serves =
-        ⊎-elim
-        (λ (h : k ≤ j). omega (arith, up-to k h, L .least k serves))
-        (λ (h : j < k). omega (arith, above′ k h serves, H .least k (omega arith, serves)))
-        (le-or-lt k j)
-
-    go : (b : Bool) → leb (low .cost + g) (high .cost) ≡ b → Best ok later (cond b up high)
-    go true e =
-        let wins = leb-true (low .cost + g) (high .cost) e in
-        record {
-          found = L .found;
-          cost-is =
-              ⊎-elim
-              (λ (h : low .at ≤ j). omega (arith, L .cost-is, up-to (low .at) h))
-              (λ (h : j < low .at). omega (arith, L .cost-is, above (low .at) h (L .found), above′ (low .at) h (L .found), free wins h))
-              (le-or-lt (low .at) j);
-          least = least-of (low .cost + g) (omega arith) wins;
-          first =
-              λ k serves equal.
-              ⊎-elim
-              (λ (h : k ≤ j). L .first k serves (omega (arith, up-to k h)))
-              (λ (h : j < k).
-              ⊎-elim
-              (λ (near : low .at ≤ j). omega arith)
-              (λ (far : j < low .at). L .first k serves (omega (arith, above k h serves, above′ k h serves, free wins far)))
-              (le-or-lt (low .at) j))
-              (le-or-lt k j);
-        }
-    go false e =
-        let loses = leb-false (low .cost + g) (high .cost) e in
-        record {
-          found = H .found .1;
-          cost-is = H .cost-is ∙ sym (above′ (high .at) (omega (arith, H .found .0)) (H .found .1));
-          least = least-of (high .cost) (omega arith) (omega arith);
-          first =
-              λ k serves equal.
-              ⊎-elim
-              (λ (h : k ≤ j). omega (arith, up-to k h, L .least k serves))
-              (λ (h : j < k). H .first k (omega arith, serves) (omega (arith, above′ k h serves)))
-              (le-or-lt k j);
-        }

@@ -16,11 +16,11 @@ use Rattle.model.specs.Calls.{Accepted}
 use Rattle.model.specs.Promises.{KeepsRules}
 use Rattle.laws.specs.Acceptance.{modules-range, top-range, load-range, table-convex}
 use Rattle.laws.specs.CountMembers.{all-member}
-use Rattle.columns.specs.Column.{searchedPlan, searchedCost, Ascending}
+use Rattle.thresholds.specs.Places.{Ascending, count-fits}
+use Rattle.theory.specs.Columns.{searchedPlan, searchedCost}
 use Rattle.laws.specs.Tables.{convex-test}
 use Rattle.theory.specs.Hypotheses.{PlanFits, Plannable, LeastByCounts}
 use Rattle.theory.specs.SheetLaws.{sheet-counts-fit, sheet-at-least, plan-sheet-serves, plan-cost-counts}
-use Rattle.columns.specs.Places.{count-fits}
 use Rattle.theory.specs.Least.{searched-least, searched-cost}
 use Rattle.theory.specs.Enumeration.{least-plan, least-plan-unique}
 use Rattle.theory.specs.Ratio.{ratio}

@@ -23,7 +23,7 @@ use Rattle.model.specs.Planners.{Planner, exact, coarse, listed, allowedCounts,
 use Rattle.model.specs.Promises.{KeepsRules}
 use Rattle.laws.specs.CountMembers.{all-member, coarse-member, all-in-order, coarse-in-order}
 use Rattle.laws.specs.RoundedCounts.{next-power}
-use Rattle.columns.specs.Column.{countAtPlace, lastPlace, Ascending, GrowsBy}
+use Rattle.thresholds.specs.Places.{countAtPlace, lastPlace, Ascending, GrowsBy}
 
 -- The rules of 02 §8 for a list of allowed counts and a ratio r in a rack of m as propositions, without the bounds 201 and 200.
 pub record InRules (counts : List ℕ) (r m : ℕ) : Type 0 where

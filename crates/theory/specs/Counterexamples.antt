@@ -24,8 +24,8 @@ use Rattle.model.specs.Explanation.{countsOperatingCost}
 use Rattle.model.specs.Catalogue.{catalogueEntry, catalogueBytes}
 use Rattle.model.specs.Examples.{cardA}
 use Rattle.laws.specs.LeastSteps.{lowestStep}
-use Rattle.columns.specs.Column.{countAtPlace, Ascending, GrowsBy, servedOrAbove, rising, fromTop, downward, upward}
-use Rattle.columns.specs.Column.{column, searchedCost}
+use Rattle.thresholds.specs.Places.{countAtPlace, Ascending, GrowsBy}
+use Rattle.theory.specs.Columns.{servedOrAbove, fromTop, bestPlace, column, searchedCost}
 use Rattle.theory.specs.Hypotheses.{Plannable, PlanFits, Entry, activeIn, lightIn, rowCost}
 use Rattle.theory.specs.CountLists.{InRules, rules-hold}
 
@@ -242,7 +242,7 @@ all-off-before = (
 pub start-has-a-price :
     Plannable (level 2 0 1) × Ascending (noneOrAll 2) 2 × GrowsBy 2 (noneOrAll 2) ×
     PlanFits (level 2 0 1) (1 ∷ []) × (2 * countsCost (level 2 0 1) 1 (1 ∷ []) < searchedCost (level 2 0 1) (noneOrAll 2) 1)
-unfolding sum canServe operatingCost countAt slotCost countsCost servedOrAbove rising fromTop downward upward column searchedCost leastOver leastFrom
+unfolding sum canServe operatingCost countAt slotCost countsCost servedOrAbove fromTop bestPlace column searchedCost leastOver leastFrom
 start-has-a-price = (
   level-plannable 2 0 1 (omega arith) (omega arith),
   none-or-all-ascending 2 (omega arith),

@@ -19,7 +19,7 @@ use Rattle.model.specs.Calls.{Accepted}
 use Rattle.model.specs.Promises.{KeepsRules, WithRoom}
 use Rattle.model.specs.RelatedShows.{Reversed, LargerRack, Concatenated, PlannedAt, PlannedAs}
 use Rattle.laws.specs.CountMembers.{all-member}
-use Rattle.columns.specs.Column.{Ascending}
+use Rattle.thresholds.specs.Places.{Ascending}
 use Rattle.theory.specs.Hypotheses.{Plannable}
 use Rattle.theory.specs.Enumeration.{least-plan, least-plan-unique}
 use Rattle.theory.specs.CountLists.{all-rules, planner-rules}

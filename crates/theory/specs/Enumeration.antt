@@ -17,9 +17,8 @@ use Rattle.lists.specs.Members.{InOrder, none, next, member-at, place-of, snoc-
 use Rattle.lists.specs.Members.{to-keep, from-keep, in-order-keep, from-map, in-order-map, to-flatMap, from-flatMap, in-order-flatMap}
 use Rattle.model.specs.Instance.{Instance}
 use Rattle.model.specs.Plans.{Allowed, Member, LeastPlan, planCost, planServes, plansInOrder, cheapest, cheapestOf, leastPlan}
-use Rattle.columns.specs.Column.{lastPlace, Ascending}
+use Rattle.thresholds.specs.Places.{lastPlace, Ascending, last-inside, last-serves}
 use Rattle.theory.specs.Hypotheses.{LoadsFit}
-use Rattle.columns.specs.Places.{last-inside, last-serves}
 use Rattle.theory.specs.PlacedPlans.{allowed-of}
 use Rattle.theory.specs.Ties.{NotAfterIn, not-after-snoc, not-after-equal}
 

@@ -11,7 +11,7 @@ use Rattle.model.specs.Sheets.{off, isEntry, stepOf, stepCost, activeOf}
 use Rattle.model.specs.Thesis.{switchingPrice, countAt, slotCost, countsCost}
 use Rattle.model.specs.Plans.{Allowed, NotAfter, planServes}
 use Rattle.laws.specs.Tables.{Convex}
-use Rattle.columns.specs.Column.{countAtPlace}
+use Rattle.thresholds.specs.Places.{countAtPlace}
 
 -- The full rack serves every load.
 abbrev pub LoadsFit : Instance → Type 0

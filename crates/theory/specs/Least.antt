@@ -11,9 +11,9 @@ use Rattle.lists.specs.Members.{snoc-before, snoc-length}
 use Rattle.model.specs.Instance.{Instance}
 use Rattle.model.specs.Plans.{Allowed}
 use Rattle.model.specs.Thesis.{switchingPrice, countAt, slotCost, countsCost}
-use Rattle.columns.specs.Column.{countAtPlace, column, selection, wayBack, searchedPlan, searchedCost, Ascending}
+use Rattle.thresholds.specs.Places.{countAtPlace, Ascending, count-rises, place-below}
+use Rattle.theory.specs.Columns.{column, selection, wayBack, searchedPlan, searchedCost}
 use Rattle.theory.specs.Hypotheses.{LoadsFit, costOfFirst, LeastByCounts}
-use Rattle.columns.specs.Places.{count-rises, place-below}
 use Rattle.theory.specs.PlacedPlans.{Placed, placed-snoc, placed-of, allowed-of}
 use Rattle.theory.specs.SlotColumns.{column-best}
 use Rattle.theory.specs.Ties.{NotAfterIn, not-after-suc, not-after-same}

@@ -10,6 +10,7 @@ pub mod CountCosts
 pub mod SheetLaws
 pub mod PlacedPlans
 pub mod Ties
+pub mod Columns
 pub mod Choices
 pub mod SlotColumns
 pub mod Least

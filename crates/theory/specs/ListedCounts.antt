@@ -18,8 +18,7 @@ use Rattle.model.specs.Calls.{Accepted}
 use Rattle.model.specs.Promises.{KeepsRules, CountsWithin}
 use Rattle.model.specs.RelatedShows.{PlannedAt, PlannedAs}
 use Rattle.laws.specs.Acceptance.{modules-range}
-use Rattle.columns.specs.Column.{countAtPlace, lastPlace}
-use Rattle.columns.specs.Places.{length-fits}
+use Rattle.thresholds.specs.Places.{countAtPlace, lastPlace, length-fits}
 use Rattle.theory.specs.CountLists.{InRules, rules-grow, rules-hold, rules-kept, planner-rules}
 use Rattle.theory.specs.SheetLaws.{sheet-counts-fit}
 use Rattle.theory.specs.Enumeration.{least-plan}

@@ -13,7 +13,7 @@ use Rattle.lists.specs.Members.{snoc-before}
 use Rattle.model.specs.Instance.{Instance}
 use Rattle.model.specs.Counts.{canServe}
 use Rattle.model.specs.Plans.{Member, Allowed, planServes}
-use Rattle.columns.specs.Column.{countAtPlace}
+use Rattle.thresholds.specs.Places.{countAtPlace}
 
 module _ (i : Instance) (counts : List ℕ) where
   -- Each count of an allowed plan serves its slot's load.

@@ -9,8 +9,7 @@ use lib.ListN.{length}
 use Rattle.lists.specs.Numbers.{le-or-lt}
 use Rattle.lists.specs.Products.{line-moved}
 use Rattle.lists.specs.Rising.{between}
-use Rattle.columns.specs.Column.{countAtPlace, lastPlace, Ascending}
-use Rattle.columns.specs.Places.{count-rises}
+use Rattle.thresholds.specs.Places.{countAtPlace, lastPlace, Ascending, count-rises}
 
 -- A column that rises with the places, by at most the price a module.
 pub record Gradual (price : ℕ) (counts : List ℕ) (f : ℕ → ℕ) : Type 0 where

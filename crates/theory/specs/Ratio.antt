@@ -16,9 +16,9 @@ use Rattle.model.specs.Instance.{Instance}
 use Rattle.model.specs.Counts.{canServe, operatingCost}
 use Rattle.model.specs.Thesis.{switchingPrice, countAt, slotCost, countsCost}
 use Rattle.model.specs.Plans.{planServes}
-use Rattle.columns.specs.Column.{countAtPlace, column, searchedCost, Ascending, GrowsBy}
+use Rattle.thresholds.specs.Places.{countAtPlace, Ascending, GrowsBy, count-fits}
+use Rattle.theory.specs.Columns.{column, searchedCost}
 use Rattle.theory.specs.Hypotheses.{LoadsFit, costOfFirst}
-use Rattle.columns.specs.Places.{count-fits}
 use Rattle.theory.specs.SlotColumns.{column-best, column-rises, column-slope}
 use Rattle.theory.specs.Average.{average-falls}
 use Rattle.theory.specs.Potential.{Gradual, Block, width, lineAt, LineBelow, line-of-counts, value-below, move}

@@ -1,4 +1,4 @@
--- One slot's two passes give the least over all places that serve, and the smallest place that attains it. So columns rise gradually.
+-- One slot's choice is the least over all places that serve, and the smallest place that attains it. So columns rise gradually.
 use Prim.Native.Nat.{ℕ, zero, suc, _+_, _-_, _*_, _≤_, _<_}
 use mathlib.Core.Path.{_≡_, refl, sym, _∙_}
 use mathlib.Core.Bool.{Bool, true, false, cond, false≢true}
@@ -9,101 +9,57 @@ use lib.ListN.{length}
 use Rattle.model.specs.Instance.{Instance}
 use Rattle.model.specs.Counts.{canServe, operatingCost}
 use Rattle.model.specs.Thesis.{switchingPrice}
-use Rattle.columns.specs.Column.{countAtPlace, lastPlace, Ascending, Choice, cheaper, servedOrAbove, rising}
-use Rattle.columns.specs.Column.{servedHere, fromTop, downward, upward, column, selection}
+use Rattle.thresholds.specs.Places.{countAtPlace, lastPlace, Ascending, count-rises, last-inside, last-serves}
+use Rattle.theory.specs.Columns.{Choice, cheaper, servedUpTo, servedAt, servedOrAbove, fromTop, bestPlace, column, selection}
 use Rattle.theory.specs.Hypotheses.{LoadsFit, SlotBest}
-use Rattle.theory.specs.Choices.{Best, best-here, best-skip, best-raised}
-use Rattle.columns.specs.Places.{count-rises, last-inside, last-serves}
+use Rattle.theory.specs.Choices.{Best, best-here, best-skip}
 
-module _ (i : Instance) (counts : List ℕ) (asc : Ascending counts (i .modules)) where
-  -- The price of switching on from place k up to place j.
-  abbrev rise : ℕ → ℕ → ℕ
-  rise j k = switchingPrice i * (countAtPlace counts j - countAtPlace counts k)
+-- One slot with load l, after a column.
+module _
+    (i : Instance) (counts : List ℕ) (asc : Ascending counts (i .modules)) (l : ℕ) (fits : l ≤ i .modules * i .topStep) (before : ℕ → ℕ) where
+  abbrev Serves : ℕ → Type 0
+  Serves k = (k < length counts) × (canServe i (countAtPlace counts k) l ≡ true)
 
-  no-rise : (j k : ℕ) → j ≤ k → k < length counts → rise j k ≡ 0
-  no-rise j k h inside = rw (sub-eq-zero-of-le (count-rises asc j k h inside)) (mul-zero (switchingPrice i))
+  -- From the last place down to place n the best of the places there is found.
+  from-top-best :
+      (j d n : ℕ) → n + d ≡ lastPlace counts → Best (λ k. (n ≤ k) × Serves k) (servedUpTo i counts l before j) (fromTop i counts l before j d)
+  unfolding fromTop servedOrAbove
+  from-top-best j zero n e =
+      record {
+        found = (omega arith, (last-inside asc, last-serves asc i l fits));
+        cost-is = refl;
+        least = λ k h. let same : k ≡ lastPlace counts = omega arith in rw same (omega arith);
+        first = λ k h _. omega arith;
+      }
+  from-top-best j (suc d) n e =
+      let here : lastPlace counts - suc d ≡ n = omega arith in
+      rw here (pick (canServe i (countAtPlace counts n) l) refl (from-top-best j d (suc n) (omega arith)))
+    where
+      rest : Choice
+      rest = fromTop i counts l before j d
 
-  rise-through : (h j k : ℕ) → k ≤ j → j ≤ h → h < length counts → rise h k ≡ rise j k + rise h j
-  rise-through h j k low high inside =
-      let a = count-rises asc k j low (omega arith) in
-      let b = count-rises asc j h high inside in
-      let e : countAtPlace counts h - countAtPlace counts k ≡
-      countAtPlace counts j - countAtPlace counts k + (countAtPlace counts h - countAtPlace counts j) = omega arith in
-      rw e (omega arith)
+      pick :
+          (b : Bool) → canServe i (countAtPlace counts n) l ≡ b → Best (λ k. (n < k) × Serves k) (servedUpTo i counts l before j) rest →
+          Best (λ k. (n ≤ k) × Serves k) (servedUpTo i counts l before j) (cond b (cheaper (servedAt i counts l before j n) rest) rest)
+      pick true can above = best-here n (omega arith, can) above
+      pick false cannot above = best-skip n (λ h. false≢true (sym cannot ∙ h .1)) above
 
-  -- One slot with load l, after a column.
-  module _ (l : ℕ) (fits : l ≤ i .modules * i .topStep) (before : ℕ → ℕ) where
-    abbrev Serves : ℕ → Type 0
-    Serves k = (k < length counts) × (canServe i (countAtPlace counts k) l ≡ true)
-
-    -- The cost of serving at place k.
-    abbrev served : ℕ → ℕ
-    served k = before k + operatingCost i (countAtPlace counts k) l
-
-    -- The cost of serving at place k and of then switching on up to place j.
-    abbrev servedUpTo : ℕ → ℕ → ℕ
-    servedUpTo j k = served k + rise j k
-
-    served-above : (j k : ℕ) → j ≤ k → Serves k → servedUpTo j k ≡ served k
-    served-above j k h serves = omega (arith, no-rise j k h (serves .0))
-
-    -- The downward pass at the place d below the last finds the best of the places from there up.
-    from-top-best : (d j : ℕ) → j + d ≡ lastPlace counts → Best (λ k. (j ≤ k) × Serves k) served (fromTop i counts l before d)
-    unfolding fromTop servedOrAbove
-    from-top-best zero j e =
-        record {
-          found = (omega arith, (last-inside asc, last-serves asc i l fits));
-          cost-is = refl;
-          least = λ k h. let same : k ≡ lastPlace counts = omega arith in rw same (omega arith);
-          first = λ k h _. omega arith;
-        }
-    from-top-best (suc d) j e =
-        let here : lastPlace counts - suc d ≡ j = omega arith in
-        rw here (pick (canServe i (countAtPlace counts j) l) refl (from-top-best d (suc j) (omega arith)))
-      where
-        rest : Choice
-        rest = fromTop i counts l before d
-
-        pick :
-            (b : Bool) → canServe i (countAtPlace counts j) l ≡ b → Best (λ k. (j < k) × Serves k) served rest →
-            Best (λ k. (j ≤ k) × Serves k) served (cond b (cheaper (servedHere i counts l before j) rest) rest)
-        pick true can above = best-here j (omega arith, can) above
-        pick false cannot above = best-skip j (λ h. false≢true (sym cannot ∙ h .1)) above
-
-    -- The downward pass finds the best of the places from its own up.
-    down-best : (j : ℕ) → j < length counts → Best (λ k. (j ≤ k) × Serves k) served (downward i counts l before j)
-    unfolding downward
-    down-best j inside = from-top-best (lastPlace counts - j) j (omega arith)
-
-    -- The upward pass finds the best of all places.
-    up-best : (j : ℕ) → j < length counts → Best Serves (servedUpTo j) (upward i counts l before j)
-    unfolding upward rising
-    up-best zero inside =
-        let down = down-best 0 inside in
-        record {
-          found = down .found .1;
-          cost-is = omega (arith, down .cost-is, served-above 0 (downward i counts l before 0 .at) (omega arith) (down .found .1));
-          least = λ k h. omega (arith, down .least k (omega arith, h));
-          first = λ k h e. down .first k (omega arith, h) (omega (arith, served-above 0 k (omega arith) h));
-        }
-    up-best (suc j) inside =
-        best-raised {value = served} j (rise (suc j) j)
-        (λ k h. omega (arith, rise-through (suc j) j k h (omega arith) inside))
-        (λ k h serves. served-above j k (omega arith) serves)
-        (served-above (suc j))
-        (up-best j (omega arith))
-        (down-best (suc j) inside)
-
-    -- The two passes give the least over all places that serve, and the smallest place that attains it.
-    pub slot-best : SlotBest i counts l before (λ j. upward i counts l before j .cost) (λ j. upward i counts l before j .at)
-    slot-best =
-        record {
-          at-most = λ j k h inside serves. up-best j h .least k (inside, serves);
-          chosen-in = λ j h. up-best j h .found .0;
-          chosen-serves = λ j h. up-best j h .found .1;
-          attained = λ j h. up-best j h .cost-is;
-          smallest = λ j k h inside serves e. up-best j h .first k (inside, serves) (sym e);
-        }
+  -- A slot's choice is the least over all places that serve, and the smallest place that attains it.
+  pub slot-best : SlotBest i counts l before (λ j. bestPlace i counts l before j .cost) (λ j. bestPlace i counts l before j .at)
+  unfolding bestPlace
+  slot-best =
+      record {
+        at-most = λ j k h inside serves. best j .least k (omega arith, (inside, serves));
+        chosen-in = λ j h. best j .found .1 .0;
+        chosen-serves = λ j h. best j .found .1 .1;
+        attained = λ j h. best j .cost-is;
+        smallest = λ j k h inside serves e. best j .first k (omega arith, (inside, serves)) (sym e);
+      }
+    where
+      best :
+          (j : ℕ) →
+          Best (λ k. (0 ≤ k) × Serves k) (servedUpTo i counts l before j) (fromTop i counts l before j (lastPlace counts))
+      best j = from-top-best j (lastPlace counts) 0 (omega arith)
 
 -- Switching on directly costs no more than by way of another count.
 triangle : (b x y z : ℕ) → b * (x - z) ≤ b * (y - z) + b * (x - y)

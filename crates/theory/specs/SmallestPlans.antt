@@ -16,7 +16,7 @@ use Rattle.model.specs.Counts.{canServe, operatingCost, allCounts}
 use Rattle.model.specs.Sheets.{serves, sheetCost, activeAt, countsOf}
 use Rattle.model.specs.Thesis.{switchingPrice, countAt, slotCost, countsCost}
 use Rattle.model.specs.Plans.{Member, Allowed, planCost, leastPlan, leastCost}
-use Rattle.columns.specs.Column.{Ascending}
+use Rattle.thresholds.specs.Places.{Ascending}
 use Rattle.theory.specs.Hypotheses.{Plannable, LeastByCounts}
 use Rattle.theory.specs.PlacedPlans.{allowed-serves, serves-allowed}
 use Rattle.theory.specs.Ties.{not-after-equal}

@@ -1,1 +1,1 @@
-// The theorems about the definitions of model and columns. No code: see specs/.
+// The theorems about the definitions of model and thresholds. No code: see specs/.

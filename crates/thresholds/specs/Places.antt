@@ -1,18 +1,36 @@
--- The places of an ascending list of allowed counts.
-use Prim.Native.Nat.{ℕ, zero, suc, _+_, _*_, _≤_, _<_}
+-- Lists of allowed counts and their places. A place is an index of the list.
+use Prim.Native.Nat.{ℕ, zero, suc, _+_, _-_, _*_, _≤_, _<_}
 use mathlib.Core.Path.{_≡_}
 use mathlib.Core.Bool.{true}
 use mathlib.Core.Logic.{⊎-elim}
 use mathlib.Core.List.{List}
 use native.Mathlib.Numerals.{add-one}
 use native.Mathlib.Omega.{arith}
-use lib.ListN.{length}
+use lib.ListN.{length, getD}
 use borrow.Author.Tests.{le-leb}
 use Rattle.lists.specs.Numbers.{le-or-lt}
 use Rattle.lists.specs.Members.{InOrder, rising-in-order, in-order-at, in-order-le}
 use Rattle.model.specs.Instance.{Instance}
 use Rattle.model.specs.Counts.{canServe}
-use Rattle.columns.specs.Column.{countAtPlace, lastPlace, Ascending}
+
+-- The count at a place.
+abbrev pub countAtPlace : List ℕ → ℕ → ℕ
+countAtPlace counts j = getD counts j 0
+
+-- The last place of a list.
+abbrev pub lastPlace : List ℕ → ℕ
+lastPlace counts = length counts - 1
+
+-- A list of allowed counts: strictly ascending from 0 to m, with at least one count after 0.
+pub record Ascending (counts : List ℕ) (m : ℕ) : Type 0 where
+  pub two : 2 ≤ length counts
+  pub first : countAtPlace counts 0 ≡ 0
+  pub last : countAtPlace counts (lastPlace counts) ≡ m
+  pub rises : (j : ℕ) → j + 1 < length counts → countAtPlace counts j < countAtPlace counts (j + 1)
+
+-- A list of allowed counts in which each count is at most r times one more than the count before it.
+abbrev pub GrowsBy : (r : ℕ) → List ℕ → Type 0
+GrowsBy r counts = (j : ℕ) → j + 1 < length counts → countAtPlace counts (j + 1) ≤ r * (countAtPlace counts j + 1)
 
 module _ {counts : List ℕ} {m : ℕ} (asc : Ascending counts m) where
   in-order : InOrder _<_ counts
