@@ -66,3 +66,12 @@ module _ (i : Instance) (counts : List ℕ) (start : ℕ) where
   -- The cost of the searched plan.
   unfoldable pub searchedCost : ℕ
   searchedCost = column (i .slots) 0
+
+  -- The place of the searched plan in the slot that is d before the end. After the last slot it is 0.
+  unfoldable pub placeFromEnd : ℕ → ℕ
+  placeFromEnd zero = 0
+  placeFromEnd (suc d) = selection (i .slots - suc d) (placeFromEnd d)
+
+  -- The place of the searched plan in slot t.
+  unfoldable pub placeIn : ℕ → ℕ
+  placeIn t = placeFromEnd (i .slots - t)

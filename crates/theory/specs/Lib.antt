@@ -14,6 +14,8 @@ pub mod Columns
 pub mod Choices
 pub mod SlotColumns
 pub mod Least
+pub mod NearLeads
+pub mod ConvexColumns
 pub mod Enumeration
 pub mod Average
 pub mod Potential
