@@ -1,7 +1,11 @@
 -- What a verdict says of a level when its lead is only near the right one. Numbers only: x is the least plan's place in a slot, next its place
 -- in the slot after, and the level is between the places j and j + 1.
 use Prim.Native.Nat.{ℕ, _+_, _≤_, _<_}
-use Rattle.thresholds.specs.Thresholds.{Verdict}
+use mathlib.Core.Logic.{⊎-elim}
+use native.Mathlib.Omega.{arith}
+use Rattle.lists.specs.Numbers.{le-or-lt}
+use Rattle.thresholds.specs.Thresholds.{Verdict, weighed}
+use Rattle.thresholds.specs.ThresholdLaws.{less-one, less-zero, less-most}
 
 -- A lead that errs on the plan's own side of the level: it is at most the right one if the plan is above, and at least that if it is below.
 pub record Near (j x lead own : ℕ) : Type 0 where
@@ -29,3 +33,41 @@ pub record Judged (j x next w own : ℕ) (verdict : ℕ → Verdict) : Type 0 wh
   pub tells : (lead : ℕ) → Near j x lead own → Tells j x next (verdict lead .side)
   pub from-above : j < x → Near j next 0 (verdict own .lead)
   pub from-below : x ≤ j → Near j next w (verdict own .lead)
+
+-- Where what the two places cost decides the side, the verdict that weighs them is right about the plan.
+pub judged-weighed :
+    (j x next w upper lower own : ℕ) → Sides j x next w upper lower own →
+    Judged j x next w own (λ lead. weighed w (lead + upper) lower)
+judged-weighed j x next w upper lower own sides =
+    record {
+      near = λ lead here. ⊎-elim
+          (λ (low : x ≤ j).
+          record {
+            above = λ up. omega (arith, here .below low, sides .rises low up);
+            below = λ down. omega (arith, here .below low, sides .none low down);
+          })
+          (λ (high : j < x).
+          record {
+            above = λ up. omega (arith, here .above high, sides .both high up);
+            below = λ down. omega (arith, here .above high, sides .falls high down);
+          })
+          (le-or-lt x j);
+      tells = λ lead here. record {
+        both = λ high up. omega (arith, less-one (lead + upper) (lower + w) (omega (arith, here .above high, sides .both high up)));
+        falls = λ high down.
+            let less : lead + upper < lower = omega (arith, here .above high, sides .falls high down) in
+            omega (arith, less-one (lead + upper) lower less, less-one (lead + upper) (lower + w) (omega arith));
+        rises = λ low up.
+            let more : lower + w ≤ lead + upper = omega (arith, here .below low, sides .rises low up) in
+            omega (arith, less-zero (lead + upper) lower (omega arith), less-zero (lead + upper) (lower + w) more);
+        none = λ low down.
+            let more : lower ≤ lead + upper = omega (arith, here .below low, sides .none low down) in
+            omega (arith, less-zero (lead + upper) lower more, less-most (lead + upper) (lower + w));
+      };
+      from-above = λ high. record { above = λ up. omega arith; below = λ down. omega (arith, sides .falls high down) };
+      from-below = λ low. record { above = λ up. omega (arith, sides .rises low up); below = λ down. omega arith };
+    }
+
+-- Where the plan must be above the level, the verdict that says so is right.
+pub judged-forced : (j x next w own : ℕ) → j < x → Judged j x next w own (λ lead. record { lead = 0; side = 2 })
+judged-forced j x next w own high = omega arith
