@@ -16,6 +16,7 @@ pub mod SlotColumns
 pub mod Least
 pub mod NearLeads
 pub mod ConvexColumns
+pub mod Halves
 pub mod Enumeration
 pub mod Average
 pub mod Potential

@@ -1,0 +1,85 @@
+-- One round of a search digit by digit, for two neighbouring slots. Numbers only: the plan so far says that a slot's place is one of the 2 b
+-- places from `here` on, and the round finds which half it is in.
+use Prim.Native.Nat.{ℕ, _+_, _-_, _≤_, _<_}
+use mathlib.Core.Path.{_≡_, refl}
+use mathlib.Core.Logic.{⊎-elim}
+use native.Mathlib.Omega.{arith}
+use borrow.Author.Tests.{le-leb, lt-leb}
+use Rattle.lists.specs.Numbers.{le-or-lt}
+use Rattle.thresholds.specs.Thresholds.{isLess, raisedPlace}
+use Rattle.thresholds.specs.ThresholdLaws.{less-one, less-zero, less-most}
+use Rattle.theory.specs.NearLeads.{Tells}
+
+-- The h places from p on and the h places from q on are the same, or they do not meet.
+pub data Apart (h p q : ℕ) : Type 0 where
+  equal : p ≡ q → Apart h p q
+  lower : p + h ≤ q → Apart h p q
+  higher : q + h ≤ p → Apart h p q
+
+-- The first place of one of the two halves with b places each.
+pub data Half (b here new : ℕ) : Type 0 where
+  first : new ≡ here → Half b here new
+  second : new ≡ here + b → Half b here new
+
+-- The half that the place x is in.
+pub record Digit (b here x new : ℕ) : Type 0 where
+  pub low : new ≤ x
+  pub high : x < new + b
+  pub half : Half b here new
+
+-- A half begins at the first place or later.
+half-low : {b here new : ℕ} → Half b here new → here ≤ new
+half-low (first e) = omega arith
+half-low (second e) = omega arith
+
+-- A half begins b places later at most.
+half-high : {b here new : ℕ} → Half b here new → new ≤ here + b
+half-high (first e) = omega arith
+half-high (second e) = omega arith
+
+-- Halves of places that are the same or do not meet are the same or do not meet.
+pub halves-apart :
+    (b here next new after : ℕ) → Apart (b + b) here next → Half b here new → Half b next after → Apart b new after
+halves-apart b here next new after (equal e) (first f) (first g) = equal (omega arith)
+halves-apart b here next new after (equal e) (first f) (second g) = lower (omega arith)
+halves-apart b here next new after (equal e) (second f) (first g) = higher (omega arith)
+halves-apart b here next new after (equal e) (second f) (second g) = equal (omega arith)
+halves-apart b here next new after (lower h) f g = lower (omega (arith, half-high f, half-low g))
+halves-apart b here next new after (higher h) f g = higher (omega (arith, half-low f, half-high g))
+
+-- If the next slot's half begins below a slot's second half, then the next slot's place y is below it too.
+next-below :
+    {b here next y after : ℕ} → 1 ≤ b → Apart (b + b) here next → Half b next after → y < after + b →
+    after ≤ here + b - 1 → y ≤ here + b - 1
+next-below some (equal e) (first f) high below = omega arith
+next-below some (equal e) (second f) high below = omega arith
+next-below some (lower h) half high below = omega (arith, half-low half)
+next-below some (higher h) half high below = omega (arith, half-high half)
+
+-- Where the side tells whether the place x is in the second half, by the next slot's place y, the raised place begins the half that x is in.
+pub raised-digit :
+    (b here next x y side after : ℕ) → 1 ≤ b → here ≤ x → x < here + (b + b) → Apart (b + b) here next →
+    Tells (here + b - 1) x y side → Digit b next y after → Digit b here x (raisedPlace b here side after)
+unfolding raisedPlace
+raised-digit b here next x y side after some low high apart tells digit =
+    let j = here + b - 1 in
+    let sum = side + isLess j after in
+    let below : after ≤ j → y ≤ j = next-below some apart (digit .half) (digit .high) in
+    ⊎-elim
+    (λ (down : x ≤ j).
+    let few : sum < 2 =
+        ⊎-elim
+        (λ (g : after ≤ j). omega (arith, less-zero j after g, tells .none down (below g)))
+        (λ (g : j < after). omega (arith, less-most j after, tells .rises down (omega (arith, digit .low))))
+        (le-or-lt after j)
+    in
+    rw (lt-leb 2 sum few) (record { low = low; high = omega arith; half = first refl }))
+    (λ (up : j < x).
+    let many : 2 ≤ sum =
+        ⊎-elim
+        (λ (g : after ≤ j). omega (arith, tells .falls up (below g)))
+        (λ (g : j < after). omega (arith, less-one j after g, tells .both up (omega (arith, digit .low))))
+        (le-or-lt after j)
+    in
+    rw (le-leb 2 sum many) (record { low = omega arith; high = omega arith; half = second refl }))
+    (le-or-lt x j)
