@@ -67,7 +67,7 @@ module _ (i : Instance) (counts : List ℕ) (start : ℕ) (asc : Ascending count
       ))
 
   -- The way back has a count for each slot.
-  way-back-length : (t j : ℕ) → length (wayBack i counts start t j) ≡ t
+  pub way-back-length : (t j : ℕ) → length (wayBack i counts start t j) ≡ t
   unfolding wayBack
   way-back-length zero j = refl
   way-back-length (suc t) j = let c = selection i counts start t j in snoc-length (wayBack i counts start t c) _ t (way-back-length t c)

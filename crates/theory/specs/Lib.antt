@@ -17,6 +17,8 @@ pub mod Least
 pub mod NearLeads
 pub mod ConvexColumns
 pub mod Halves
+pub mod Rounds
+pub mod ThresholdPlans
 pub mod Enumeration
 pub mod Average
 pub mod Potential
