@@ -1,6 +1,6 @@
 -- Condition 3: over a list of allowed counts that keeps the rules with the ratio r (02 §8) the least plan costs at most r times as much as any
 -- sheet that serves. For all counts r is 1, and for the coarse ones 2. The sheets are those with enough light (02 §2).
-use Prim.Native.Nat.{ℕ, _*_, _≤_}
+use Prim.Native.Nat.{ℕ, _*_, _^_, _≤_, _<_}
 use mathlib.Core.Path.{_≡_, refl, sym, ap, _∙_}
 use mathlib.Core.Bool.{true}
 use mathlib.Core.List.{List}
@@ -16,12 +16,14 @@ use Rattle.model.specs.Calls.{Accepted}
 use Rattle.model.specs.Promises.{KeepsRules}
 use Rattle.laws.specs.Acceptance.{modules-range, top-range, load-range, table-convex}
 use Rattle.laws.specs.CountMembers.{all-member}
-use Rattle.thresholds.specs.Places.{Ascending, count-fits}
+use Rattle.thresholds.specs.Places.{lastPlace, Ascending, count-fits}
+use Rattle.thresholds.specs.Thresholds.{thresholdPlan}
 use Rattle.theory.specs.Columns.{searchedPlan, searchedCost}
 use Rattle.laws.specs.Tables.{convex-test}
 use Rattle.theory.specs.Hypotheses.{PlanFits, Plannable, LeastByCounts}
 use Rattle.theory.specs.SheetLaws.{sheet-counts-fit, sheet-at-least, plan-sheet-serves, plan-cost-counts}
 use Rattle.theory.specs.Least.{searched-least, searched-cost}
+use Rattle.theory.specs.ThresholdPlans.{threshold-searched}
 use Rattle.theory.specs.Enumeration.{least-plan, least-plan-unique}
 use Rattle.theory.specs.Ratio.{ratio}
 use Rattle.theory.specs.CountLists.{InRules, rules-grow, ratio-some, all-rules, coarse-rules, planner-rules}
@@ -59,6 +61,10 @@ module _ {i : Instance} (ready : Plannable i) where
         let same = least-plan-unique i counts _ _ (by-counts-least L) (least-plan i counts asc (ready .loads)) in
         let cost = searched-cost i counts 0 asc (ready .loads) ∙ sym (allowed-cost (searchedPlan i counts 0) (L .allowed)) in
         (same, cost ∙ ap (planCost i) same)
+
+    -- The plan found digit by digit, in e rounds over a list with at most 2 ^ e places, is the least plan.
+    pub threshold-plan : (e : ℕ) → lastPlace counts < 2 ^ e → thresholdPlan i counts 0 e ≡ leastPlan i counts
+    threshold-plan e wide = threshold-searched i counts 0 asc ready e wide ∙ searched-plan .0
 
     -- The least plan is the least plan by counts.
     pub least-by-counts : LeastByCounts i counts 0 (leastPlan i counts)
