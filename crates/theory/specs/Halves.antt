@@ -1,5 +1,5 @@
--- One round of a search digit by digit, for two neighbouring slots. Numbers only: the plan so far says that a slot's place is one of the 2 b
--- places from `here` on, and the round finds which half it is in.
+-- One round of a search digit by digit, for two neighbouring slots. Numbers only: the plan so far says that a slot's place is one of the
+-- 2 b places from `here` on, and the round finds which half it is in.
 use Prim.Native.Nat.{ℕ, _+_, _-_, _≤_, _<_}
 use mathlib.Core.Path.{_≡_, refl}
 use mathlib.Core.Logic.{⊎-elim}
@@ -56,30 +56,42 @@ next-below some (equal e) (second f) high below = omega arith
 next-below some (lower h) half high below = omega (arith, half-low half)
 next-below some (higher h) half high below = omega (arith, half-high half)
 
--- Where the side tells whether the place x is in the second half, by the next slot's place y, the raised place begins the half that x is in.
-pub raised-digit :
-    (b here next x y side after : ℕ) → 1 ≤ b → here ≤ x → x < here + (b + b) → Apart (b + b) here next →
-    Tells (here + b - 1) x y side → Digit b next y after → Digit b here x (raisedPlace b here side after)
-unfolding raisedPlace
-raised-digit b here next x y side after some low high apart tells digit =
-    let j = here + b - 1 in
-    let sum = side + isLess j after in
-    let below : after ≤ j → y ≤ j = next-below some apart (digit .half) (digit .high) in
-    ⊎-elim
-    (λ (down : x ≤ j).
-    let few : sum < 2 =
-        ⊎-elim
-        (λ (g : after ≤ j). omega (arith, less-zero j after g, tells .none down (below g)))
-        (λ (g : j < after). omega (arith, less-most j after, tells .rises down (omega (arith, digit .low))))
-        (le-or-lt after j)
-    in
-    rw (lt-leb 2 sum few) (record { low = low; high = omega arith; half = first refl }))
-    (λ (up : j < x).
-    let many : 2 ≤ sum =
-        ⊎-elim
-        (λ (g : after ≤ j). omega (arith, tells .falls up (below g)))
-        (λ (g : j < after). omega (arith, less-one j after g, tells .both up (omega (arith, digit .low))))
-        (le-or-lt after j)
-    in
-    rw (le-leb 2 sum many) (record { low = omega arith; high = omega arith; half = second refl }))
-    (le-or-lt x j)
+-- A slot whose place is x and whose side tells, by the next slot's place y, whether x is in the second half. After the round the
+-- next slot's plan is at `after`.
+module _
+    (b here next x y side after : ℕ) (some : 1 ≤ b) (apart : Apart (b + b) here next)
+    (tells : Tells (here + b - 1) x y side) (digit : Digit b next y after) where
+  -- The level between the two halves.
+  abbrev middle : ℕ
+  middle = here + b - 1
+
+  -- If the next slot's half begins below that level, then the next slot's place is below it.
+  below : after ≤ middle → y ≤ middle
+  below = next-below some apart (digit .half) (digit .high)
+
+  -- If x is in the first half, the side and the next slot's half do not raise the place.
+  not-raised : x ≤ middle → side + isLess middle after < 2
+  not-raised down =
+      ⊎-elim
+      (λ (g : after ≤ middle). omega (arith, less-zero middle after g, tells .none down (below g)))
+      (λ (g : middle < after). omega (arith, less-most middle after, tells .rises down (omega (arith, digit .low))))
+      (le-or-lt after middle)
+
+  -- If x is in the second half, the side and the next slot's half raise the place.
+  is-raised : middle < x → 2 ≤ side + isLess middle after
+  is-raised up =
+      ⊎-elim
+      (λ (g : after ≤ middle). omega (arith, tells .falls up (below g)))
+      (λ (g : middle < after). omega (arith, less-one middle after g, tells .both up (omega (arith, digit .low))))
+      (le-or-lt after middle)
+
+  -- The place after the round begins the half that x is in.
+  pub raised-digit : here ≤ x → x < here + (b + b) → Digit b here x (raisedPlace b here side after)
+  unfolding raisedPlace
+  raised-digit low high =
+      ⊎-elim
+      (λ (down : x ≤ middle).
+      rw (lt-leb 2 (side + isLess middle after) (not-raised down)) (record { low = low; high = omega arith; half = first refl }))
+      (λ (up : middle < x).
+      rw (le-leb 2 (side + isLess middle after) (is-raised up)) (record { low = omega arith; high = omega arith; half = second refl }))
+      (le-or-lt x middle)

@@ -1,5 +1,5 @@
--- What a verdict says of a level when its lead is only near the right one. Numbers only: x is the least plan's place in a slot, next its place
--- in the slot after, and the level is between the places j and j + 1.
+-- What a verdict says of a level when its lead is only near the right one. Numbers only: x is the least plan's place in a slot, next its
+-- place in the slot after, and the level is between the places j and j + 1.
 use Prim.Native.Nat.{ℕ, _+_, _≤_, _<_}
 use mathlib.Core.Logic.{⊎-elim}
 use native.Mathlib.Omega.{arith}
@@ -26,8 +26,8 @@ pub record Tells (j x next side : ℕ) : Type 0 where
   pub rises : x ≤ j → j < next → side ≤ 0
   pub none : x ≤ j → next ≤ j → side ≤ 1
 
--- A slot's verdict by the lead, where `own` is the right one: near leads stay near and tell the side, and a slot whose side is known gives a
--- near lead too.
+-- A slot's verdict by the lead, where `own` is the right one: near leads stay near and tell the side, and a slot whose side is known gives
+-- a near lead too.
 pub record Judged (j x next w own : ℕ) (verdict : ℕ → Verdict) : Type 0 where
   pub near : (lead : ℕ) → Near j x lead own → Near j next (verdict lead .lead) (verdict own .lead)
   pub tells : (lead : ℕ) → Near j x lead own → Tells j x next (verdict lead .side)
@@ -40,7 +40,8 @@ pub judged-weighed :
     Judged j x next w own (λ lead. weighed w (lead + upper) lower)
 judged-weighed j x next w upper lower own sides =
     record {
-      near = λ lead here. ⊎-elim
+      near = λ lead here.
+          ⊎-elim
           (λ (low : x ≤ j).
           record {
             above = λ up. omega (arith, here .below low, sides .rises low up);
@@ -52,18 +53,20 @@ judged-weighed j x next w upper lower own sides =
             below = λ down. omega (arith, here .above high, sides .falls high down);
           })
           (le-or-lt x j);
-      tells = λ lead here. record {
-        both = λ high up. omega (arith, less-one (lead + upper) (lower + w) (omega (arith, here .above high, sides .both high up)));
-        falls = λ high down.
-            let less : lead + upper < lower = omega (arith, here .above high, sides .falls high down) in
-            omega (arith, less-one (lead + upper) lower less, less-one (lead + upper) (lower + w) (omega arith));
-        rises = λ low up.
-            let more : lower + w ≤ lead + upper = omega (arith, here .below low, sides .rises low up) in
-            omega (arith, less-zero (lead + upper) lower (omega arith), less-zero (lead + upper) (lower + w) more);
-        none = λ low down.
-            let more : lower ≤ lead + upper = omega (arith, here .below low, sides .none low down) in
-            omega (arith, less-zero (lead + upper) lower more, less-most (lead + upper) (lower + w));
-      };
+      tells = λ lead here.
+          let cost = lead + upper in
+          record {
+            both = λ high up. omega (arith, less-one cost (lower + w) (omega (arith, here .above high, sides .both high up)));
+            falls = λ high down.
+                let less : cost < lower = omega (arith, here .above high, sides .falls high down) in
+                omega (arith, less-one cost lower less, less-one cost (lower + w) (omega arith));
+            rises = λ low up.
+                let more : lower + w ≤ cost = omega (arith, here .below low, sides .rises low up) in
+                omega (arith, less-zero cost lower (omega arith), less-zero cost (lower + w) more);
+            none = λ low down.
+                let more : lower ≤ cost = omega (arith, here .below low, sides .none low down) in
+                omega (arith, less-zero cost lower more, less-most cost (lower + w));
+          };
       from-above = λ high. record { above = λ up. omega arith; below = λ down. omega (arith, sides .falls high down) };
       from-below = λ low. record { above = λ up. omega (arith, sides .rises low up); below = λ down. omega arith };
     }

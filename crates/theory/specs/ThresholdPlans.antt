@@ -60,6 +60,6 @@ module _ (i : Instance) (counts : List ℕ) (start : ℕ) (asc : Ascending count
       way-back-entry (i .slots) t (omega arith) h ∙
       ap (countAtPlace counts) (sym (rounds-found i counts start asc ready e wide t h))))
 
-  -- So it is the least plan by counts, first in tie order.
+  -- The plan found in e rounds is the least plan by counts, first in tie order.
   pub threshold-least : (e : ℕ) → lastPlace counts < 2 ^ e → LeastByCounts i counts start (thresholdPlan i counts start e)
   threshold-least e wide = rw (threshold-searched e wide) (searched-least i counts start asc (ready .loads))

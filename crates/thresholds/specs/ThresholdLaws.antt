@@ -3,11 +3,13 @@ use Prim.Native.Nat.{ℕ, suc, _+_, _-_, _≤_, _<_}
 use mathlib.Core.Path.{_≡_, refl, ap, _∙_}
 use mathlib.Core.Bool.{Bool, true, false, cond}
 use mathlib.Core.List.{List}
+use mathlib.Core.Logic.{⊎-elim}
 use native.Mathlib.Nat.{sub-self}
 use native.Mathlib.Omega.{arith}
 use lib.Dec.{leb, eqb}
 use lib.ListN.{length}
-use borrow.Author.Tests.{le-leb, lt-leb, leb-true, leb-false, eqb-true}
+use borrow.Author.Tests.{le-leb, lt-leb, leb-false, eqb-true}
+use Rattle.lists.specs.Numbers.{le-or-lt}
 use Rattle.model.specs.Instance.{Instance}
 use Rattle.model.specs.Counts.{canServe, operatingCost}
 use Rattle.thresholds.specs.Places.{countAtPlace, lastPlace}
@@ -34,10 +36,17 @@ less-most x y = most (leb y x)
 
 -- A slot with load l judges level j by the lead before it.
 module _ (i : Instance) (counts : List ℕ) (j l lead : ℕ) where
+  -- What the place above the level costs, with the lead.
+  abbrev upper : ℕ
+  upper = lead + operatingCost i (countAtPlace counts (j + 1)) l
+
+  -- What the place below the level costs.
+  abbrev lower : ℕ
+  lower = operatingCost i (countAtPlace counts j) l
+
   -- The verdict by what the two places cost.
   abbrev weighedHere : Verdict
-  weighedHere =
-      weighed (levelPrice i counts j) (lead + operatingCost i (countAtPlace counts (j + 1)) l) (operatingCost i (countAtPlace counts j) l)
+  weighedHere = weighed (levelPrice i counts j) upper lower
 
   -- The slot's verdict is one of three, and inside the list one of two.
   judge-cases :
@@ -56,8 +65,6 @@ module _ (i : Instance) (counts : List ℕ) (j l lead : ℕ) where
   -- A side is 0, 1 or 2.
   pub side-most : judge i counts j l lead .side ≤ 2
   side-most =
-      let upper = lead + operatingCost i (countAtPlace counts (j + 1)) l in
-      let lower = operatingCost i (countAtPlace counts j) l in
       judge-cases (λ verdict. verdict .side ≤ 2) (omega arith)
       (λ _. (omega (arith, less-most upper lower, less-most upper (lower + levelPrice i counts j)), omega arith))
 
@@ -65,10 +72,18 @@ module _ (i : Instance) (counts : List ℕ) (j l lead : ℕ) where
   pub lead-most : judge i counts j l lead .lead ≤ levelPrice i counts j
   lead-most = judge-cases (λ verdict. verdict .lead ≤ levelPrice i counts j) (omega arith) (λ _. (omega arith, omega arith))
 
+  -- Beyond the list the side is 0.
+  pub side-beyond : length counts ≤ j + 1 → judge i counts j l lead .side ≤ 0
+  side-beyond =
+      judge-cases (λ verdict. length counts ≤ j + 1 → verdict .side ≤ 0) (omega arith) (λ inside. (omega arith, omega arith))
+
   -- A side above 0 is found inside the list only.
   pub side-inside : 1 ≤ judge i counts j l lead .side → j + 1 < length counts
-  side-inside =
-      judge-cases (λ verdict. 1 ≤ verdict .side → j + 1 < length counts) (omega arith) (λ inside. (omega arith, omega arith))
+  side-inside some =
+      ⊎-elim
+      (λ (beyond : length counts ≤ j + 1). omega (arith, side-beyond beyond))
+      (λ (inside : j + 1 < length counts). inside)
+      (le-or-lt (length counts) (j + 1))
 
 -- A lead that is carried over to the next slot is at most the price of rising over its level, if that holds where the level stays.
 pub carried-most :
@@ -78,9 +93,9 @@ unfolding carried
 carried-most i counts before here j lead most = by-tests (eqb here before) refl (leb here before)
   where
     by-tests :
-        (same : Bool) → eqb here before ≡ same → (lower : Bool) →
-        cond same lead (cond lower 0 (levelPrice i counts j)) ≤ levelPrice i counts j
-    by-tests true e lower = most (eqb-true _ _ e)
+        (same : Bool) → eqb here before ≡ same → (falls : Bool) →
+        cond same lead (cond falls 0 (levelPrice i counts j)) ≤ levelPrice i counts j
+    by-tests true e falls = most (eqb-true _ _ e)
     by-tests false e true = omega arith
     by-tests false e false = omega arith
 
@@ -89,11 +104,12 @@ carried-most i counts before here j lead most = by-tests (eqb here before) refl 
 pub raised-inside :
     (b here side next n : ℕ) → 1 ≤ b → here < n → (1 ≤ side → here + b < n) → raisedPlace b here side next < n
 unfolding raisedPlace
-raised-inside b here side next n some low high = by-test (leb 2 (side + isLess (here + b - 1) next)) refl
-  where
-    by-test : (up : Bool) → leb 2 (side + isLess (here + b - 1) next) ≡ up → cond up (here + b) here < n
-    by-test true e = high (omega (arith, leb-true 2 (side + isLess (here + b - 1) next) e, less-most (here + b - 1) next))
-    by-test false e = low
+raised-inside b here side next n _ low high =
+    let sum = side + isLess (here + b - 1) next in
+    ⊎-elim
+    (λ (many : 2 ≤ sum). rw (le-leb 2 sum many) (high (omega (arith, less-most (here + b - 1) next))))
+    (λ (few : sum < 2). rw (lt-leb 2 sum few) low)
+    (le-or-lt 2 sum)
 
 module _ (slots b : ℕ) (plan sides : ℕ → ℕ) where
   -- A slot's place after a round is by the next slot's.
