@@ -13,8 +13,8 @@ use borrow.Author.Tests.{eq-eqb, ne-eqb}
 use borrow.Rule.Slice.PartMut.{putMid, midOf, mid-len, post-is}
 use Rattle.lists.specs.Lists.{tabulate, length-tabulate, getD-tabulate, writtenOver}
 use Rattle.model.specs.Counts.{allCounts, coarseCounts}
-use Rattle.counts.specs.AllowedCounts.{CoarseRoom, numbersBelow, firstPowers}
-use Rattle.counts.proofs.Powers.{powersUpTo, zeroAndPowers, joined, Coarse, coarse-known}
+use Rattle.counts.specs.AllowedCounts.{CoarseRoom, numbersBelow, firstPowers, powersUpTo}
+use Rattle.counts.proofs.Powers.{zeroAndPowers, joined, Coarse, coarse-known}
 
 -- All counts from 0 to m are written.
 pub all-written :
@@ -49,71 +49,72 @@ coarse-ten m some most = rw (known .list) (sized (eqb (2 ^ (powersUpTo m - 1)) m
     sized false =
         omega (arith, known .high, length-zeroAndPowers (powersUpTo m), length-append (zeroAndPowers (powersUpTo m)) (m ∷ []))
 
-module _ (xs : List ℕ) (m : ℕ) (asked : CoarseRoom xs m) where
-  abbrev known : Coarse m
-  known = coarse-known m (asked .some) (asked .most)
+-- The counts from which m's coarse counts are written, where p is the number of powers among them.
+module _ (xs : List ℕ) (m : ℕ) (asked : CoarseRoom xs m) {p : ℕ} (p-is : p ≡ powersUpTo m) where
+  known : (1 ≤ p) × (p ≤ 8) × (coarseCounts m ≡ joined p m)
+  known = let k = coarse-known m (asked .some) (asked .most) in rw p-is (k .low, k .high, k .list)
 
-  part-within : powersUpTo m + 1 ≤ length (set xs 0 0)
-  part-within = omega (arith, length-set xs 0 0, known .high, asked .room)
+  part-within : p + 1 ≤ length (set xs 0 0)
+  part-within = omega (arith, length-set xs 0 0, known .1, asked .room)
 
-  part-length : length (midOf 1 (powersUpTo m + 1 - 1) (set xs 0 0)) ≡ powersUpTo m
-  part-length = mid-len 1 (powersUpTo m + 1) (set xs 0 0) part-within ∙ omega arith
+  part-length : length (midOf 1 (p + 1 - 1) (set xs 0 0)) ≡ p
+  part-length = mid-len 1 (p + 1) (set xs 0 0) part-within ∙ omega arith
 
   -- The part of the powers is filled.
-  module _ {ys : List ℕ} (filled : ys ≡ firstPowers (length (midOf 1 (powersUpTo m + 1 - 1) (set xs 0 0)))) where
+  module _ {ys : List ℕ} (filled : ys ≡ firstPowers (length (midOf 1 (p + 1 - 1) (set xs 0 0)))) where
     abbrev after : List ℕ
-    after = putMid 1 (powersUpTo m + 1 - 1) (set xs 0 0) ys
+    after = putMid 1 (p + 1 - 1) (set xs 0 0) ys
 
-    after-is : after ≡ zeroAndPowers (powersUpTo m) ++ drop (powersUpTo m + 1) xs
+    after-is : after ≡ zeroAndPowers (p) ++ drop (p + 1) xs
     unfolding zeroAndPowers
     after-is =
         let some : 0 < length xs = omega (arith, asked .room) in
         rw (
           take-suc-set xs 0 0 some,
-          post-is 1 (powersUpTo m + 1) (set xs 0 0) (omega arith),
-          drop-set-lt (powersUpTo m + 1) xs 0 0 (omega arith),
+          post-is 1 (p + 1) (set xs 0 0) (omega arith),
+          drop-set-lt (p + 1) xs 0 0 (omega arith),
           filled,
           part-length,
         )
 
     -- The entry that is compared with m is the last power.
-    at-last : getD after (powersUpTo m) 0 ≡ 2 ^ (powersUpTo m - 1)
+    at-last : getD after (p) 0 ≡ 2 ^ (p - 1)
     at-last =
-        let inside : powersUpTo m < length (zeroAndPowers (powersUpTo m)) = omega (arith, length-zeroAndPowers (powersUpTo m)) in
-        ap (λ (l : List ℕ). getD l (powersUpTo m) 0) after-is ∙
-        List·getD-append (zeroAndPowers (powersUpTo m)) (drop (powersUpTo m + 1) xs) 0 (powersUpTo m) inside ∙
-        last-power (powersUpTo m) (known .low)
+        let inside : p < length (zeroAndPowers (p)) = omega (arith, length-zeroAndPowers (p)) in
+        ap (λ (l : List ℕ). getD l (p) 0) after-is ∙
+        List·getD-append (zeroAndPowers (p)) (drop (p + 1) xs) 0 (p) inside ∙
+        last-power (p) (known .0)
 
     -- Where m is a power, the list is complete as it stands.
-    module _ (equal : getD after (powersUpTo m) 0 ≡ m) where
-      power-list : coarseCounts m ≡ zeroAndPowers (powersUpTo m)
+    module _ (equal : getD after (p) 0 ≡ m) where
+      power-list : coarseCounts m ≡ zeroAndPowers (p)
       unfolding joined
-      power-list = known .list ∙ rw (eq-eqb (2 ^ (powersUpTo m - 1)) m (sym at-last ∙ equal))
+      power-list = known .2 ∙ rw (eq-eqb (2 ^ (p - 1)) m (sym at-last ∙ equal))
 
-      power-length : powersUpTo m + 1 ≡ length (coarseCounts m)
-      power-length = sym (ap length power-list ∙ length-zeroAndPowers (powersUpTo m))
+      power-length : p + 1 ≡ length (coarseCounts m)
+      power-length = sym (ap length power-list ∙ length-zeroAndPowers (p))
 
-      pub power-done : (powersUpTo m + 1 ≡ length (coarseCounts m)) × (after ≡ writtenOver (coarseCounts m) xs)
+      pub power-done : (p + 1 ≡ length (coarseCounts m)) × (after ≡ writtenOver (coarseCounts m) xs)
       power-done = (power-length, rw (← power-length, power-list) after-is)
 
     -- Where m is no power, it is joined.
-    module _ (other : getD after (powersUpTo m) 0 ≡ m → ⊥) where
-      other-list : coarseCounts m ≡ zeroAndPowers (powersUpTo m) ++ (m ∷ [])
+    module _ (other : getD after (p) 0 ≡ m → ⊥) where
+      other-list : coarseCounts m ≡ zeroAndPowers (p) ++ (m ∷ [])
       unfolding joined
-      other-list = known .list ∙ rw (ne-eqb (2 ^ (powersUpTo m - 1)) m (λ e. other (at-last ∙ e)))
+      other-list = known .2 ∙ rw (ne-eqb (2 ^ (p - 1)) m (λ e. other (at-last ∙ e)))
 
-      other-length : powersUpTo m + 1 + 1 ≡ length (coarseCounts m)
+      other-length : p + 1 + 1 ≡ length (coarseCounts m)
       other-length =
-          let joined = length-append (zeroAndPowers (powersUpTo m)) (m ∷ []) in
-          omega (arith, ap length other-list, length-zeroAndPowers (powersUpTo m))
+          let joined = length-append (zeroAndPowers (p)) (m ∷ []) in
+          omega (arith, ap length other-list, length-zeroAndPowers (p))
 
-      other-written : set after (powersUpTo m + 1) m ≡ writtenOver (coarseCounts m) xs
+      other-written : set after (p + 1) m ≡ writtenOver (coarseCounts m) xs
       other-written =
-          let inside : powersUpTo m + 1 < length xs = omega (arith, known .high, asked .room) in
-          rw (← other-length, other-list, after-is, drop-cons xs (powersUpTo m + 1) 0 inside, add-one (powersUpTo m + 1), append-assoc)
-          (set-at (zeroAndPowers (powersUpTo m)) _ _ m (powersUpTo m + 1) (length-zeroAndPowers (powersUpTo m)))
+          let inside : p + 1 < length xs = omega (arith, known .1, asked .room) in
+          rw (← other-length, other-list, after-is, drop-cons xs (p + 1) 0 inside, add-one (p + 1), append-assoc)
+          (set-at (zeroAndPowers (p)) _ _ m (p + 1) (length-zeroAndPowers (p)))
 
       pub other-done :
-          (powersUpTo m + 1 + 1 ≡ length (coarseCounts m)) ×
-          (set after (powersUpTo m + 1) m ≡ writtenOver (coarseCounts m) xs)
+          (p + 1 + 1 ≡ length (coarseCounts m)) ×
+          (set after (p + 1) m ≡ writtenOver (coarseCounts m) xs)
       other-done = (other-length, other-written)

@@ -8,17 +8,13 @@ use native.Mathlib.Numerals.{add-one}
 use native.Mathlib.Omega.{arith}
 use lib.ListN.{getD}
 use lib.Count.{leadingZeros}
-use lib.Dec.{eqb, leb}
-use borrow.Author.Tests.{eq-eqb, ne-eqb, leb-true}
+use lib.Dec.{eqb, leb, ltb}
+use borrow.Author.Tests.{eq-eqb, ne-eqb, leb-true, ltb-true}
 use Rattle.lists.specs.Tests.{every, every-at, and-left, and-right}
 use Rattle.lists.specs.Lists.{tabulate, getD-tabulate, keep, sameList, same-list-equal}
 use Rattle.lists.specs.Prefixes.{tabulate-more, keep-append, keep-tabulate}
 use Rattle.model.specs.Counts.{allCounts, powerOfTwo, isCoarse, coarseCounts}
-use Rattle.counts.specs.AllowedCounts.{firstPowers}
-
--- How many powers of two are at most m, for m below 2 to the 64.
-abbrev pub powersUpTo : ℕ → ℕ
-powersUpTo m = 64 - leadingZeros 64 m
+use Rattle.counts.specs.AllowedCounts.{firstPowers, powersUpTo}
 
 -- Each entry of the table of powers is its power.
 pub table-entry : (k : ℕ) → k < 8 → getD (1 ∷ 2 ∷ 4 ∷ 8 ∷ 16 ∷ 32 ∷ 64 ∷ 128 ∷ []) k 0 ≡ 2 ^ k
@@ -106,3 +102,17 @@ coarse-known (suc k) some most =
       high = leb-true p 8 (and-right (leb 1 p) (leb p 8) range);
       list = coarse-split (suc k) ∙ rw (smaller-is k (omega arith)) (same-list-equal _ _ (and-left found (leb 1 p && leb p 8) t));
     }
+
+-- A number below 256 is below the power of two that its digits end at, and has at most eight digits.
+digits-test : ℕ → Bool
+digits-test n = ltb n (2 ^ powersUpTo n) && leb (powersUpTo n) 8
+
+digits-tests : every 256 digits-test ≡ true
+unfolding every digits-test leadingZeros
+digits-tests = refl
+
+pub digits-known : (n : ℕ) → n < 256 → (n < 2 ^ powersUpTo n) × (powersUpTo n ≤ 8)
+unfolding digits-test
+digits-known n small =
+    let t = every-at 256 digits-test digits-tests n small in
+    (ltb-true n (2 ^ powersUpTo n) (and-left _ (leb (powersUpTo n) 8) t), leb-true (powersUpTo n) 8 (and-right (ltb n (2 ^ powersUpTo n)) _ t))

@@ -1,7 +1,8 @@
 -- The lists of allowed counts as they are written to memory, and what writing them asks for.
-use Prim.Native.Nat.{ℕ, _+_, _^_, _≤_}
+use Prim.Native.Nat.{ℕ, _+_, _-_, _^_, _≤_}
 use mathlib.Core.List.{List}
 use lib.ListN.{length}
+use lib.Count.{leadingZeros}
 use Rattle.lists.specs.Lists.{tabulate}
 use Rattle.model.specs.Planners.{Planner, exact, coarse}
 use Rattle.counts.specs.declared.PlannerKind.{PlannerKind}
@@ -41,3 +42,7 @@ numbersBelow n = tabulate n (λ k. k)
 -- The first p powers of two: 1, 2, 4 and so on.
 unfoldable pub firstPowers : ℕ → List ℕ
 firstPowers p = tabulate p (λ k. 2 ^ k)
+
+-- How many powers of two are at most n, for n below 2 to the 64: the number of n's binary digits.
+abbrev pub powersUpTo : ℕ → ℕ
+powersUpTo n = 64 - leadingZeros 64 n

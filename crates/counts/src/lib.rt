@@ -9,7 +9,7 @@ ghost use Rattle.model.specs.Counts.{operatingCost, allCounts, coarseCounts, ro
 ghost use Rattle.counts.specs.Serving.{Served};
 ghost use Rattle.model.specs.Planners.{allowedCounts};
 ghost use Rattle.counts.specs.AllowedCounts.{AllRoom, CoarseRoom, CountsRoom, RackCount, plannerOf};
-ghost use Rattle.counts.specs.AllowedCounts.{numbersBelow, firstPowers};
+ghost use Rattle.counts.specs.AllowedCounts.{numbersBelow, firstPowers, powersUpTo};
 
 // The two planners of document 01.
 pub enum PlannerKind {
@@ -20,12 +20,20 @@ pub enum PlannerKind {
 // The powers of two among the coarse counts of the largest rack.
 const POWERS: [u16; 8] = [1, 2, 4, 8, 16, 32, 64, 128];
 
-fn power(k: usize) -> u64
+// Two to the power of k.
+pub fn power(k: usize) -> u64
     requires { ⌜ k < 8 ⌝ }
     ensures { λ r. ⌜ r ≡ 2 ^ k ⌝ }
 {
     let read = POWERS[k];
     read as u64
+}
+
+// How many powers of two are at most n, which is the number of n's binary digits.
+pub fn powers_up_to(n: u64) -> usize
+    ensures { λ r. ⌜ r ≡ powersUpTo n ⌝ }
+{
+    (64 - u64::leading_zeros(n)) as usize
 }
 
 // The part is filled with the first powers of two.
@@ -46,7 +54,7 @@ fn fill_coarse(counts: &mut [u64], m: u64) -> usize
     ensures { λ r. ⌜ r ≡ length (coarseCounts m) ⌝ }
     ensures { λ r. ⌜ now (counts .exit) ≡ writtenOver (coarseCounts m) (now (counts .entry)) ⌝ }
 {
-    let powers = (64 - u64::leading_zeros(m)) as usize;
+    let powers = powers_up_to(m);
     let end = powers + 1;
     counts[0] = 0;
     fill_powers(&mut counts[1..end]);

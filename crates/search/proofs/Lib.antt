@@ -1,9 +1,6 @@
-pub mod Bounds
-pub mod Allowed
-pub mod Candidates
-pub mod Downward
-pub mod Upward
-pub mod Slot
-pub mod AllSlots
-pub mod Back
-pub mod Found
+pub mod Verdicts
+pub mod Levels
+pub mod ForwardWalk
+pub mod BackwardWalk
+pub mod RoundsWalk
+pub mod PlanFound

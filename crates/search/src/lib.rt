@@ -1,164 +1,22 @@
-// The search over a list of allowed counts (thesis 4.2, 5.1): one slot's column, all slots, the way back. A place is an index of
-// the list.
+// The search over a list of allowed counts (thesis 4.2, 5.1), by thresholds: a round forward and backward through the slots for each binary
+// digit of the places. A place is an index of the list, and level j lies between place j and place j + 1.
 use card::Header;
 ghost use mathlib.Core.Path.{_≡_};
-ghost use Prim.Native.Nat.{_≤_};
 ghost use lib.ListN.{length, replicate};
+ghost use Rattle.lists.specs.Lists.{tabulate};
 ghost use Rattle.model.specs.Instance.{instanceOf};
-ghost use Rattle.counts.specs.Serving.{Served};
-ghost use Rattle.columns.specs.Column.{cheaper, servedAt, servedOrAbove, rising, downward, upward, searchedPlan, searchedCost};
-ghost use Rattle.search.specs.Written.{choiceOf, costIn, choiceIn, Holds};
-ghost use Rattle.search.specs.Written.{priceList, lastColumn, selectionsIn, wayThrough};
-ghost use Rattle.search.specs.SearchRequires.{mostCost, InRack, SlotAfter, Priced, Choices, PricedSlot};
-ghost use Rattle.search.specs.SearchRequires.{SlotsAhead, Leading, Searchable};
+ghost use Rattle.counts.specs.AllowedCounts.{powersUpTo};
+ghost use Rattle.thresholds.specs.Places.{lastPlace};
+ghost use Rattle.thresholds.specs.Thresholds.{weighed, levelPrice, carried, judge as judged, raisedPlace};
+ghost use Rattle.thresholds.specs.Thresholds.{forward as sidesFound, backward as placesRaised, rounds as placesFound, thresholdPlan};
+ghost use Rattle.search.specs.Written.{verdictOf, countsAt};
+ghost use Rattle.search.specs.SearchRequires.{OnCard, LevelReady, Raisable, RoundReady, BackReady, RoundsReady, Placed, Searchable};
 
-// A cost, and the place that it comes from.
-struct Candidate {
-    cost: u64,
-    place: u8,
-}
-
-// The candidate of lower cost, the first on a tie.
-fn cheaper_of(first: Candidate, second: Candidate) -> Candidate
-    ensures { λ r. ⌜ choiceOf r ≡ cheaper (choiceOf first) (choiceOf second) ⌝ }
-{
-    if first.cost <= second.cost {
-        return first;
-    }
-    second
-}
-
-// Serving the load l with n modules at a place, where the slots before cost before.
-fn serve_here(card: &[u8], h: Header, n: u64, l: u64, before: u64, place: u8) -> Candidate
-    requires { ⌜ Served (now card) h n l ⌝ }
-    requires { ⌜ before ≤ mostCost ⌝ }
-    ensures { λ r. ⌜ choiceOf r ≡ servedAt (instanceOf (now (card .entry))) n l before place ⌝ }
-{
-    let cost = before + counts::operating_cost(card, h, n, l);
-    Candidate { cost, place }
-}
-
-// One place of the downward pass: serving there if its count can, or the candidate of the place above.
-fn serve_here_or_above(
-    card: &[u8],
-    h: Header,
-    n: u64,
-    l: u64,
-    before: u64,
-    place: u8,
-    above: Candidate,
-) -> Candidate
-    requires { ⌜ InRack (now card) h n before ⌝ }
-    ensures { λ r. ⌜ choiceOf r ≡ servedOrAbove (instanceOf (now (card .entry))) n l before place (choiceOf above) ⌝ }
-{
-    if n * h.topStep < l {
-        return above;
-    }
-    let mine = serve_here(card, h, n, l, before, place);
-    cheaper_of(mine, above)
-}
-
-// The downward pass of a slot with load l, from the last place to place 0: the best of each place and those above.
-fn down_pass(card: &[u8], h: Header, counts: &[u64], l: u64, column: &mut [u64], places: &mut [u8])
-    requires { ⌜ SlotAfter (now card) h (now counts) l (now column) (now places) ⌝ }
-    ensures { λ _.
-        ⌜ Holds (now (counts .entry))
-        (downward (instanceOf (now (card .entry))) (now (counts .entry)) l (costIn (now (column .entry))))
-        (now (column .exit)) (now (places .exit)) ⌝ }
-{
-    let last = counts.len() - 1;
-    let mut j = last;
-    let mut best = serve_here(card, h, counts[last], l, column[last], last as u8);
-    while 0 < j {
-        column[j] = best.cost;
-        places[j] = best.place;
-        j -= 1;
-        best = serve_here_or_above(card, h, counts[j], l, column[j], j as u8, best);
-    }
-    column[0] = best.cost;
-    places[0] = best.place;
-}
-
-// The upward pass over a column and its places: the best of all places, with the price of the modules switched on.
-fn up_pass(price: u64, counts: &[u64], column: &mut [u64], places: &mut [u8])
-    requires { ⌜ Choices price (now counts) (now column) (now places) ⌝ }
-    ensures { λ _.
-        ⌜ Holds (now (counts .entry))
-        (rising price (now (counts .entry)) (choiceIn (now (column .entry)) (now (places .entry))))
-        (now (column .exit)) (now (places .exit)) ⌝ }
-{
-    let mut j = 0;
-    let mut best = Candidate {
-        cost: column[0],
-        place: places[0],
-    };
-    while j + 1 < counts.len() {
-        let next = j + 1;
-        let raised = Candidate {
-            cost: best.cost + price * (counts[next] - counts[j]),
-            place: best.place,
-        };
-        let given = Candidate {
-            cost: column[next],
-            place: places[next],
-        };
-        best = cheaper_of(raised, given);
-        column[next] = best.cost;
-        places[next] = best.place;
-        j = next;
-    }
-}
-
-// One slot with load l: the column before it becomes the column after it, and places holds its selections.
-fn one_slot(
-    card: &[u8],
-    h: Header,
-    price: u64,
-    counts: &[u64],
-    l: u64,
-    column: &mut [u64],
-    places: &mut [u8],
-)
-    requires { ⌜ PricedSlot (now card) h price (now counts) l (now column) (now places) ⌝ }
-    ensures { λ _.
-        ⌜ Holds (now (counts .entry))
-        (upward (instanceOf (now (card .entry))) (now (counts .entry)) l (costIn (now (column .entry))))
-        (now (column .exit)) (now (places .exit)) ⌝ }
-{
-    down_pass(card, h, counts, l, column, places);
-    up_pass(price, counts, column, places);
-}
-
-// The column before the first slot: all modules of a count are switched on.
-fn start_column(price: u64, counts: &[u64], column: &mut [u64])
-    requires { ⌜ Priced price (now counts) (now column) ⌝ }
-    ensures { λ _. ⌜ now (column .exit) ≡ priceList price (now (counts .entry)) ⌝ }
-{
-    let mut j = 0;
-    while j < counts.len() {
-        column[j] = price * counts[j];
-        j += 1;
-    }
-}
-
-// All slots from start count 0: the column after the last slot, and each slot's selections in its row of work.
-fn all_slots(card: &[u8], h: Header, counts: &[u64], column: &mut [u64], work: &mut [u8])
-    requires { ⌜ SlotsAhead (now card) h (now counts) (now column) (now work) ⌝ }
-    ensures { λ _. ⌜ now (column .exit) ≡ lastColumn (instanceOf (now (card .entry))) (now (counts .entry)) ⌝ }
-    ensures { λ _. ⌜ now (work .exit) ≡ selectionsIn (instanceOf (now (card .entry))) (now (counts .entry)) (now (work .entry)) ⌝ }
-{
-    let price = h.powerUp + h.powerDown;
-    let slots = h.slots;
-    let width = counts.len();
-    start_column(price, counts, column);
-    let mut t: u64 = 0;
-    while t < slots {
-        let l = card::load(card, h, t);
-        let row = t as usize * width;
-        let end = row + width;
-        one_slot(card, h, price, counts, l, column, &mut work[row..end]);
-        t += 1;
-    }
+// What a slot says of a level: how much dearer the slots up to it make the place above the level than the place below it; and the side of the
+// level on which the least plan is in the slot, 2 above, 0 below, 1 where it is in the next slot.
+struct Verdict {
+    lead: u64,
+    side: u8,
 }
 
 fn wide(x: u8) -> usize
@@ -167,40 +25,155 @@ fn wide(x: u8) -> usize
     x as usize
 }
 
-// The way back through the rows of selections, from place 0 after the last slot: the count of each slot.
-fn way_back(counts: &[u64], work: &[u8], plan: &mut [u8])
-    requires { ⌜ Leading (now counts) (now work) (now plan) ⌝ }
-    ensures { λ _. ⌜ now (plan .exit) ≡ wayThrough (now (counts .entry)) (now (work .entry)) (length (now (plan .entry))) 0 ⌝ }
+// The verdict where the place above a level costs upper and the place below it lower, and rising over the level costs price.
+fn weigh(price: u64, upper: u64, lower: u64) -> Verdict
+    ensures { λ r. ⌜ verdictOf r ≡ weighed price upper lower ⌝ }
 {
-    let width = counts.len();
-    let mut t = plan.len();
-    let mut j = 0;
-    while 0 < t {
-        t -= 1;
-        let at = t * width + j;
-        j = wide(work[at]);
-        plan[t] = counts[j] as u8;
+    if upper < lower {
+        return Verdict { lead: 0, side: 2 };
+    }
+    let more = upper - lower;
+    if more < price {
+        return Verdict { lead: more, side: 1 };
+    }
+    Verdict { lead: price, side: 0 }
+}
+
+// The price of rising over a level, 0 beyond the list.
+fn level_price(card: &[u8], h: Header, counts: &[u64], level: usize) -> u64
+    requires { ⌜ OnCard (now card) h (now counts) ⌝ }
+    ensures { λ r. ⌜ r ≡ levelPrice (instanceOf (now (card .entry))) (now (counts .entry)) level ⌝ }
+{
+    if counts.len() - 1 <= level {
+        return 0;
+    }
+    (h.powerUp + h.powerDown) * (counts[level + 1] - counts[level])
+}
+
+// The verdict of a slot with load l on a level, by the lead before it. No plan is above a level beyond the list, and every plan is above one
+// whose place below cannot serve.
+fn judge(card: &[u8], h: Header, counts: &[u64], level: usize, l: u64, lead: u64) -> Verdict
+    requires { ⌜ LevelReady (now card) h (now counts) lead ⌝ }
+    ensures { λ r. ⌜ verdictOf r ≡ judged (instanceOf (now (card .entry))) (now (counts .entry)) level l lead ⌝ }
+{
+    if counts.len() - 1 <= level {
+        return Verdict { lead: 0, side: 0 };
+    }
+    let low = counts[level];
+    let high = counts[level + 1];
+    if low * h.topStep < l {
+        return Verdict { lead: 0, side: 2 };
+    }
+    let upper = lead + counts::operating_cost(card, h, high, l);
+    let lower = counts::operating_cost(card, h, low, l);
+    let price = level_price(card, h, counts, level);
+    weigh(price, upper, lower)
+}
+
+// The lead of a level, where the place so far is before in the slot before and place in this one. If they are equal, the slot before has the
+// same level; if not, it is above the level, or below it.
+fn carry(card: &[u8], h: Header, counts: &[u64], before: usize, place: usize, level: usize, lead: u64) -> u64
+    requires { ⌜ OnCard (now card) h (now counts) ⌝ }
+    ensures { λ r. ⌜ r ≡ carried (instanceOf (now (card .entry))) (now (counts .entry)) before place level lead ⌝ }
+{
+    if place == before {
+        return lead;
+    }
+    if place < before {
+        return 0;
+    }
+    level_price(card, h, counts, level)
+}
+
+// Forward through the slots: each slot's side of the level in the middle of the places that are left to it. Before the first slot the place is 0.
+fn forward(card: &[u8], h: Header, counts: &[u64], width: usize, plan: &[u8], sides: &mut [u8])
+    requires { ⌜ RoundReady (now card) h (now counts) width (now plan) (now sides) ⌝ }
+    ensures { λ _. ⌜ now (sides .exit) ≡ sidesFound (instanceOf (now (card .entry))) (now (counts .entry)) 0 width (now (plan .entry)) ⌝ }
+{
+    let reach = width - 1;
+    let mut before = 0;
+    let mut lead = level_price(card, h, counts, reach);
+    let mut t = 0;
+    while t < plan.len() {
+        let place = wide(plan[t]);
+        let level = place + reach;
+        let carried = carry(card, h, counts, before, place, level, lead);
+        let verdict = judge(card, h, counts, level, card::load(card, h, t as u64), carried);
+        sides[t] = verdict.side;
+        lead = verdict.lead;
+        before = place;
+        t += 1;
     }
 }
 
-// The least plan over a list of allowed counts, and its cost. The work bytes are 0 afterwards.
-pub fn search(
-    card: &[u8],
-    h: Header,
-    counts: &[u64],
-    column: &mut [u64],
-    plan: &mut [u8],
-    work: &mut [u8],
-) -> u64
-    requires { ⌜ Searchable (now card) h (now counts) (now column) (now plan) (now work) ⌝ }
-    ensures cost { λ r. ⌜ r ≡ searchedCost (instanceOf (now (card .entry))) (now (counts .entry)) 0 ⌝ }
-    ensures plan { λ _. ⌜ now (plan .exit) ≡ searchedPlan (instanceOf (now (card .entry))) (now (counts .entry)) 0 ⌝ }
-    ensures work { λ _. ⌜ now (work .exit) ≡ replicate (length (now (work .entry))) 0 ⌝ }
-    ensures column { λ _. ⌜ now (column .exit) ≡ lastColumn (instanceOf (now (card .entry))) (now (counts .entry)) ⌝ }
+// The place after a round, by the side found and the next slot's place after the round.
+fn raise(width: usize, place: usize, side: u8, next: usize) -> usize
+    requires { ⌜ Raisable width place ⌝ }
+    ensures { λ r. ⌜ r ≡ raisedPlace width place side next ⌝ }
 {
-    all_slots(card, h, counts, column, work);
-    let cost = column[0];
-    way_back(counts, work, plan);
+    let raised = place + width;
+    if 2 <= side {
+        return raised;
+    }
+    if side == 0 {
+        return place;
+    }
+    if raised <= next { raised } else { place }
+}
+
+// Backward through the slots: each slot's place after the round. After the last slot the place is 0.
+fn backward(width: usize, plan: &mut [u8], sides: &[u8])
+    requires { ⌜ BackReady width (now plan) (now sides) ⌝ }
+    ensures { λ _. ⌜ now (plan .exit) ≡ placesRaised (length (now (plan .entry))) width (now (plan .entry)) (now (sides .entry)) ⌝ }
+{
+    let mut next = 0;
+    let mut t = plan.len();
+    while 0 < t {
+        t -= 1;
+        next = raise(width, wide(plan[t]), sides[t], next);
+        plan[t] = next as u8;
+    }
+}
+
+// The rounds, one for each digit from the highest down.
+fn rounds(card: &[u8], h: Header, counts: &[u64], digits: usize, plan: &mut [u8], sides: &mut [u8])
+    requires { ⌜ RoundsReady (now card) h (now counts) digits (now plan) (now sides) ⌝ }
+    ensures { λ _. ⌜ now (plan .exit) ≡ placesFound (instanceOf (now (card .entry))) (now (counts .entry)) 0 digits (now (plan .entry)) ⌝ }
+{
+    let mut e = digits;
+    while 0 < e {
+        e -= 1;
+        let width = counts::power(e) as usize;
+        forward(card, h, counts, width, plan, sides);
+        backward(width, plan, sides);
+    }
+}
+
+// Each place of the plan becomes its count.
+fn to_counts(counts: &[u64], plan: &mut [u8])
+    requires { ⌜ Placed (now counts) (now plan) ⌝ }
+    ensures { λ _. ⌜ now (plan .exit) ≡ countsAt (now (counts .entry)) (now (plan .entry)) ⌝ }
+{
+    let mut t = 0;
+    while t < plan.len() {
+        plan[t] = counts[wide(plan[t])] as u8;
+        t += 1;
+    }
+}
+
+// The least plan over a list of allowed counts. The work bytes are 0 afterwards.
+pub fn search(card: &[u8], h: Header, counts: &[u64], plan: &mut [u8], work: &mut [u8])
+    requires { ⌜ Searchable (now card) h (now counts) (now plan) (now work) ⌝ }
+    ensures plan { λ _.
+        ⌜ now (plan .exit) ≡
+        thresholdPlan (instanceOf (now (card .entry))) (now (counts .entry)) 0 (powersUpTo (lastPlace (now (counts .entry)))) ⌝ }
+    ensures work { λ _. ⌜ now (work .exit) ≡ replicate (length (now (work .entry))) 0 ⌝ }
+{
+    let slots = plan.len();
+    let last = counts.len() - 1;
+    let digits = counts::powers_up_to(last as u64);
+    buffers::fill(plan, 0);
+    rounds(card, h, counts, digits, plan, &mut work[..slots]);
+    to_counts(counts, plan);
     buffers::fill(work, 0);
-    cost
 }

@@ -1,37 +1,68 @@
-use native.Mathlib.Omega.{arith}
-use Rattle.search.proofs.Found.{leads-back, plan-found, cost-found}
-use borrow.Author.Needs.{needs}
 use Rattle.search.proofs.search.Statement.{statement}
 use Rattle.search.proofs.search.Tie as tie
+use Rattle.search.proofs.search.Reads as reads
+use Rattle.search.proofs.search.Lts as lts
+use Rattle.buffers.proofs.fill.Reads as fill-reads
+use Rattle.counts.proofs.powers_up_to.Reads as powers-up-to-reads
+use Rattle.search.proofs.rounds.Reads as rounds-reads
+use Rattle.search.proofs.to_counts.Reads as to-counts-reads
 
--- The start of the function, seen from its first call.
-abbrev start : tie.After-all-slots → tie.Start
-start c = c .before .before .before .before .before .before .before .before
+-- src/lib.rt:173:16
+sub-last : tie.Need-sub-last
+sub-last c = ?
 
-all-slots-requires : tie.Need-all-slots-requires
-all-slots-requires c κs = c .before .before .before .before .before .before .before .pre .ahead
+-- src/lib.rt:174:9
+powers-up-to-requires : tie.Need-powers-up-to-requires
+powers-up-to-requires c κs = ?
 
-slice-read-cost : tie.Need-slice-read-cost
-slice-read-cost c = omega (arith, start (c .before .before .before .before .before) .pre)
-
-way-back-requires : tie.Need-way-back-requires
-way-back-requires c κs =
-    let rows = c .before .before .before .before .before .before .before in
-    leads-back (start rows .pre) (rows .all-slots .ensures .1) (rows .all-slots .kept .1 .1 .1 .1 .0)
-
+-- src/lib.rt:175:5
 fill-requires : tie.Need-fill-requires
-fill-requires c κs = search needs
+fill-requires c κs = ?
 
+-- src/lib.rt:176:43
+slice-relend-prefix-rounds : tie.Need-slice-relend-prefix-rounds
+slice-relend-prefix-rounds c = ?
+
+-- src/lib.rt:176:43
+slice-aggregate-rounds : tie.Need-slice-aggregate-rounds
+slice-aggregate-rounds c = ?
+
+-- src/lib.rt:176:5
+rounds-requires : tie.Need-rounds-requires
+rounds-requires c κs = ?
+
+-- src/lib.rt:177:5
+to-counts-requires : tie.Need-to-counts-requires
+to-counts-requires c κs = ?
+
+-- src/lib.rt:178:5
+fill-requires-2 : tie.Need-fill-requires-2
+fill-requires-2 c κs = ?
+
+-- src/lib.rt:165:1
+same-length : tie.Need-same-length
+same-length c = ?
+
+-- src/lib.rt:165:1
+same-length-2 : tie.Need-same-length-2
+same-length-2 c = ?
+
+-- src/lib.rt:165:1
 returns : tie.Need-returns
-returns c =
-    let back = c .before .before .before .before .before .before in
-    let rows = back .before .before .before .before .before .before .before .before in
-    let p = start rows .pre in
-    let done = rows .all-slots .ensures in
-    let cleared = rw (rows .all-slots .kept .1 .1 .1 .1 .0) at (c .before .before .fill .ensures) in
-    (cost-found p (done .0), (plan-found p (done .1) (back .way-back .ensures), (cleared, done .0)))
+returns c = ?
 
 pub search-spec : {M : Type 1} → statement M
 search-spec =
-    tie.close (tie.spec all-slots-requires slice-read-cost way-back-requires fill-requires (λ c. search needs) (λ c. search needs)
-    (λ c. search needs) returns)
+    tie.close
+    (tie.spec
+    sub-last
+    powers-up-to-requires
+    fill-requires
+    slice-relend-prefix-rounds
+    slice-aggregate-rounds
+    rounds-requires
+    to-counts-requires
+    fill-requires-2
+    same-length
+    same-length-2
+    returns)

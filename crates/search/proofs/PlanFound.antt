@@ -1,0 +1,86 @@
+-- The places found become counts, and these are the plan by thresholds.
+use Prim.Native.Nat.{ℕ, _+_, _≤_, _<_}
+use mathlib.Core.Path.{_≡_, refl, sym, ap, _∙_}
+use mathlib.Core.List.{List}
+use mathlib.Core.Logic.{⊎-elim}
+use native.Mathlib.Omega.{arith}
+use lib.ListN.{length, getD, set, replicate, length-replicate, getD-replicate, List·getD-eq-default}
+use Rattle.lists.specs.Numbers.{le-or-lt}
+use Rattle.lists.specs.Lists.{tabulate}
+use Rattle.lists.specs.Filling.{Upto, upto-none, upto-more, upto-all}
+use Rattle.model.specs.Instance.{instanceOf}
+use Rattle.card.specs.declared.Header.{Header}
+use Rattle.counts.specs.AllowedCounts.{powersUpTo}
+use Rattle.counts.proofs.Powers.{digits-known}
+use Rattle.thresholds.specs.Places.{countAtPlace, lastPlace}
+use Rattle.thresholds.specs.Thresholds.{inSlot, rounds, thresholdPlan}
+use Rattle.search.specs.Written.{countsAt}
+use Rattle.search.specs.SearchRequires.{Placed, RoundsReady, Searchable}
+use Rattle.search.proofs.Levels.{few-places, count-most}
+use Rattle.search.proofs.RoundsWalk.{rounds-inside}
+
+-- Up to slot t the plan has counts, and from there on places.
+abbrev pub CountsLoop : (counts plan₀ plan : List ℕ) → ℕ → Type 0
+CountsLoop counts plan₀ plan t = Upto (λ u. countAtPlace counts (inSlot plan₀ u)) t plan₀ plan
+
+module _ {counts plan₀ plan : List ℕ} {t place : ℕ} (f : CountsLoop counts plan₀ plan t) where
+  module _ (inside : t < length plan₀) (place-is : place ≡ getD plan t 0) where
+    place-same : place ≡ inSlot plan₀ t
+    place-same = place-is ∙ f .kept t (omega arith)
+
+    pub place-there : Placed counts plan₀ → place < length counts
+    place-there p = rw place-same (p .inside t inside)
+
+    pub counts-turn : CountsLoop counts plan₀ (set plan t (countAtPlace counts place)) (t + 1)
+    counts-turn = upto-more f inside (ap (countAtPlace counts) place-same)
+
+  pub counts-end : length plan ≤ t → plan ≡ countsAt counts plan₀
+  unfolding countsAt
+  counts-end past = upto-all f (omega (arith, f .size))
+
+-- A list of zeros has the entry 0 at each index.
+zeros-at : (n t : ℕ) → inSlot (replicate n 0) t ≡ 0
+zeros-at n t =
+    ⊎-elim
+    (λ (past : n ≤ t). List·getD-eq-default (replicate n 0) 0 {n = t} (omega (arith, length-replicate n 0)))
+    (λ (h : t < n). getD-replicate n t 0 0 h)
+    (le-or-lt n t)
+
+module _ {s : List ℕ} {h : Header} {counts plan work : List ℕ} (p : Searchable s h counts plan work) where
+  -- The search has at most eight rounds.
+  few-digits : powersUpTo (lastPlace counts) ≤ 8
+  few-digits = digits-known (lastPlace counts) (omega (arith, few-places (p .on-card))) .1
+
+  module _ {digits : ℕ} {zeros : List ℕ} (digits-is : digits ≡ powersUpTo (lastPlace counts)) (zeros-are : zeros ≡ replicate (length plan) 0) where
+    pub rounds-ready : {sides : List ℕ} → length sides ≡ length plan → RoundsReady s h counts digits zeros sides
+    rounds-ready size =
+        record {
+          on-card = p .on-card;
+          few = rw digits-is few-digits;
+          plan-size = ap length zeros-are ∙ length-replicate (length plan) 0 ∙ p .plan-size;
+          sides-size = size ∙ p .plan-size;
+        }
+
+    module _ {places : List ℕ} (places-are : places ≡ rounds (instanceOf s) counts 0 digits zeros) where
+      pub places-found : Placed counts places
+      places-found =
+          record {
+            inside = λ t _.
+                rw places-are
+                (rounds-inside (instanceOf s) counts digits zeros
+                (λ u. rw (zeros-are, zeros-at (length plan) u) (omega (arith, p .on-card .allowed .two))) t);
+            bytes = λ j. omega (arith, count-most (p .on-card) j);
+          }
+
+      pub plan-found :
+          {made : List ℕ} → length places ≡ length zeros → made ≡ countsAt counts places →
+          made ≡ thresholdPlan (instanceOf s) counts 0 (powersUpTo (lastPlace counts))
+      unfolding countsAt thresholdPlan
+      plan-found size made-is =
+          let slots : length places ≡ instanceOf s .slots =
+          size ∙ ap length zeros-are ∙ length-replicate (length plan) 0 ∙ p .plan-size in
+          let zeros-slots : zeros ≡ replicate (instanceOf s .slots) 0 = zeros-are ∙ ap (λ (n : ℕ). replicate n 0) (p .plan-size) in
+          let same : places ≡ rounds (instanceOf s) counts 0 (powersUpTo (lastPlace counts)) (replicate (instanceOf s .slots) 0) =
+          places-are ∙ rw (digits-is, zeros-slots) refl in
+          made-is ∙ ap (λ (n : ℕ). tabulate n (λ t. countAtPlace counts (inSlot places t))) slots ∙
+          ap (λ (l : List ℕ). tabulate (instanceOf s .slots) (λ t. countAtPlace counts (inSlot l t))) same

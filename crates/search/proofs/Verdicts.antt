@@ -1,0 +1,86 @@
+-- What the tests of the code decide: verdicts, leads carried on, and places raised.
+use Prim.Native.Nat.{ℕ, _+_, _-_, _*_, _≤_, _<_, min}
+use mathlib.Core.Path.{_≡_, refl}
+use mathlib.Core.Bool.{Bool, true, false, cond}
+use mathlib.Core.List.{List}
+use native.Mathlib.Nat.{le-of-lt}
+use native.Mathlib.Omega.{arith}
+use lib.Dec.{leb}
+use borrow.Author.Tests.{le-leb, lt-leb, eq-eqb, ne-eqb}
+use Rattle.model.specs.Instance.{Instance}
+use Rattle.model.specs.Counts.{canServe, operatingCost}
+use Rattle.thresholds.specs.Places.{countAtPlace, lastPlace}
+use Rattle.thresholds.specs.ThresholdLaws.{less-one, less-zero}
+use Rattle.thresholds.specs.Thresholds.{isLess, weighed, levelPrice, judge, carried, raisedPlace}
+
+-- A verdict by what the place above a level costs, what the place below it costs, and what rising over the level costs.
+module _ (w upper lower : ℕ) where
+  pub weighed-above : upper < lower → record { lead = 0; side = 2 } ≡ weighed w upper lower
+  weighed-above h =
+      let least : min w (upper - lower) ≡ 0 = omega arith in
+      rw (less-one upper lower h, less-one upper (lower + w) (omega arith), least)
+
+  pub weighed-same : lower ≤ upper → upper - lower < w → record { lead = upper - lower; side = 1 } ≡ weighed w upper lower
+  weighed-same from h =
+      let least : min w (upper - lower) ≡ upper - lower = omega arith in
+      rw (less-zero upper lower from, less-one upper (lower + w) (omega arith), least)
+
+  pub weighed-below : lower ≤ upper → w ≤ upper - lower → record { lead = w; side = 0 } ≡ weighed w upper lower
+  weighed-below from h =
+      let least : min w (upper - lower) ≡ w = omega arith in
+      rw (less-zero upper lower from, less-zero upper (lower + w) (omega arith), least)
+
+module _ (i : Instance) (counts : List ℕ) (j l lead : ℕ) where
+  -- Beyond the list no plan is above the level.
+  pub judge-beyond : lastPlace counts ≤ j → record { lead = 0; side = 0 } ≡ judge i counts j l lead
+  unfolding judge
+  judge-beyond h = rw (le-leb (lastPlace counts) j h)
+
+  module _ (within : j < lastPlace counts) where
+    -- Where the place below cannot serve, every plan is above the level.
+    pub judge-forced : countAtPlace counts j * i .topStep < l → record { lead = 0; side = 2 } ≡ judge i counts j l lead
+    unfolding judge canServe
+    judge-forced h = rw (lt-leb (lastPlace counts) j within, lt-leb l (countAtPlace counts j * i .topStep) h)
+
+    -- Where it can, the two places are weighed.
+    pub judge-weighed :
+        l ≤ countAtPlace counts j * i .topStep →
+        weighed (levelPrice i counts j) (lead + operatingCost i (countAtPlace counts (j + 1)) l) (operatingCost i (countAtPlace counts j) l) ≡
+        judge i counts j l lead
+    unfolding judge canServe
+    judge-weighed h = rw (lt-leb (lastPlace counts) j within, le-leb l (countAtPlace counts j * i .topStep) h)
+
+  pub carried-same : (before here : ℕ) → here ≡ before → lead ≡ carried i counts before here j lead
+  unfolding carried
+  carried-same before here e = rw (eq-eqb here before e)
+
+  pub carried-above : (before here : ℕ) → here < before → 0 ≡ carried i counts before here j lead
+  unfolding carried
+  carried-above before here h = rw (ne-eqb here before (λ e. omega arith), le-leb here before (le-of-lt h))
+
+  pub carried-below : (before here : ℕ) → before < here → levelPrice i counts j ≡ carried i counts before here j lead
+  unfolding carried
+  carried-below before here h = rw (ne-eqb here before (λ e. omega arith), lt-leb here before h)
+
+-- The place after a round with the width b.
+module _ (b here side next : ℕ) where
+  pub raised-on : 2 ≤ side → here + b ≡ raisedPlace b here side next
+  unfolding raisedPlace
+  raised-on h = rw (le-leb 2 (side + isLess (here + b - 1) next) (omega arith))
+
+  pub raised-off : side ≡ 0 → here ≡ raisedPlace b here side next
+  unfolding raisedPlace isLess
+  raised-off e = rw e (off (leb next (here + b - 1)))
+    where
+      off : (t : Bool) → here ≡ cond (leb 2 (0 + cond t 0 1)) (here + b) here
+      off true = refl
+      off false = refl
+
+  module _ (width : 1 ≤ b) (keeps : side ≡ 1) where
+    pub raised-with : here + b ≤ next → here + b ≡ raisedPlace b here side next
+    unfolding raisedPlace
+    raised-with h = rw (keeps, less-one (here + b - 1) next (omega arith))
+
+    pub raised-without : next < here + b → here ≡ raisedPlace b here side next
+    unfolding raisedPlace
+    raised-without h = rw (keeps, less-zero (here + b - 1) next (omega arith))

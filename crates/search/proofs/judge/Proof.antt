@@ -1,0 +1,56 @@
+use mathlib.Core.Path.{_∙_}
+use native.Mathlib.Omega.{arith}
+use borrow.Author.Needs.{needs}
+use Rattle.counts.proofs.Shares.{operating-most}
+use Rattle.search.proofs.Levels.{served-at, served-above, low-top}
+use Rattle.search.proofs.Verdicts.{judge-beyond, judge-forced, judge-weighed}
+use Rattle.search.proofs.judge.Statement.{statement}
+use Rattle.search.proofs.judge.Tie as tie
+
+returns : tie.Need-returns
+returns c = judge-beyond _ _ _ _ _ (c .if1 .taken)
+
+mul-if2 : tie.Need-mul-if2
+mul-if2 c =
+    let start = c .before .before .before .before .before .before in
+    record { fits = omega (arith, low-top (start .pre .on-card) (start .args .level)) }
+
+returns-2 : tie.Need-returns-2
+returns-2 c =
+    let start = c .before .before .before .before .before .before .before in
+    judge-forced _ _ _ _ _ (omega arith) (rw (start .pre .on-card .ready .header .top-is) at (c .if2 .taken))
+
+operating-cost-requires : tie.Need-operating-cost-requires
+operating-cost-requires c κs =
+    let start = c .before .before .before .before .before .before .before in
+    served-above (start .pre .on-card) _ (omega arith) (rw (start .pre .on-card .ready .header .top-is) at (c .if2 .left))
+
+add-upper : tie.Need-add-upper
+add-upper c =
+    let start = c .before .before .before .before .before .before .before .before in
+    let serves = rw (start .pre .on-card .ready .header .top-is) at (c .before .if2 .left) in
+    omega (arith, c .operating-cost .ensures, operating-most (served-above (start .pre .on-card) _ (omega arith) serves))
+
+operating-cost-requires-2 : tie.Need-operating-cost-requires-2
+operating-cost-requires-2 c κs =
+    let start = c .before .before .before .before .before .before .before .before in
+    served-at (start .pre .on-card) _ (rw (start .pre .on-card .ready .header .top-is) at (c .before .if2 .left))
+
+level-price-requires : tie.Need-level-price-requires
+level-price-requires c κs = search needs
+
+weigh-requires : tie.Need-weigh-requires
+weigh-requires c κs = search needs
+
+returns-3 : tie.Need-returns-3
+returns-3 c =
+    let start = c .before .before .before .before .before .before .before .before .before .before .before in
+    rw (c .before .level-price .ensures, c .before .before .operating-cost2 .ensures, c .before .before .before .operating-cost .ensures) at
+    (c .weigh .ensures) ∙
+    judge-weighed _ _ _ _ _ (omega arith) (rw (start .pre .on-card .ready .header .top-is) at (c .before .before .before .before .if2 .left))
+
+pub judge-spec : {M : Type 1} → statement M
+judge-spec =
+    tie.close (tie.spec (λ c. search needs) returns (λ c. search needs) (λ c. search needs) (λ c. search needs) (λ c. search needs)
+    (λ c. search needs) mul-if2 returns-2 operating-cost-requires add-upper operating-cost-requires-2 level-price-requires
+    weigh-requires returns-3)
