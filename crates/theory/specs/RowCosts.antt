@@ -28,6 +28,15 @@ pub straight-line : (i : Instance) (n l : ℕ) → 0 < n →
     operatingCost i n l + l % n * leastFrom i (l / n) ≡ n * leastFrom i (l / n) + l % n * leastFrom i (l / n + 1)
 straight-line i n l p = omega (arith, operating-some i n l p, part-and-rest n (l % n) (leastFrom i (l / n)) (le-of-lt (mod-lt l p)))
 
+-- The same with the load in place of its remainder, so that other counts can be held against the line. It is stated without subtraction too.
+pub on-line : (i : Instance) (n l : ℕ) → 0 < n →
+    operatingCost i n l + l * leastFrom i (l / n) + n * (l / n * leastFrom i (l / n + 1)) ≡
+    n * (leastFrom i (l / n) + l / n * leastFrom i (l / n)) + l * leastFrom i (l / n + 1)
+on-line i n l p =
+    let at-low = ap (λ (x : ℕ). x * leastFrom i (l / n)) (div-add-mod l n) in
+    let at-high = ap (λ (x : ℕ). x * leastFrom i (l / n + 1)) (div-add-mod l n) in
+    omega (arith, straight-line i n l p)
+
 -- The table lies above the line u + k x - k y - z. It is stated without subtraction.
 abbrev AboveLine : Instance → ℕ → ℕ → ℕ → ℕ → Type 0
 AboveLine i u x y z = (k : ℕ) → k ≤ i .topStep → u + k * x ≤ i .table k + k * y + z
@@ -59,9 +68,7 @@ module _ (i : Instance) (n l cost : ℕ) (fits : l ≤ n * i .topStep)
       let high : ℕ = leastFrom i (q + 1) in
       let support = supporting-line (i .topStep) (leastFrom i) (least-convex i c) q in
       let line = above (low + q * low) high low (q * high) (λ k g. omega (arith, support k h g, least-from-below i k)) in
-      let at-low = ap (λ (x : ℕ). x * low) (div-add-mod l n) in
-      let at-high = ap (λ (x : ℕ). x * high) (div-add-mod l n) in
-      omega (arith, straight-line i n l p)
+      omega (arith, on-line i n l p)
 
   above-lines : Convex (i .topStep) (i .table) → operatingCost i n l ≤ cost
   unfolding operatingCost
