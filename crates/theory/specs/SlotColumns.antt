@@ -1,6 +1,6 @@
 -- One slot's choice is the least over all places that serve, and the smallest place that attains it. So columns rise gradually.
 use Prim.Native.Nat.{ℕ, zero, suc, _+_, _-_, _*_, _≤_, _<_}
-use mathlib.Core.Path.{_≡_, refl, sym, _∙_}
+use mathlib.Core.Path.{_≡_, refl, sym, ap, _∙_}
 use mathlib.Core.Bool.{Bool, true, false, cond, false≢true}
 use mathlib.Core.List.{List}
 use native.Mathlib.Nat.{mul-le-mul-left, mul-zero, sub-eq-zero-of-le}
@@ -65,13 +65,17 @@ module _
 triangle : (b x y z : ℕ) → b * (x - z) ≤ b * (y - z) + b * (x - y)
 triangle b x y z = let less : x - z ≤ y - z + (x - y) = omega arith in omega (arith, mul-le-mul-left b less)
 
+-- Switching on from x to z costs as much by way of a count y between them.
+pub by-way : (b x y z : ℕ) → x ≤ y → y ≤ z → b * (z - x) ≡ b * (z - y) + b * (y - x)
+by-way b x y z low high = let parts : z - x ≡ z - y + (y - x) = omega arith in omega (arith, ap (λ (n : ℕ). b * n) parts)
+
 -- Laws of the column after a slot.
 module _
     {i : Instance} {counts : List ℕ} {l : ℕ} {before after chosen : ℕ → ℕ} (asc : Ascending counts (i .modules))
     (best : SlotBest i counts l before after chosen)
   where
     -- The column after a slot rises with the place.
-    after-rises : (j k : ℕ) → j ≤ k → k < length counts → after j ≤ after k
+    pub after-rises : (j k : ℕ) → j ≤ k → k < length counts → after j ≤ after k
     after-rises j k h inside =
         let c = chosen k in
         let low = count-rises asc j k h inside in
@@ -84,7 +88,7 @@ module _
         )
 
     -- The column after a slot rises by at most the switching price a module.
-    after-slope :
+    pub after-slope :
         (j k : ℕ) → j ≤ k → k < length counts →
         after k ≤ after j + switchingPrice i * (countAtPlace counts k - countAtPlace counts j)
     after-slope j k h inside =
