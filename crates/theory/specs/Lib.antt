@@ -15,6 +15,9 @@ pub mod Choices
 pub mod SlotColumns
 pub mod Least
 pub mod NearLeads
+pub mod ConvexValues
+pub mod RunningCosts
+pub mod Levels
 pub mod ConvexColumns
 pub mod Halves
 pub mod Rounds
