@@ -28,7 +28,7 @@ pub straight-line : (i : Instance) (n l : ℕ) → 0 < n →
     operatingCost i n l + l % n * leastFrom i (l / n) ≡ n * leastFrom i (l / n) + l % n * leastFrom i (l / n + 1)
 straight-line i n l p = omega (arith, operating-some i n l p, part-and-rest n (l % n) (leastFrom i (l / n)) (le-of-lt (mod-lt l p)))
 
--- The same with the load in place of its remainder, so that other counts can be held against the line. It is stated without subtraction too.
+-- The same with the load in place of its remainder, so that other counts can be held against the line. It is stated without subtraction.
 pub on-line : (i : Instance) (n l : ℕ) → 0 < n →
     operatingCost i n l + l * leastFrom i (l / n) + n * (l / n * leastFrom i (l / n + 1)) ≡
     n * (leastFrom i (l / n) + l / n * leastFrom i (l / n)) + l * leastFrom i (l / n + 1)
