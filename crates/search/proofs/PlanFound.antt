@@ -1,10 +1,11 @@
 -- The places found become counts, and these are the plan by thresholds.
 use Prim.Native.Nat.{ℕ, _+_, _≤_, _<_}
 use mathlib.Core.Path.{_≡_, refl, sym, ap, _∙_}
-use mathlib.Core.List.{List}
+use mathlib.Core.List.{List, _++_}
 use mathlib.Core.Logic.{⊎-elim}
 use native.Mathlib.Omega.{arith}
-use lib.ListN.{length, getD, set, replicate, length-replicate, getD-replicate, List·getD-eq-default}
+use lib.Seq.{length-take-le}
+use lib.ListN.{length, getD, set, take, drop, replicate, length-append, length-drop, length-replicate, getD-replicate, List·getD-eq-default}
 use Rattle.lists.specs.Numbers.{le-or-lt}
 use Rattle.lists.specs.Lists.{tabulate}
 use Rattle.lists.specs.Filling.{Upto, upto-none, upto-more, upto-all}
@@ -23,8 +24,8 @@ use Rattle.search.proofs.RoundsWalk.{rounds-inside}
 abbrev pub CountsLoop : (counts plan₀ plan : List ℕ) → ℕ → Type 0
 CountsLoop counts plan₀ plan t = Upto (λ u. countAtPlace counts (inSlot plan₀ u)) t plan₀ plan
 
-module _ {counts plan₀ plan : List ℕ} {t place : ℕ} (f : CountsLoop counts plan₀ plan t) where
-  module _ (inside : t < length plan₀) (place-is : place ≡ getD plan t 0) where
+module _ (counts : List ℕ) {plan₀ plan : List ℕ} {t : ℕ} (f : CountsLoop counts plan₀ plan t) where
+  module _ {place : ℕ} (inside : t < length plan₀) (place-is : place ≡ getD plan t 0) where
     place-same : place ≡ inSlot plan₀ t
     place-same = place-is ∙ f .kept t (omega arith)
 
@@ -42,9 +43,18 @@ module _ {counts plan₀ plan : List ℕ} {t place : ℕ} (f : CountsLoop counts
 zeros-at : (n t : ℕ) → inSlot (replicate n 0) t ≡ 0
 zeros-at n t =
     ⊎-elim
-    (λ (past : n ≤ t). List·getD-eq-default (replicate n 0) 0 {n = t} (omega (arith, length-replicate n 0)))
+    (λ (past : n ≤ t). List·getD-eq-default (replicate {A = ℕ} n 0) 0 {n = t} (omega (arith, length-replicate {A = ℕ} n 0)))
     (λ (h : t < n). getD-replicate n t 0 0 h)
     (le-or-lt n t)
+
+-- A list whose first n entries were written and that was then cleared is as long as it was.
+pub cleared-whole :
+    {n : ℕ} (part work : List ℕ) {cleared : List ℕ} → n ≤ length work → length part ≡ length (take n work) →
+    cleared ≡ replicate (length (part ++ drop n work)) 0 → cleared ≡ replicate (length work) 0
+cleared-whole {n} part work within size e =
+    let whole : length (part ++ drop n work) ≡ length work =
+    omega (arith, length-append part (drop n work), length-take-le n work within, length-drop n work) in
+    rw whole at e
 
 module _ {s : List ℕ} {h : Header} {counts plan work : List ℕ} (p : Searchable s h counts plan work) where
   -- The search has at most eight rounds.

@@ -1,68 +1,69 @@
+use Prim.Native.Nat.{_≤_}
+use mathlib.Core.Path.{sym}
+use native.Mathlib.Omega.{arith}
+use lib.ListN.{length}
+use lib.Seq.{length-take-le}
+use borrow.Author.Needs.{needs}
+use Rattle.search.proofs.PlanFound.{rounds-ready, places-found, plan-found, cleared-whole}
 use Rattle.search.proofs.search.Statement.{statement}
 use Rattle.search.proofs.search.Tie as tie
-use Rattle.search.proofs.search.Reads as reads
-use Rattle.search.proofs.search.Lts as lts
-use Rattle.buffers.proofs.fill.Reads as fill-reads
-use Rattle.counts.proofs.powers_up_to.Reads as powers-up-to-reads
-use Rattle.search.proofs.rounds.Reads as rounds-reads
-use Rattle.search.proofs.to_counts.Reads as to-counts-reads
 
--- src/lib.rt:173:16
+-- The start of the function, seen from the fill of the plan.
+abbrev start : tie.After-fill → tie.Start
+start c = c .before .before .before .before .before .before .before
+
+-- The work buffer has a byte for each slot of the plan.
+side-bytes : (c : tie.After-fill) → length (start c .args .plan .now) ≤ length (start c .args .work .now)
+side-bytes c = let p = start c .pre in omega (arith, p .plan-size, p .work-room)
+
 sub-last : tie.Need-sub-last
-sub-last c = ?
+sub-last c = omega (arith, c .before .before .before .before .pre .on-card .allowed .two)
 
--- src/lib.rt:174:9
 powers-up-to-requires : tie.Need-powers-up-to-requires
-powers-up-to-requires c κs = ?
+powers-up-to-requires c κs = tt
 
--- src/lib.rt:175:5
 fill-requires : tie.Need-fill-requires
-fill-requires c κs = ?
+fill-requires c κs = tt
 
--- src/lib.rt:176:43
 slice-relend-prefix-rounds : tie.Need-slice-relend-prefix-rounds
-slice-relend-prefix-rounds c = ?
+slice-relend-prefix-rounds c = side-bytes (c .before .before .before)
 
--- src/lib.rt:176:43
 slice-aggregate-rounds : tie.Need-slice-aggregate-rounds
-slice-aggregate-rounds c = ?
+slice-aggregate-rounds c = sym (length-take-le _ _ (side-bytes (c .before .before .before .before)))
 
--- src/lib.rt:176:5
 rounds-requires : tie.Need-rounds-requires
-rounds-requires c κs = ?
+rounds-requires c κs =
+    let filled = c .before .before .before .before in
+    rounds-ready (start filled .pre) (filled .before .before .powers-up-to .ensures) (filled .fill .ensures)
+    (length-take-le _ _ (side-bytes filled))
 
--- src/lib.rt:177:5
 to-counts-requires : tie.Need-to-counts-requires
-to-counts-requires c κs = ?
+to-counts-requires c κs =
+    let found = c .before .before .before .before .before in
+    let filled = found .before .before .before .before .before in
+    places-found (start filled .pre) (filled .before .before .powers-up-to .ensures) (filled .fill .ensures) (found .rounds .ensures)
 
--- src/lib.rt:178:5
 fill-requires-2 : tie.Need-fill-requires-2
-fill-requires-2 c κs = ?
+fill-requires-2 c κs = tt
 
--- src/lib.rt:165:1
 same-length : tie.Need-same-length
-same-length c = ?
+same-length c = search needs
 
--- src/lib.rt:165:1
 same-length-2 : tie.Need-same-length-2
-same-length-2 c = ?
+same-length-2 c = search needs
 
--- src/lib.rt:165:1
 returns : tie.Need-returns
-returns c = ?
+returns c =
+    let made = c .before .before .before .before .before .before in
+    let found = made .before .before .before .before .before .before in
+    let filled = found .before .before .before .before .before in
+    (
+      plan-found (start filled .pre) (filled .before .before .powers-up-to .ensures) (filled .fill .ensures) (found .rounds .ensures)
+      (found .rounds .kept .1 .1 .1 .1 .0) (made .to-counts .ensures),
+      cleared-whole (found .rounds .last .1 .1 .1 .1 .1 .0) (start filled .args .work .now) (side-bytes filled) (found .rounds .kept .1 .1 .1 .1 .1 .0) (c .before .before .fill2 .ensures),
+    )
 
 pub search-spec : {M : Type 1} → statement M
 search-spec =
-    tie.close
-    (tie.spec
-    sub-last
-    powers-up-to-requires
-    fill-requires
-    slice-relend-prefix-rounds
-    slice-aggregate-rounds
-    rounds-requires
-    to-counts-requires
-    fill-requires-2
-    same-length
-    same-length-2
-    returns)
+    tie.close (tie.spec sub-last powers-up-to-requires fill-requires slice-relend-prefix-rounds slice-aggregate-rounds rounds-requires
+    to-counts-requires fill-requires-2 same-length same-length-2 returns)
