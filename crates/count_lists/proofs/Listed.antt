@@ -17,7 +17,8 @@ use Rattle.theory.specs.CountLists.{rules-hold}
 use Rattle.card.specs.declared.Header.{Header}
 use Rattle.card.specs.Checking.{Ready}
 use Rattle.card.proofs.Sizes.{product-fits}
-use Rattle.planners.specs.PlannerRequires.{Buffers, PlanOver, hasRoom, roomFor}
+use Rattle.search.specs.SearchRequires.{Searchable}
+use Rattle.planners.specs.PlannerRequires.{Buffers, hasRoom, roomFor}
 use Rattle.planners.proofs.Planned.{LeastFound, over-counts, planned-over}
 use Rattle.planners.proofs.Planning.{Planned, plan-unlisted, plan-short, plan-room, work-room, parts-lent, plan-done}
 
@@ -60,7 +61,7 @@ module _ (l : List ℕ) (r : ℕ) (s p w : List ℕ) {h : Header} (ready : Ready
       unfolding allowedCounts
       own = refl
 
-      pub over-list : PlanOver s h l (take (h .slots) p) (take (length l * h .slots) w)
+      pub over-list : Searchable s h l (take (h .slots) p) (take (length l * h .slots) w)
       over-list = over-counts k lent keeps own
 
       pub done :

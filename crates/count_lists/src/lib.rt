@@ -12,7 +12,8 @@ ghost use Rattle.model.specs.Plans.{leastPlan, leastCost};
 ghost use Rattle.model.specs.Planners.{listed};
 ghost use Rattle.model.specs.Calls.{planShow, answer, planAtExit, workAtExit};
 ghost use Rattle.card.specs.Checking.{Ready};
-ghost use Rattle.planners.specs.PlannerRequires.{PlanOver, NumberRoom};
+ghost use Rattle.search.specs.SearchRequires.{Searchable};
+ghost use Rattle.planners.specs.PlannerRequires.{NumberRoom};
 
 // The entries of a list as numbers of eight bytes.
 fn widen(list: &[u16], counts: &mut [u64])
@@ -46,7 +47,7 @@ fn least_with_counts(
     plan: &mut [u8],
     work: &mut [u8],
 ) -> u64
-    requires { ⌜ PlanOver (now card) h (now list) (now plan) (now work) ⌝ }
+    requires { ⌜ Searchable (now card) h (now list) (now plan) (now work) ⌝ }
     requires { ⌜ NumberRoom (now counts) ⌝ }
     ensures { λ r. ⌜ r ≡ leastCost (instanceOf (now (card .entry))) (now (list .entry)) ⌝ }
     ensures { λ _. ⌜ now (plan .exit) ≡ leastPlan (instanceOf (now (card .entry))) (now (list .entry)) ⌝ }
@@ -58,7 +59,7 @@ fn least_with_counts(
 
 // The least plan over the counts of a list and its cost.
 fn least_over_list(card: &[u8], h: Header, list: &[u16], plan: &mut [u8], work: &mut [u8]) -> u64
-    requires { ⌜ PlanOver (now card) h (now list) (now plan) (now work) ⌝ }
+    requires { ⌜ Searchable (now card) h (now list) (now plan) (now work) ⌝ }
     ensures { λ r. ⌜ r ≡ leastCost (instanceOf (now (card .entry))) (now (list .entry)) ⌝ }
     ensures { λ _. ⌜ now (plan .exit) ≡ leastPlan (instanceOf (now (card .entry))) (now (list .entry)) ⌝ }
     ensures { λ _. ⌜ now (work .exit) ≡ replicate (length (now (work .entry))) 0 ⌝ }

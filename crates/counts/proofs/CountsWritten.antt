@@ -36,19 +36,6 @@ last-power (suc q) h =
     let e : suc q - 1 ≡ q = omega arith in
     rw e (getD-tabulate (suc q) (λ k. 2 ^ k) q 0 (omega arith))
 
--- There are at most ten coarse counts.
-pub coarse-ten : (m : ℕ) → 1 ≤ m → m ≤ 200 → length (coarseCounts m) ≤ 10
-unfolding joined
-coarse-ten m some most = rw (known .list) (sized (eqb (2 ^ (powersUpTo m - 1)) m))
-  where
-    known : Coarse m
-    known = coarse-known m some most
-
-    sized : (b : Bool) → length (cond b (zeroAndPowers (powersUpTo m)) (zeroAndPowers (powersUpTo m) ++ (m ∷ []))) ≤ 10
-    sized true = omega (arith, known .high, length-zeroAndPowers (powersUpTo m))
-    sized false =
-        omega (arith, known .high, length-zeroAndPowers (powersUpTo m), length-append (zeroAndPowers (powersUpTo m)) (m ∷ []))
-
 -- The counts from which m's coarse counts are written, where p is the number of powers among them.
 module _ (xs : List ℕ) (m : ℕ) (asked : CoarseRoom xs m) {p : ℕ} (p-is : p ≡ powersUpTo m) where
   known : (1 ≤ p) × (p ≤ 8) × (coarseCounts m ≡ joined p m)

@@ -1,76 +1,87 @@
 -- The search's plan over an ascending list of allowed counts is the least plan, and over the counts of a planner that keeps the rules the
 -- planner's plan.
-use Prim.Native.Nat.{ℕ, _+_, _*_, _≤_}
-use mathlib.Core.Path.{_≡_, refl, _∙_, ap}
+use Prim.Native.Nat.{ℕ, _≤_}
+use mathlib.Core.Path.{_≡_, refl, sym, _∙_, ap}
 use mathlib.Core.List.{List}
-use native.Mathlib.Nat.{mul-le-mul-right, le-refl, le-trans}
+use native.Mathlib.Nat.{mul-le-mul-right, le-trans}
 use native.Mathlib.Omega.{arith}
 use lib.ListN.{length, take}
-use Rattle.lists.specs.Lists.{length-tabulate, writtenOver}
+use Rattle.lists.specs.Lists.{writtenOver}
 use Rattle.model.specs.Instance.{Instance, instanceOf}
-use Rattle.model.specs.Counts.{allCounts}
+use Rattle.model.specs.Thesis.{countsCost}
 use Rattle.model.specs.Plans.{leastPlan, leastCost}
 use Rattle.model.specs.Planners.{Planner, exact, coarse, listed, allowedCounts, workBytes, plannedBy, plannedCost}
 use Rattle.model.specs.Promises.{KeepsRules}
 use Rattle.laws.specs.Acceptance.{modules-range}
-use Rattle.theory.specs.Columns.{searchedPlan, searchedCost}
-use Rattle.thresholds.specs.Places.{length-fits}
+use Rattle.thresholds.specs.Places.{lastPlace, Ascending}
+use Rattle.thresholds.specs.Thresholds.{thresholdPlan}
+use Rattle.theory.specs.Hypotheses.{Plannable}
 use Rattle.theory.specs.CountLists.{planner-rules}
-use Rattle.theory.specs.Condition3.{accepted-plannable, searched-plan}
+use Rattle.theory.specs.Condition3.{accepted-plannable, threshold-plan, least-plan-fits, least-cost-counts}
 use Rattle.card.specs.declared.Header.{Header}
 use Rattle.card.specs.Checking.{Ready}
 use Rattle.counts.specs.declared.PlannerKind.{PlannerKind}
 use Rattle.counts.specs.declared.PlannerKind.the-variants.{Exact, Coarse}
-use Rattle.counts.specs.AllowedCounts.{CountsRoom, plannerOf}
-use Rattle.counts.proofs.CountsWritten.{coarse-ten}
+use Rattle.counts.specs.AllowedCounts.{CountsRoom, plannerOf, powersUpTo}
+use Rattle.counts.proofs.Powers.{digits-known}
+use Rattle.sheets.specs.SheetRequires.{PlanReady}
 use Rattle.search.specs.SearchRequires.{Searchable}
-use Rattle.planners.specs.PlannerRequires.{Buffers, PlanOver, NumberRoom}
+use Rattle.search.proofs.Levels.{few-places}
+use Rattle.planners.specs.PlannerRequires.{Buffers, NumberRoom}
 use Rattle.planners.proofs.Fronts.{front-is}
 
 -- A cost and a plan are those of the least plan over counts, and the work bytes are cleared.
 abbrev pub LeastFound : Instance → (counts : List ℕ) → (cost : ℕ) → (plan work cleared : List ℕ) → Type 0
 LeastFound i counts cost plan work cleared = (cost ≡ leastCost i counts) × ((plan ≡ leastPlan i counts) × (work ≡ cleared))
 
-module _ {s : List ℕ} {h : Header} {counts plan work : List ℕ} (p : PlanOver s h counts plan work) where
-  pub searchable : {column : List ℕ} → length column ≡ length counts → Searchable s h counts column plan work
-  searchable e =
-      record {
-        ahead = record { ready = p .room .ready; allowed = p .allowed; column-size = e; work-room = p .room .work-room };
-        plan-size = p .room .plan-size;
-      }
+-- The plan that the search writes, and its cost by counts, are the least plan's.
+module _ {s : List ℕ} {h : Header} {counts plan work : List ℕ} (p : Searchable s h counts plan work)
+    {made : List ℕ} (made-is : made ≡ thresholdPlan (instanceOf s) counts 0 (powersUpTo (lastPlace counts))) where
+  asc : Ascending counts (instanceOf s .modules)
+  asc = p .on-card .allowed
 
-  -- The search's results are the least plan's.
+  ready : Plannable (instanceOf s)
+  ready = accepted-plannable s (p .on-card .ready .accepted)
+
+  is-least : made ≡ leastPlan (instanceOf s) counts
+  is-least =
+      made-is ∙ threshold-plan ready counts asc _ (digits-known (lastPlace counts) (omega (arith, few-places (p .on-card))) .0)
+
+  pub least-ready : PlanReady s h made
+  least-ready =
+      let fits = least-plan-fits ready counts asc in
+      rw is-least
+      (record {
+        sized = record { ready = p .on-card .ready; slotwise = fits .slotwise };
+        in-rack = fits .in-rack;
+        served = fits .served;
+      })
+
   pub least-found :
-      {cost : ℕ} {made cleared cleared′ : List ℕ} → cost ≡ searchedCost (instanceOf s) counts 0 →
-      made ≡ searchedPlan (instanceOf s) counts 0 → cleared ≡ cleared′ → LeastFound (instanceOf s) counts cost made cleared cleared′
-  least-found c m z =
-      let best = searched-plan (accepted-plannable s (p .room .ready .accepted)) counts (p .allowed .ascending) in
-      (c ∙ best .1, (m ∙ best .0, z))
+      {cost : ℕ} {cleared cleared′ : List ℕ} → cost ≡ countsCost (instanceOf s) 0 made → cleared ≡ cleared′ →
+      LeastFound (instanceOf s) counts cost made cleared cleared′
+  least-found cost-is z = (cost-is ∙ rw is-least (sym (least-cost-counts ready counts asc)), (is-least, z))
 
--- The work bytes of a planner hold one for each of its counts and each slot.
-work-enough : (k : Planner) (i : Instance) → 1 ≤ i .modules → i .modules ≤ 200 →
-    length (allowedCounts k (i .modules)) * i .slots ≤ workBytes k i
-unfolding allowedCounts allCounts workBytes
-work-enough exact i some most = rw (length-tabulate (i .modules + 1) (λ n. n)) (omega arith)
-work-enough coarse i some most = mul-le-mul-right (i .slots) (coarse-ten (i .modules) some most)
-work-enough (listed l r) i some most = le-refl (length l * i .slots)
+-- The work bytes of a planner hold one for each slot.
+work-enough : (k : Planner) (i : Instance) → 1 ≤ length (allowedCounts k (i .modules)) → i .slots ≤ workBytes k i
+unfolding allowedCounts workBytes
+work-enough exact i some = omega arith
+work-enough coarse i some = omega arith
+work-enough (listed l r) i some = omega (arith, mul-le-mul-right (i .slots) some)
 
 -- The counts allowed a planner that keeps the rules, as a list that is searched.
 module _
     (k : Planner) {s : List ℕ} {h : Header} {plan work : List ℕ} (b : Buffers k s h plan work) (keeps : KeepsRules k (instanceOf s))
     {counts : List ℕ} (are : counts ≡ allowedCounts k (instanceOf s .modules)) where
-  pub over-counts : PlanOver s h counts plan work
+  pub over-counts : Searchable s h counts plan work
   over-counts =
       let i = instanceOf s in
-      let (some, most) = modules-range s (b .ready .accepted) in
-      let asc = planner-rules k i some keeps .ascending in
-      let few : length (allowedCounts k (i .modules)) ≤ 201 = omega (arith, length-fits asc) in
+      let asc = planner-rules k i (modules-range s (b .ready .accepted) .0) keeps .ascending in
       rw are
       (record {
-        room =
-            record { ready = b .ready; plan-size = b .plan-size; work-room = le-trans (work-enough k i some most) (b .work-room) };
-        allowed = record { ascending = asc; bytes = omega arith };
-        short = few;
+        on-card = record { ready = b .ready; allowed = asc };
+        plan-size = b .plan-size;
+        work-room = le-trans (work-enough k i (omega (arith, asc .two))) (b .work-room);
       })
 
   pub planned-over :

@@ -1,5 +1,5 @@
 -- What the planners ask for.
-use Prim.Native.Nat.{ℕ, _*_, _≤_}
+use Prim.Native.Nat.{ℕ, _≤_}
 use mathlib.Core.Path.{_≡_}
 use mathlib.Core.Bool.{Bool, not, _&&_}
 use mathlib.Core.List.{List}
@@ -9,23 +9,12 @@ use Rattle.model.specs.Instance.{Instance, instanceOf}
 use Rattle.model.specs.Planners.{Planner, workBytes}
 use Rattle.card.specs.declared.Header.{Header}
 use Rattle.card.specs.Checking.{Ready}
-use Rattle.search.specs.SearchRequires.{CountsUpTo}
 
--- An accepted card with its header, a plan of T bytes, and so many work bytes.
-pub record Room (asked : ℕ) (s : List ℕ) (h : Header) (plan work : List ℕ) : Type 0 where
+-- An accepted card with its header, a plan of T bytes, and the work bytes that a planner asks for.
+pub record Buffers (k : Planner) (s : List ℕ) (h : Header) (plan work : List ℕ) : Type 0 where
   pub ready : Ready s h
   pub plan-size : length plan ≡ instanceOf s .slots
-  pub work-room : asked ≤ length work
-
--- An accepted card with its header, and the bytes that a planner asks for.
-abbrev pub Buffers : Planner → (s : List ℕ) → Header → (plan work : List ℕ) → Type 0
-Buffers k s = Room (workBytes k (instanceOf s)) s
-
--- A list of allowed counts for an accepted card, and a work byte for each count and slot.
-pub record PlanOver (s : List ℕ) (h : Header) (counts plan work : List ℕ) : Type 0 where
-  pub room : Room (length counts * instanceOf s .slots) s h plan work
-  pub allowed : CountsUpTo counts (instanceOf s .modules)
-  pub short : length counts ≤ 201
+  pub work-room : workBytes k (instanceOf s) ≤ length work
 
 -- Room for a number for each count of the largest rack.
 pub record NumberRoom (numbers : List ℕ) : Type 0 where

@@ -13,36 +13,18 @@ ghost use Rattle.model.specs.Planners.{workBytes, plannedBy, plannedCost};
 ghost use Rattle.model.specs.Calls.{planShow, answer, planAtExit, workAtExit};
 ghost use Rattle.card.specs.Checking.{Ready};
 ghost use Rattle.counts.specs.AllowedCounts.{plannerOf};
-ghost use Rattle.planners.specs.PlannerRequires.{PlanOver, NumberRoom, Buffers, hasRoom, roomFor};
+ghost use Rattle.search.specs.SearchRequires.{Searchable};
+ghost use Rattle.planners.specs.PlannerRequires.{NumberRoom, Buffers, hasRoom, roomFor};
 
-// The least plan over a list of allowed counts and its cost, with room for a column.
-fn least_with_column(
-    card: &[u8],
-    h: Header,
-    counts: &[u64],
-    column: &mut [u64],
-    plan: &mut [u8],
-    work: &mut [u8],
-) -> u64
-    requires { ⌜ PlanOver (now card) h (now counts) (now plan) (now work) ⌝ }
-    requires { ⌜ NumberRoom (now column) ⌝ }
-    ensures { λ r. ⌜ r ≡ leastCost (instanceOf (now (card .entry))) (now (counts .entry)) ⌝ }
-    ensures { λ _. ⌜ now (plan .exit) ≡ leastPlan (instanceOf (now (card .entry))) (now (counts .entry)) ⌝ }
-    ensures { λ _. ⌜ now (work .exit) ≡ replicate (length (now (work .entry))) 0 ⌝ }
-{
-    let width = counts.len();
-    search::search(card, h, counts, &mut column[..width], plan, work)
-}
-
-// The least plan over a list of allowed counts and its cost.
+// The least plan over a list of allowed counts and its cost: the search writes the plan, and the cost is that of its counts.
 pub fn least_over(card: &[u8], h: Header, counts: &[u64], plan: &mut [u8], work: &mut [u8]) -> u64
-    requires { ⌜ PlanOver (now card) h (now counts) (now plan) (now work) ⌝ }
+    requires { ⌜ Searchable (now card) h (now counts) (now plan) (now work) ⌝ }
     ensures { λ r. ⌜ r ≡ leastCost (instanceOf (now (card .entry))) (now (counts .entry)) ⌝ }
     ensures { λ _. ⌜ now (plan .exit) ≡ leastPlan (instanceOf (now (card .entry))) (now (counts .entry)) ⌝ }
     ensures { λ _. ⌜ now (work .exit) ≡ replicate (length (now (work .entry))) 0 ⌝ }
 {
-    let mut column = [0u64; 201];
-    least_with_column(card, h, counts, &mut column, plan, work)
+    search::search(card, h, counts, plan, work);
+    sheets::plan_cost(card, h, plan)
 }
 
 // A planner's plan and its cost, with room for the planner's counts.

@@ -34,9 +34,15 @@ fn weigh(price: u64, upper: u64, lower: u64) -> Verdict
     }
     let more = upper - lower;
     if more < price {
-        return Verdict { lead: more, side: 1 };
+        return Verdict {
+            lead: more,
+            side: 1,
+        };
     }
-    Verdict { lead: price, side: 0 }
+    Verdict {
+        lead: price,
+        side: 0,
+    }
 }
 
 // The price of rising over a level, 0 beyond the list.
@@ -72,7 +78,15 @@ fn judge(card: &[u8], h: Header, counts: &[u64], level: usize, l: u64, lead: u64
 
 // The lead of a level, where the place so far is before in the slot before and place in this one. If they are equal, the slot before has the
 // same level; if not, it is above the level, or below it.
-fn carry(card: &[u8], h: Header, counts: &[u64], before: usize, place: usize, level: usize, lead: u64) -> u64
+fn carry(
+    card: &[u8],
+    h: Header,
+    counts: &[u64],
+    before: usize,
+    place: usize,
+    level: usize,
+    lead: u64,
+) -> u64
     requires { ⌜ OnCard (now card) h (now counts) ⌝ }
     ensures { λ r. ⌜ r ≡ carried (instanceOf (now (card .entry))) (now (counts .entry)) before place level lead ⌝ }
 {
@@ -98,7 +112,14 @@ fn forward(card: &[u8], h: Header, counts: &[u64], width: usize, plan: &[u8], si
         let place = wide(plan[t]);
         let level = place + reach;
         let carried = carry(card, h, counts, before, place, level, lead);
-        let verdict = judge(card, h, counts, level, card::load(card, h, t as u64), carried);
+        let verdict = judge(
+            card,
+            h,
+            counts,
+            level,
+            card::load(card, h, t as u64),
+            carried,
+        );
         sides[t] = verdict.side;
         lead = verdict.lead;
         before = place;

@@ -71,8 +71,12 @@ module _ {i : Instance} (ready : Plannable i) where
     least-by-counts = rw (searched-plan .0) at (searched-least i counts 0 asc (ready .loads))
 
     -- The least plan has a sheet that can be written.
-    least-plan-fits : PlanFits i (leastPlan i counts)
+    pub least-plan-fits : PlanFits i (leastPlan i counts)
     least-plan-fits = allowed-fits (least-plan i counts asc (ready .loads) .allowed)
+
+    -- The least plan costs what its counts cost.
+    pub least-cost-counts : leastCost i counts ≡ countsCost i 0 (leastPlan i counts)
+    least-cost-counts = plan-cost-counts i (leastPlan i counts) least-plan-fits
 
     -- The sheet of the least plan serves, and costs what the plan costs.
     pub least-sheet :

@@ -1,4 +1,5 @@
 use native.Mathlib.Omega.{arith}
+use Rattle.search.proofs.Levels.{few-places}
 use Rattle.planners.proofs.Fronts.{front-is, front-within, front-length}
 use borrow.Author.Needs.{needs}
 use Rattle.count_lists.proofs.least_with_counts.Statement.{statement}
@@ -6,7 +7,8 @@ use Rattle.count_lists.proofs.least_with_counts.Tie as tie
 
 fill-list-requires : tie.Need-fill-list-requires
 fill-list-requires c κs =
-    let start = c .before .before .before .before .before .before in omega (arith, start .pre .0 .short, start .pre .1 .room)
+    let start = c .before .before .before .before .before .before in
+    omega (arith, few-places (start .pre .0 .on-card), start .pre .1 .room)
 
 slice-reshare-prefix-least-over : tie.Need-slice-reshare-prefix-least-over
 slice-reshare-prefix-least-over c =
