@@ -60,17 +60,14 @@ fn compare(random: &mut Random, planner: Planner, card: &Card, show: &Show) -> (
 
 /// Fails unless each kind came up at least as often as it is listed.
 fn require_often(classes: &Classes, kinds: &[(&str, u64)]) {
-    classes.require_all();
     let rare: Vec<_> = kinds.iter().filter(|(name, least)| classes.count(name) < *least).collect();
     assert!(rare.is_empty(), "came up less often than listed: {rare:?}");
 }
 
-// ---------------------------------------------------------------- small shows
-
-const SMALL_SHOWS: u64 = 330_000;
+// ---------------------------------------------------------------- shows with many ties
 
 /// The most plans of a show that is compared with all of them.
-const MOST_PLANS: usize = 130;
+const MOST_PLANS: usize = 300;
 
 const ALL_PLANS: &str = "compared with all plans";
 const TIES: &str = "several least plans";
@@ -85,51 +82,42 @@ const KEPT_ON: &str = "a count above the cheapest one of its slot";
 const HELD_BACK: &str = "a count below the cheapest one of its slot";
 const RISES_AND_FALLS: &str = "the plan rises, falls and rises again";
 
-/// The kinds of small shows, each with how often it comes up at least.
-const SMALL_KINDS: [(&str, u64); 24] = [
-    ("exact", 110_000),
-    ("coarse", 110_000),
-    ("over a list", 110_000),
-    (ALL_PLANS, 100_000),
-    (TIES, 10_000),
-    (FALLING_TIES, 5_000),
-    (FALLS, 100_000),
-    (LEVEL, 10_000),
-    (NO_LOAD, 100_000),
-    (ALL_LIGHT, 100_000),
-    (AT_TOP, 100_000),
-    (FORCED, 100_000),
-    (KEPT_ON, 10_000),
-    (HELD_BACK, 10_000),
-    (RISES_AND_FALLS, 10_000),
-    ("V-shaped table", 10_000),
-    ("falling table", 10_000),
-    ("rising table", 10_000),
-    ("flat table", 10_000),
-    ("T 0", 10_000),
-    ("Q 1", 10_000),
-    ("m 1", 10_000),
-    ("both prices 0", 10_000),
-    ("falls to several lowest steps", 10_000),
+/// The kinds of shows of any size, each with how often it comes up at least among a hundred.
+const OFTEN: [(&str, u64); 20] = [
+    ("exact", 33),
+    ("coarse", 33),
+    ("over a list", 33),
+    (FALLS, 40),
+    (LEVEL, 10),
+    (NO_LOAD, 40),
+    (ALL_LIGHT, 40),
+    (AT_TOP, 40),
+    (FORCED, 40),
+    (KEPT_ON, 20),
+    (HELD_BACK, 3),
+    (RISES_AND_FALLS, 8),
+    ("V-shaped table", 15),
+    ("falling table", 20),
+    ("rising table", 20),
+    ("flat table", 15),
+    ("falls to several lowest steps", 15),
+    ("T 0", 2),
+    ("Q 1", 10),
+    ("both prices 0", 10),
 ];
 
 /// A load from 0 to what the rack gives, often 0, the most, or a multiple of the top step.
-fn small_load(random: &mut Random, modules: u64, top: u64) -> u16 {
+fn tied_load(random: &mut Random, modules: u64, top: u64) -> u16 {
     let any = random.below(modules * top + 1);
     let multiple = top * random.below(modules + 1);
     random.pick(&[0, modules * top, multiple, multiple, any, any, any]) as u16
 }
 
-/// A card with small numbers, so that ties are many. Every third show has few slots or few modules, so that it has few plans.
-fn small_card(random: &mut Random) -> Card {
-    let (modules, slots) = match random.below(6) {
-        0 => (1 + random.below(12), random.below(3)),
-        1 => (1 + random.below(3), random.below(6)),
-        _ => (1 + random.below(12), random.below(13)),
-    };
+/// A card with small numbers, so that ties are many.
+fn tied_card(random: &mut Random, modules: u64, slots: u64) -> Card {
     let (top, steepest) = (random.pick(&[1, 2, 2, 3, 4, 6]), random.pick(&[1, 1, 2, 3, 9]));
     let card = shows::card(random, modules, top, slots, steepest);
-    Card { loads: (0..slots).map(|_| small_load(random, modules, top)).collect(), ..card }
+    Card { loads: (0..slots).map(|_| tied_load(random, modules, top)).collect(), ..card }
 }
 
 /// The smallest of the counts that run a load at the least cost, if the slot stood alone and switching cost nothing.
@@ -145,7 +133,7 @@ fn is_level(show: &Show, counts: &[u64], load: u64) -> bool {
     costs.len() > 1 && costs.iter().all(|cost| *cost == costs[0])
 }
 
-/// The kinds of a small show and its plan.
+/// The kinds of a show and its plan.
 fn kinds(planner: Planner, card: &Card, show: &Show, plan: &[u8]) -> Vec<&'static str> {
     let (counts, all) = (counts(planner, show), show.modules * show.top);
     let below_full = show.top * counts[counts.len() - 2];
@@ -178,23 +166,44 @@ fn compare_with_all_plans(classes: &mut Classes, planner: Planner, card: &Card, 
     kinds.into_iter().filter(|(_, holds)| *holds).for_each(|(name, _)| classes.see(name));
 }
 
-#[test]
-fn small_shows() {
-    let names: Vec<&str> = SMALL_KINDS.iter().map(|(name, _)| *name).collect();
-    let mut classes = Classes::new("330,000 small shows by thresholds (seed 201)", &names);
-    let mut random = Random::new(201);
-    for turn in 0..SMALL_SHOWS {
-        let card = small_card(&mut random);
+/// Compares a show for each turn, of a size that is drawn, and counts the kinds of all.
+fn compare_shows(classes: &mut Classes, seed: u64, shows: u64, size: impl Fn(&mut Random) -> (u64, u64)) {
+    let mut random = Random::new(seed);
+    for turn in 0..shows {
+        let (modules, slots) = size(&mut random);
+        let card = tied_card(&mut random, modules, slots);
         let show = plain::read_card(&card.bytes()).expect("an accepted card");
-        let list = drawn_list(&mut random, show.modules);
+        let list = drawn_list(&mut random, modules);
         let planner = in_turn(&list, turn);
         let found = compare(&mut random, planner, &card, &show);
-        if counts(planner, &show).len().pow(show.slots() as u32) <= MOST_PLANS {
-            compare_with_all_plans(&mut classes, planner, &card, &show, &found);
+        if counts(planner, &show).len().saturating_pow(slots as u32) <= MOST_PLANS {
+            compare_with_all_plans(classes, planner, &card, &show, &found);
         }
         kinds(planner, &card, &show, &found.1).into_iter().for_each(|name| classes.see(name));
     }
-    require_often(&classes, &SMALL_KINDS);
+    classes.require_all();
+    let often: Vec<(&str, u64)> = OFTEN.iter().map(|(name, percent)| (*name, percent * shows / 100)).collect();
+    require_often(classes, &often);
+}
+
+/// Up to 12 modules and 12 slots. Every third show has few slots or few modules, and so few plans.
+#[test]
+fn small_shows() {
+    const KINDS: [(&str, u64); 4] = [(ALL_PLANS, 300_000), (TIES, 50_000), (FALLING_TIES, 20_000), ("m 1", 70_000)];
+    let mut classes = Classes::new("600,000 small shows by thresholds (seed 201)", &KINDS.map(|(name, _)| name));
+    compare_shows(&mut classes, 201, 600_000, |random| match random.below(6) {
+        0 => (1 + random.below(12), random.below(3)),
+        1 => (1 + random.below(3), random.below(6)),
+        _ => (1 + random.below(12), random.below(13)),
+    });
+    require_often(&classes, &KINDS);
+}
+
+/// Up to 200 modules and 30 slots.
+#[test]
+fn middle_shows() {
+    let mut classes = Classes::new("30,000 middle shows by thresholds (seed 203)", &[]);
+    compare_shows(&mut classes, 203, 30_000, |random| (13 + random.below(188), random.below(31)));
 }
 
 // ---------------------------------------------------------------- large shows
@@ -256,8 +265,8 @@ fn large_card(random: &mut Random, turn: u64) -> (Card, [&'static str; 2]) {
 #[test]
 fn large_shows() {
     let names: Vec<&str> = LARGE_KINDS.iter().map(|(name, _)| *name).collect();
-    let mut classes = Classes::new("400 large shows by thresholds (seed 202)", &names);
-    let mut random = Random::new(202);
+    let mut classes = Classes::new("400 large shows by thresholds (seed 205)", &names);
+    let mut random = Random::new(205);
     for turn in 0..LARGE_SHOWS {
         let (card, drawn) = large_card(&mut random, turn);
         let show = plain::read_card(&card.bytes()).expect("an accepted card");
@@ -269,5 +278,6 @@ fn large_shows() {
         let of_size = [(MANY_COUNTS, counts >= 50), (LARGEST, largest)].into_iter().filter(|(_, holds)| *holds);
         of_size.map(|(name, _)| name).chain(drawn).chain([name(planner)]).for_each(|name| classes.see(name));
     }
+    classes.require_all();
     require_often(&classes, &LARGE_KINDS);
 }
