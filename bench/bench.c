@@ -1,5 +1,6 @@
 /* Times the library's calls beside the same algorithms in plain C (plain.c), in one run, and prints ratios and growth.
- * Each figure is the fastest of many rounds; library and C take turns, on the same buffers. */
+ * Each figure is the fastest of many rounds; library and C take turns, on the same buffers. The planners are also timed on many shows,
+ * beside the search through columns too; there each figure is the median of the shows. */
 #define _POSIX_C_SOURCE 200809L
 #include <inttypes.h>
 #include <stdio.h>
@@ -11,6 +12,7 @@
 #include "plain.h"
 
 enum { ROUNDS = 60, STARTS = 10000, LOWEST = 80, TIMES = 10000, LAST = LAMP_MAX_SEATS, TOPS = 200, TABLES = 100 };
+enum { SHOWS = 301, DEAR = 14600 };
 enum { RACKS = 201, COUNTS = 202, PAIRS = (RACKS + 1) * (COUNTS + 1) };
 
 /* What is measured. The acts after SUBMIT are so short that a round makes each of them TIMES times. */
@@ -34,19 +36,47 @@ static void put(size_t at, uint64_t value, size_t bytes)
         card[at + k] = (uint8_t)(value >> (8 * k));
 }
 
-/* A card with a rising convex table and changing loads. */
+static uint64_t state;
+
+/* A random number below n. */
+static uint64_t below(uint64_t n)
+{
+    state ^= state << 13, state ^= state >> 7, state ^= state << 17;
+    return (state >> 20) % n;
+}
+
+/* A load for each slot, from 0 to what the rack gives: random ones, or slowly rising and falling ones, or one for all slots. */
+enum { RANDOM, SLOW, CONSTANT, LOADS };
+static const char *loads_names[LOADS] = {"random", "slow", "constant"};
+
+static void put_loads(int loads)
+{
+    uint64_t q = card[6], t = card[7] + 256u * card[8], most = card[5] * q, way = 0;
+    for (uint64_t k = 0; k < t; k++) {
+        if (k == 0 || loads == RANDOM)
+            way = below(most + 1);
+        else if (loads == SLOW)
+            way = (way + below(most / 50 + 1)) % (2 * most);
+        put(17 + 4 * (q + 1) + 2 * k, way <= most ? way : 2 * most - way, 2);
+    }
+}
+
+/* A card with the catalogue module's table, each entry higher by `dear`, and new loads. */
+static void make_dear_card(uint64_t m, uint64_t q, uint64_t t, uint64_t up, uint64_t down, uint64_t dear, int loads)
+{
+    memcpy(card, "DLS", 3);
+    put(3, 1, 2), put(5, m, 1), put(6, q, 1), put(7, t, 2), put(9, up, 4), put(13, down, 4);
+    for (uint64_t k = 0; k <= q; k++)
+        put(17 + 4 * k, dear + 400 + 3 * k + k * (k - (k > 0)) / 2, 4);
+    card_len = 17 + 4 * (q + 1) + 2 * t;
+    put_loads(loads);
+}
+
+/* A card with that table and with random loads, which are the same at each call. */
 static void make_card(uint64_t m, uint64_t q, uint64_t t)
 {
-    uint64_t state = 88172645463325252u;
-    memcpy(card, "DLS", 3);
-    put(3, 1, 2), put(5, m, 1), put(6, q, 1), put(7, t, 2), put(9, 900, 4), put(13, 700, 4);
-    for (uint64_t k = 0; k <= q; k++)
-        put(17 + 4 * k, 400 + 3 * k + k * (k - (k > 0)) / 2, 4);
-    for (uint64_t k = 0; k < t; k++) {
-        state ^= state << 13, state ^= state >> 7, state ^= state << 17;
-        put(17 + 4 * (q + 1) + 2 * k, (state >> 20) % (m * q + 1), 2);
-    }
-    card_len = 17 + 4 * (q + 1) + 2 * t;
+    state = 88172645463325252u;
+    make_dear_card(m, q, t, 900, 700, 0, RANDOM);
 }
 
 /* The same card with a convex table that falls up to step LOWEST and rises from there on. */
@@ -341,20 +371,17 @@ static void print_line(const char *name, const double best[2])
     printf("%-8s %10.1f %10.1f %8.2f\n", name, best[0], best[1], best[0] / best[1]);
 }
 
-/* Measures the planners, the sheet and marking on the card, and gives the exact planner's time. */
-static double measure_card(void)
+/* Measures the planners, the sheet and marking on the card. */
+static void measure_card(void)
 {
-    double best[2], exact = 0;
+    double best[2];
     for (int which = EXACT; which <= MARKING; which++) {
         /* sheet and marking take the plan and the sheet of the exact plan */
         if (which == SHEET)
             run(EXACT, 0);
         measure(which, best);
-        if (which == EXACT)
-            exact = best[0];
         print_line(names[which], best);
     }
-    return exact;
 }
 
 static void reverse(uint8_t *row)
@@ -437,6 +464,130 @@ static void measure_sitting(void)
     printf("open beside exact: %.2f times the time\n", beside(OPEN, EXACT));
 }
 
+/* How many times as long as on a card of that size the exact planner takes on the largest one. The two take turns. */
+static double growth(size_t m, size_t t)
+{
+    double best[2] = {1e18, 1e18};
+    for (int round = 0; round < ROUNDS; round++)
+        for (int large = 0; large < 2; large++) {
+            make_card(modules = large ? 200 : m, 200, slots = large ? 1024 : t);
+            double began = now();
+            run(EXACT, 0);
+            double took = now() - began;
+            if (took < best[large])
+                best[large] = took;
+        }
+    return best[1] / best[0];
+}
+
+/* What is measured of a show: the library, the search through columns in C and the thresholds in C on it, the library on a show with
+ * half the modules, and how many different counts the plan has. */
+enum { LIBRARY, SEARCH, THRESHOLDS, WAYS, HALF = WAYS, DIFFERENT, FIGURES };
+static const planner ways[2][WAYS] = {{lamp_plan_exact, plain_exact_search, plain_exact},
+                                      {lamp_plan_coarse, plain_coarse_search, plain_coarse}};
+
+/* Plans the card one way and gives the time. The work bytes asked for are then 0. */
+static double plan_once(int which, int way, struct lamp_answer *answer)
+{
+    size_t asked = which == COARSE ? 10 * slots : (modules + 1) * slots;
+    memset(work, 0xA5, asked);
+    double began = now();
+    *answer = ways[which][way](card, card_len, plan, slots, work, asked);
+    double took = now() - began;
+    if (answer->number != 0 || work[0] != 0 || memcmp(work, work + 1, asked - 1)) {
+        printf("refused, or the work bytes are not 0: %s, way %d\n", names[which], way);
+        exit(1);
+    }
+    return took;
+}
+
+/* Plans the card each way, beginning with another one for each show. All ways give the same cost and plan. */
+static void plan_show(int which, int show, double *times)
+{
+    static uint8_t first_plan[sizeof plan];
+    struct lamp_answer first = {0, 0}, answer;
+    for (int k = 0; k < WAYS; k++) {
+        int way = (show + k) % WAYS;
+        times[way] = plan_once(which, way, &answer);
+        if (k == 0) {
+            first = answer;
+            memcpy(first_plan, plan, slots);
+        }
+        if (answer.cost != first.cost || memcmp(first_plan, plan, slots)) {
+            printf("the three disagree: %s, show %d, way %d\n", names[which], show, way);
+            exit(1);
+        }
+    }
+}
+
+static int in_order(const void *first, const void *second)
+{
+    double a = *(const double *)first, b = *(const double *)second;
+    return (a > b) - (a < b);
+}
+
+/* How many different counts the plan has. */
+static int different_counts(void)
+{
+    uint8_t seen[256] = {0};
+    int n = 0;
+    for (size_t t = 0; t < slots; t++) {
+        n += !seen[plan[t]];
+        seen[plan[t]] = 1;
+    }
+    return n;
+}
+
+/* The medians over shows with new loads each. */
+static void measure_shows(int which, int spread, int loads, double median[FIGURES])
+{
+    static double all[FIGURES][SHOWS];
+    uint64_t price = spread ? 8000 : 800, dear = spread ? DEAR : 0;
+    for (int show = 0; show < SHOWS; show++) {
+        struct lamp_answer answer;
+        double one[FIGURES];
+        make_dear_card(modules = 100, 200, slots = 1024, price, price, dear, loads);
+        one[HALF] = plan_once(which, LIBRARY, &answer);
+        make_dear_card(modules = 200, 200, slots = 1024, price, price, dear, loads);
+        plan_show(which, show, one);
+        one[DIFFERENT] = different_counts();
+        for (int k = 0; k < FIGURES; k++)
+            all[k][show] = one[k];
+    }
+    for (int k = 0; k < FIGURES; k++) {
+        qsort(all[k], SHOWS, sizeof all[k][0], in_order);
+        median[k] = all[k][SHOWS / 2];
+    }
+}
+
+/* A line for each table and kind of loads. On the spread table each entry is so dear that the counts of an exact plan spread over the
+ * rack, if its loads do. */
+static void measure_kinds(int which)
+{
+    for (int spread = 0; spread < 2; spread++)
+        for (int loads = 0; loads < LOADS; loads++) {
+            double m[FIGURES];
+            measure_shows(which, spread, loads, m);
+            if (which == EXACT && spread && loads != CONSTANT && m[DIFFERENT] < 100) {
+                printf("the counts do not spread over the rack\n");
+                exit(1);
+            }
+            printf("%-7s %-10s %-9s %8.1f %8.1f %10.1f %9.2f %9.2f %9.2f %7.2f %7.0f\n", names[which], spread ? "spread" : "catalogue",
+                   loads_names[loads], m[LIBRARY], m[SEARCH], m[THRESHOLDS], m[LIBRARY] / m[SEARCH], m[LIBRARY] / m[THRESHOLDS],
+                   m[SEARCH] / m[THRESHOLDS], m[LIBRARY] / m[HALF], m[DIFFERENT]);
+        }
+}
+
+static void measure_many_shows(void)
+{
+    printf("m 200, Q 200, T 1,024 (microseconds, medians of %d shows with new loads each)\n", SHOWS);
+    printf("l: library, s: search in C, t: thresholds in C; growth: the library, m 100 to 200; counts: different ones in a plan\n");
+    printf("%-7s %-10s %-9s %8s %8s %10s %9s %9s %9s %7s %7s\n", "call", "table", "loads", "library", "search", "thresholds", "l / s",
+           "l / t", "s / t", "growth", "counts");
+    measure_kinds(EXACT);
+    measure_kinds(COARSE);
+}
+
 int main(void)
 {
     double best[2];
@@ -444,7 +595,7 @@ int main(void)
     make_card(modules, 200, slots);
     printf("m 200, Q 200, T 1,024 (microseconds, fastest of %d)\n", ROUNDS);
     printf("%-8s %10s %10s %8s\n", "call", "library", "C -O3", "ratio");
-    double whole = measure_card();
+    measure_card();
     measure_groups();
     measure_explain();
     measure_sitting();
@@ -467,11 +618,8 @@ int main(void)
     printf("the rounded counts of 0 to %d in racks of 0 to %d\n", COUNTS, RACKS);
     print_line(names[ROUNDED], best);
     printf("rounded: %.2f nanoseconds a call, in C %.2f\n", best[0] * 1e3 / PAIRS, best[1] * 1e3 / PAIRS);
-    make_card(modules, 200, slots = 512);
-    measure(EXACT, best);
-    printf("exact, T 512 to 1,024: %.2f times the time\n", whole / best[0]);
-    make_card(modules = 100, 200, slots = 1024);
-    measure(EXACT, best);
-    printf("exact, m 100 to 200: %.2f times the time\n", whole / best[0]);
+    printf("exact, T 512 to 1,024: %.2f times the time\n", growth(200, 512));
+    printf("exact, m 100 to 200: %.2f times the time\n", growth(100, 1024));
+    measure_many_shows();
     return 0;
 }

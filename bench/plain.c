@@ -1,5 +1,6 @@
-/* The same algorithms hand-written in C, for bench.c to compare with. Each checks the card as the library does. They
- * use that the table of an accepted card is convex: G and the active step of a step then need no search. */
+/* The same algorithms hand-written in C, for bench.c to compare with, and the planners once more by the search through columns, which
+ * does not use that running costs are convex. Each checks the card as the library does. They use that the table of an accepted card
+ * is convex: G and the active step of a step then need no search. */
 #include "plain.h"
 
 #include <string.h>
@@ -65,8 +66,23 @@ static uint64_t running_cost(const struct show *i, uint64_t n, uint64_t l)
     return r == 0 ? low : low + r * entry(i, q + 1);
 }
 
+/* The cost of a plan that serves: what the counts cost to run, and both prices for each module that starts. */
+static uint64_t plan_cost(const struct show *i, const uint8_t *plan)
+{
+    uint64_t cost = 0, before = 0;
+    for (uint64_t t = 0; t < i->slots; t++) {
+        uint64_t n = plan[t];
+        cost += running_cost(i, n, load(i, t));
+        if (before < n)
+            cost += (i->up + i->down) * (n - before);
+        before = n;
+    }
+    return cost;
+}
+
 static struct lamp_answer refused(uint64_t number) { return (struct lamp_answer){number, 0}; }
 
+/* The least plan by columns: a cost for each slot and place. It takes a time that grows with slots times places. */
 static struct lamp_answer search(const struct show *i, const uint64_t *counts, size_t width, uint8_t *plan, uint8_t *work,
                                  size_t asked)
 {
@@ -109,7 +125,76 @@ static struct lamp_answer search(const struct show *i, const uint64_t *counts, s
     return (struct lamp_answer){0, column[0]};
 }
 
-struct lamp_answer plain_exact(const uint8_t *card, size_t card_len, uint8_t *plan, size_t plan_len, uint8_t *work, size_t work_len)
+/* What is known of a slot and a place of the list: the least plan is not at the place or above; it is just if it is in the next
+ * slot; it is at the place or above. */
+enum { OFF, KEEP, ON };
+
+/* Marks each slot for the place `digit` above the plan's. `lead` is how much dearer the slots before make that place than the one
+ * below it. A slot before with another place settles it: nothing if that place is above, the whole price if it is below. So it is
+ * for the first slot, before which no module is on. */
+static void forward(const struct show *i, const uint64_t *counts, size_t last, size_t digit, const uint8_t *plan, uint8_t *marks)
+{
+    int before = -1;
+    uint64_t lead = 0;
+    for (uint64_t t = 0; t < i->slots; t++) {
+        size_t place = plan[t] + digit;
+        if (place > last) {
+            marks[t] = OFF;
+            before = plan[t];
+            continue;
+        }
+        uint64_t l = load(i, t), n = counts[place], below = counts[place - 1], price = (i->up + i->down) * (n - below);
+        if (plan[t] != before)
+            lead = plan[t] < before ? 0 : price;
+        before = plan[t];
+        if (below * i->top < l) {
+            marks[t] = ON;
+            lead = 0;
+            continue;
+        }
+        uint64_t with = lead + running_cost(i, n, l), without = running_cost(i, below, l);
+        marks[t] = (uint8_t)((with < without) + (with < without + price));
+        lead = with < without ? 0 : with - without;
+        if (lead > price)
+            lead = price;
+    }
+}
+
+/* Raises the plan by the digit where the marks say so. After the last slot no module is on. */
+static void backward(uint64_t slots, size_t digit, uint8_t *plan, const uint8_t *marks)
+{
+    size_t after = 0;
+    for (uint64_t t = slots; t-- > 0;) {
+        size_t place = plan[t] + digit;
+        if (marks[t] + (place <= after) >= 2)
+            plan[t] = (uint8_t)place;
+        after = plan[t];
+    }
+}
+
+/* The least plan by thresholds: its places are found a binary digit at a time, the highest first, which is right since the running
+ * cost of an accepted card is convex in the count. It takes a time that grows with slots times digits. */
+static struct lamp_answer thresholds(const struct show *i, const uint64_t *counts, size_t width, uint8_t *plan, uint8_t *work,
+                                     size_t asked)
+{
+    size_t last = width - 1, digit = 1;
+    while (2 * digit <= last)
+        digit *= 2;
+    memset(plan, 0, i->slots);
+    for (; digit > 0; digit /= 2) {
+        forward(i, counts, last, digit, plan, work);
+        backward(i->slots, digit, plan, work);
+    }
+    for (uint64_t t = 0; t < i->slots; t++)
+        plan[t] = (uint8_t)counts[plan[t]];
+    memset(work, 0, asked);
+    return (struct lamp_answer){0, plan_cost(i, plan)};
+}
+
+typedef struct lamp_answer (*finder)(const struct show *, const uint64_t *, size_t, uint8_t *, uint8_t *, size_t);
+
+static struct lamp_answer exact_by(finder find, const uint8_t *card, size_t card_len, uint8_t *plan, size_t plan_len, uint8_t *work,
+                                   size_t work_len)
 {
     struct show i;
     uint64_t number = read_card(card, card_len, &i);
@@ -122,10 +207,21 @@ struct lamp_answer plain_exact(const uint8_t *card, size_t card_len, uint8_t *pl
     uint64_t counts[201];
     for (size_t j = 0; j <= i.modules; j++)
         counts[j] = j;
-    return search(&i, counts, i.modules + 1, plan, work, asked);
+    return find(&i, counts, i.modules + 1, plan, work, asked);
 }
 
-struct lamp_answer plain_coarse(const uint8_t *card, size_t card_len, uint8_t *plan, size_t plan_len, uint8_t *work, size_t work_len)
+struct lamp_answer plain_exact(const uint8_t *card, size_t card_len, uint8_t *plan, size_t plan_len, uint8_t *work, size_t work_len)
+{
+    return exact_by(thresholds, card, card_len, plan, plan_len, work, work_len);
+}
+
+struct lamp_answer plain_exact_search(const uint8_t *card, size_t card_len, uint8_t *plan, size_t plan_len, uint8_t *work, size_t work_len)
+{
+    return exact_by(search, card, card_len, plan, plan_len, work, work_len);
+}
+
+static struct lamp_answer coarse_by(finder find, const uint8_t *card, size_t card_len, uint8_t *plan, size_t plan_len, uint8_t *work,
+                                    size_t work_len)
 {
     struct show i;
     uint64_t number = read_card(card, card_len, &i);
@@ -140,7 +236,18 @@ struct lamp_answer plain_coarse(const uint8_t *card, size_t card_len, uint8_t *p
         counts[width++] = power;
     if (counts[width - 1] != i.modules)
         counts[width++] = i.modules;
-    return search(&i, counts, width, plan, work, 10 * i.slots);
+    return find(&i, counts, width, plan, work, 10 * i.slots);
+}
+
+struct lamp_answer plain_coarse(const uint8_t *card, size_t card_len, uint8_t *plan, size_t plan_len, uint8_t *work, size_t work_len)
+{
+    return coarse_by(thresholds, card, card_len, plan, plan_len, work, work_len);
+}
+
+struct lamp_answer plain_coarse_search(const uint8_t *card, size_t card_len, uint8_t *plan, size_t plan_len, uint8_t *work,
+                                       size_t work_len)
+{
+    return coarse_by(search, card, card_len, plan, plan_len, work, work_len);
 }
 
 /* Whether a list of counts and its ratio keep the rules. The first gap may be the ratio, and each later one the ratio times the
@@ -176,7 +283,7 @@ struct lamp_answer plain_groups(const uint8_t *card, size_t card_len, const uint
     uint64_t counts[201];
     for (size_t j = 0; j < list_len; j++)
         counts[j] = list[j];
-    return search(&i, counts, list_len, plan, work, list_len * i.slots);
+    return thresholds(&i, counts, list_len, plan, work, list_len * i.slots);
 }
 
 struct lamp_answer plain_sheet(const uint8_t *card, size_t card_len, const uint8_t *plan, size_t plan_len, uint8_t *sheet, size_t sheet_len)
@@ -196,14 +303,7 @@ struct lamp_answer plain_sheet(const uint8_t *card, size_t card_len, const uint8
         if (load(&i, t) > plan[t] * i.top)
             return refused(13);
     i.lowest = lowest_step(&i);
-    uint64_t cost = 0, before = 0;
-    for (uint64_t t = 0; t < i.slots; t++) {
-        uint64_t n = plan[t];
-        cost += running_cost(&i, n, load(&i, t));
-        if (before < n)
-            cost += (i.up + i.down) * (n - before);
-        before = n;
-    }
+    uint64_t cost = plan_cost(&i, plan);
     for (uint64_t t = 0; t < i.slots; t++) {
         uint8_t *row = sheet + t * i.modules;
         uint64_t n = plan[t], q = 0, r = 0;

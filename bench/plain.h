@@ -5,6 +5,8 @@
 
 struct lamp_answer plain_exact(const uint8_t *, size_t, uint8_t *, size_t, uint8_t *, size_t);
 struct lamp_answer plain_coarse(const uint8_t *, size_t, uint8_t *, size_t, uint8_t *, size_t);
+struct lamp_answer plain_exact_search(const uint8_t *, size_t, uint8_t *, size_t, uint8_t *, size_t);
+struct lamp_answer plain_coarse_search(const uint8_t *, size_t, uint8_t *, size_t, uint8_t *, size_t);
 struct lamp_answer plain_groups(const uint8_t *, size_t, const uint16_t *, size_t, uint64_t, uint8_t *, size_t, uint8_t *, size_t);
 struct lamp_answer plain_sheet(const uint8_t *, size_t, const uint8_t *, size_t, uint8_t *, size_t);
 struct lamp_answer plain_mark(const uint8_t *, size_t, const uint8_t *, size_t);
