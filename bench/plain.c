@@ -11,8 +11,21 @@ struct show {
     uint64_t lowest; /* for the running cost and the sheet */
 };
 
-static uint64_t two(const uint8_t *s) { return s[0] + 256u * (uint64_t)s[1]; }
-static uint64_t four(const uint8_t *s) { return two(s) + 65536u * two(s + 2); }
+/* On x86-64 the bytes of a number in memory are those of a card's field. gcc makes one load of a copy, and not of bytes that are added up. */
+static uint64_t two(const uint8_t *s)
+{
+    uint16_t value;
+    memcpy(&value, s, 2);
+    return value;
+}
+
+static uint64_t four(const uint8_t *s)
+{
+    uint32_t value;
+    memcpy(&value, s, 4);
+    return value;
+}
+
 static uint64_t entry(const struct show *i, uint64_t k) { return four(i->table + 4 * k); }
 static uint64_t load(const struct show *i, uint64_t t) { return two(i->loads + 2 * t); }
 
@@ -361,7 +374,7 @@ static uint32_t draw(uint32_t *s)
     return *s ^= *s << 5;
 }
 
-/* On x86-64 the bytes of a number in memory are those of a card's field. Each gives the place after the field. */
+/* Each gives the place after the field. */
 static uint8_t *put_two(uint8_t *at, uint16_t value)
 {
     memcpy(at, &value, 2);
