@@ -1,5 +1,5 @@
-//! The planners, which look for the least plan by thresholds, against the plain dynamic program over columns: many small shows with many
-//! ties, of which the smallest are also compared with all plans in turn, and some hundred large ones. Every byte of both areas is compared.
+//! The planners, which look for the least plan by thresholds, against the plain dynamic program over columns: small and middle shows with
+//! many ties, of which the smallest are also compared with all plans in turn, and large ones. Every byte of both areas is compared.
 use lamp::planning::Groups;
 use lamp_tests::boundary::{self, difference, Planner};
 use lamp_tests::cards::Card;
@@ -223,11 +223,11 @@ const LARGE_KINDS: [(&str, u64); 10] = [
     ("random loads", 130),
     ("slowly varying loads", 130),
     ("the same load in every slot", 130),
-    (MANY_COUNTS, 40),
-    (LARGEST, 20),
+    (MANY_COUNTS, 70),
+    (LARGEST, 130),
 ];
 
-/// The catalogue's table, or that table with a first entry so high that few modules at a high step cost less than many at a low one.
+/// The catalogue's table, or that table with every entry so much higher that few modules at a high step cost less than many at a low one.
 fn large_table(top: u64, spread: bool) -> Vec<u32> {
     let mut table: Vec<u32> = (0..=top).map(|step| catalogue::entry(step) as u32).collect();
     if spread {
