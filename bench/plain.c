@@ -72,9 +72,9 @@ static uint64_t running_cost(const struct show *i, uint64_t n, uint64_t l)
 {
     if (n == 0)
         return 0;
-    if (l < n * i->lowest) /* all n are active at the lowest step; tested before the division, which gcc makes faster code of */
-        return n * entry(i, i->lowest);
     uint64_t q = l / n, r = l % n;
+    if (q < i->lowest) /* all n are active at the lowest step */
+        return n * entry(i, i->lowest);
     uint64_t low = (n - r) * entry(i, q);
     return r == 0 ? low : low + r * entry(i, q + 1);
 }
