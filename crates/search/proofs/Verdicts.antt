@@ -13,22 +13,11 @@ use Rattle.thresholds.specs.Places.{countAtPlace, lastPlace}
 use Rattle.thresholds.specs.ThresholdLaws.{less-one, less-zero}
 use Rattle.thresholds.specs.Thresholds.{isLess, weighed, levelPrice, judge, carried, raisedPlace}
 
--- A verdict by what the place above a level costs, what the place below it costs, and what rising over the level costs.
-module _ (w upper lower : ℕ) where
-  pub weighed-above : upper < lower → record { lead = 0; side = 2 } ≡ weighed w upper lower
-  weighed-above h =
-      let least : min w (upper - lower) ≡ 0 = omega arith in
-      rw (less-one upper lower h, less-one upper (lower + w) (omega arith), least)
-
-  pub weighed-same : lower ≤ upper → upper - lower < w → record { lead = upper - lower; side = 1 } ≡ weighed w upper lower
-  weighed-same from h =
-      let least : min w (upper - lower) ≡ upper - lower = omega arith in
-      rw (less-zero upper lower from, less-one upper (lower + w) (omega arith), least)
-
-  pub weighed-below : lower ≤ upper → w ≤ upper - lower → record { lead = w; side = 0 } ≡ weighed w upper lower
-  weighed-below from h =
-      let least : min w (upper - lower) ≡ w = omega arith in
-      rw (less-zero upper lower from, less-zero upper (lower + w) (omega arith), least)
+-- A verdict by its parts: the test on each side, and the truncated difference up to the price.
+pub verdict-is :
+    (w upper lower : ℕ) {side side′ lead : ℕ} → side ≡ isLess upper lower → side′ ≡ isLess upper (lower + w) → lead ≡ min w (upper - lower) →
+    record { lead = lead; side = side + side′ } ≡ weighed w upper lower
+verdict-is w upper lower a b c = rw (a, b, c) refl
 
 module _ (i : Instance) (counts : List ℕ) (j l lead : ℕ) where
   -- Beyond the list no plan is above the level.
@@ -50,17 +39,19 @@ module _ (i : Instance) (counts : List ℕ) (j l lead : ℕ) where
     unfolding judge canServe
     judge-weighed h = rw (lt-leb (lastPlace counts) j within, le-leb l (countAtPlace counts j * i .topStep) h)
 
-  pub carried-same : (before here : ℕ) → here ≡ before → lead ≡ carried i counts before here j lead
+-- The lead that is carried over to a level with the price w.
+module _ (w before here lead : ℕ) where
+  pub carried-same : here ≡ before → lead ≡ carried w before here lead
   unfolding carried
-  carried-same before here e = rw (eq-eqb here before e)
+  carried-same e = rw (eq-eqb here before e)
 
-  pub carried-above : (before here : ℕ) → here < before → 0 ≡ carried i counts before here j lead
+  pub carried-above : here < before → 0 ≡ carried w before here lead
   unfolding carried
-  carried-above before here h = rw (ne-eqb here before (λ e. omega arith), le-leb here before (le-of-lt h))
+  carried-above h = rw (ne-eqb here before (λ e. omega arith), le-leb here before (le-of-lt h))
 
-  pub carried-below : (before here : ℕ) → before < here → levelPrice i counts j ≡ carried i counts before here j lead
+  pub carried-below : before < here → w ≡ carried w before here lead
   unfolding carried
-  carried-below before here h = rw (ne-eqb here before (λ e. omega arith), lt-leb here before h)
+  carried-below h = rw (ne-eqb here before (λ e. omega arith), lt-leb here before h)
 
 -- The place after a round with the width b.
 module _ (b here side next : ℕ) where

@@ -17,6 +17,11 @@ pub record OnCard (s : List ℕ) (h : Header) (counts : List ℕ) : Type 0 where
 abbrev pub mostLead : ℕ
 mostLead = 200000000000
 
+-- A level's price, and what the place below it costs.
+pub record Weighable (price lower : ℕ) : Type 0 where
+  pub priced : price ≤ mostLead
+  pub served : lower ≤ 200000000
+
 -- An accepted card with its counts, and a lead that a level may have.
 pub record LevelReady (s : List ℕ) (h : Header) (counts : List ℕ) (lead : ℕ) : Type 0 where
   pub on-card : OnCard s h counts

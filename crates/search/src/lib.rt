@@ -1,16 +1,17 @@
 // The search over a list of allowed counts (thesis 4.2, 5.1), by thresholds: a round forward and backward through the slots for each binary
 // digit of the places. A place is an index of the list, and level j lies between place j and place j + 1.
 use card::Header;
+ghost use Prim.Native.Nat.{_-_, min};
 ghost use mathlib.Core.Path.{_≡_};
 ghost use lib.ListN.{length, replicate};
 ghost use Rattle.lists.specs.Lists.{tabulate};
 ghost use Rattle.model.specs.Instance.{instanceOf};
 ghost use Rattle.counts.specs.AllowedCounts.{powersUpTo};
 ghost use Rattle.thresholds.specs.Places.{lastPlace};
-ghost use Rattle.thresholds.specs.Thresholds.{weighed, levelPrice, carried, judge as judged, raisedPlace};
+ghost use Rattle.thresholds.specs.Thresholds.{isLess, weighed, levelPrice, carried, judge as judged, raisedPlace};
 ghost use Rattle.thresholds.specs.Thresholds.{forward as sidesFound, backward as placesRaised, rounds as placesFound, thresholdPlan};
 ghost use Rattle.search.specs.Written.{verdictOf, countsAt};
-ghost use Rattle.search.specs.SearchRequires.{OnCard, LevelReady, Raisable, RoundReady, BackReady, RoundsReady, Placed, Searchable};
+ghost use Rattle.search.specs.SearchRequires.{OnCard, Weighable, LevelReady, Raisable, RoundReady, BackReady, RoundsReady, Placed, Searchable};
 
 // What a slot says of a level: how much dearer the slots up to it make the place above the level than the place below it; and the side of the
 // level on which the least plan is in the slot, 2 above, 0 below, 1 where it is in the next slot.
@@ -25,24 +26,35 @@ fn wide(x: u8) -> usize
     x as usize
 }
 
+// One if x is less than y, and otherwise 0.
+fn is_less(x: u64, y: u64) -> u8
+    ensures { λ r. ⌜ r ≡ isLess x y ⌝ }
+{
+    if x < y { 1 } else { 0 }
+}
+
+// How much more x is than y, and 0 if it is not more.
+fn excess(x: u64, y: u64) -> u64
+    ensures { λ r. ⌜ r ≡ x - y ⌝ }
+{
+    if y < x { x - y } else { 0 }
+}
+
+// The smaller of two numbers.
+fn smaller(x: u64, y: u64) -> u64
+    ensures { λ r. ⌜ r ≡ min x y ⌝ }
+{
+    if x < y { x } else { y }
+}
+
 // The verdict where the place above a level costs upper and the place below it lower, and rising over the level costs price.
 fn weigh(price: u64, upper: u64, lower: u64) -> Verdict
+    requires { ⌜ Weighable price lower ⌝ }
     ensures { λ r. ⌜ verdictOf r ≡ weighed price upper lower ⌝ }
 {
-    if upper < lower {
-        return Verdict { lead: 0, side: 2 };
-    }
-    let more = upper - lower;
-    if more < price {
-        return Verdict {
-            lead: more,
-            side: 1,
-        };
-    }
-    Verdict {
-        lead: price,
-        side: 0,
-    }
+    let side = is_less(upper, lower) + is_less(upper, lower + price);
+    let lead = smaller(price, excess(upper, lower));
+    Verdict { lead, side }
 }
 
 // The price of rising over a level, 0 beyond the list.
@@ -77,26 +89,14 @@ fn judge(card: &[u8], h: Header, counts: &[u64], level: usize, l: u64, lead: u64
 }
 
 // The lead of a level, where the place so far is before in the slot before and place in this one. If they are equal, the slot before has the
-// same level; if not, it is above the level, or below it.
-fn carry(
-    card: &[u8],
-    h: Header,
-    counts: &[u64],
-    before: usize,
-    place: usize,
-    level: usize,
-    lead: u64,
-) -> u64
-    requires { ⌜ OnCard (now card) h (now counts) ⌝ }
-    ensures { λ r. ⌜ r ≡ carried (instanceOf (now (card .entry))) (now (counts .entry)) before place level lead ⌝ }
+// same level, and its lead; if not, it is above the level, or below it.
+fn carry(price: u64, before: usize, place: usize, lead: u64) -> u64
+    ensures { λ r. ⌜ r ≡ carried price before place lead ⌝ }
 {
     if place == before {
         return lead;
     }
-    if place < before {
-        return 0;
-    }
-    level_price(card, h, counts, level)
+    if place < before { 0 } else { price }
 }
 
 // Forward through the slots: each slot's side of the level in the middle of the places that are left to it. Before the first slot the place is 0.
@@ -111,7 +111,8 @@ fn forward(card: &[u8], h: Header, counts: &[u64], width: usize, plan: &[u8], si
     while t < plan.len() {
         let place = wide(plan[t]);
         let level = place + reach;
-        let carried = carry(card, h, counts, before, place, level, lead);
+        let price = level_price(card, h, counts, level);
+        let carried = carry(price, before, place, lead);
         let verdict = judge(
             card,
             h,

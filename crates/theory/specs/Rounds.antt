@@ -12,7 +12,7 @@ use Rattle.lists.specs.Numbers.{le-or-lt}
 use Rattle.lists.specs.Lists.{tabulate, length-tabulate, getD-tabulate}
 use Rattle.model.specs.Instance.{Instance}
 use Rattle.thresholds.specs.Places.{lastPlace, Ascending}
-use Rattle.thresholds.specs.Thresholds.{judge, carried, levelAt, leadBefore, sideAt, raisedAt, inSlot, forward, backward, round, rounds}
+use Rattle.thresholds.specs.Thresholds.{levelPrice, judge, carried, levelAt, leadBefore, sideAt, raisedAt, inSlot, forward, backward, round, rounds}
 use Rattle.thresholds.specs.ThresholdLaws.{side-beyond, raised-step, raised-end}
 use Rattle.theory.specs.Hypotheses.{Plannable}
 use Rattle.theory.specs.Columns.{placeFromEnd, placeIn}
@@ -123,7 +123,7 @@ module _ (i : Instance) (counts : List ℕ) (start : ℕ) where
           (level b plan t + 1 < length counts → Near (level b plan t) (place t) lead (slope i counts start t (level b plan t))) →
           Apart (b + b) (plan t) (plan (suc t)) →
           Near (level b plan (suc t)) (place (suc t))
-          (carried i counts (plan t) (plan (suc t)) (level b plan (suc t)) (judge i counts (level b plan t) (i .load t) lead .lead))
+          (carried (levelPrice i counts (level b plan (suc t))) (plan t) (plan (suc t)) (judge i counts (level b plan t) (i .load t) lead .lead))
           (slope i counts start (suc t) (level b plan (suc t)))
       unfolding carried
       carried-near t lead h inside near (equal e) =

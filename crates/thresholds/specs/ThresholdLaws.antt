@@ -85,19 +85,15 @@ module _ (i : Instance) (counts : List ℕ) (j l lead : ℕ) where
       (λ (inside : j + 1 < length counts). inside)
       (le-or-lt (length counts) (j + 1))
 
--- A lead that is carried over to the next slot is at most the price of rising over its level, if that holds where the level stays.
-pub carried-most :
-    (i : Instance) (counts : List ℕ) (before here j lead : ℕ) → (here ≡ before → lead ≤ levelPrice i counts j) →
-    carried i counts before here j lead ≤ levelPrice i counts j
+-- What bounds a lead and the price of a level bounds the lead that is carried over to the next slot.
+pub carried-most : (w before here lead most : ℕ) → lead ≤ most → w ≤ most → carried w before here lead ≤ most
 unfolding carried
-carried-most i counts before here j lead most = by-tests (eqb here before) refl (leb here before)
+carried-most w before here lead most small price = by-tests (eqb here before) (leb here before)
   where
-    by-tests :
-        (same : Bool) → eqb here before ≡ same → (falls : Bool) →
-        cond same lead (cond falls 0 (levelPrice i counts j)) ≤ levelPrice i counts j
-    by-tests true e falls = most (eqb-true _ _ e)
-    by-tests false e true = omega arith
-    by-tests false e false = omega arith
+    by-tests : (same falls : Bool) → cond same lead (cond falls 0 w) ≤ most
+    by-tests true falls = small
+    by-tests false true = omega arith
+    by-tests false false = price
 
 -- A place that a round raises is a place of a list with n entries, if a side above 0 is found inside the list only. Where the side is 0 the
 -- next slot's place alone does not raise it.

@@ -43,10 +43,10 @@ judge i counts j l lead =
 unfoldable pub firstLead : Instance → List ℕ → (start j : ℕ) → ℕ
 firstLead i counts start j = min (levelPrice i counts j) (switchingPrice i * (countAtPlace counts (j + 1) - start))
 
--- The lead of level j, where the plan so far is at `before` in the slot before and `here` in this one. If the two are equal, the slot before
--- has the same level. If not, the slot before is known to be above the level, or below it.
-unfoldable pub carried : Instance → List ℕ → (before here j lead : ℕ) → ℕ
-carried i counts before here j lead = cond (eqb here before) lead (cond (leb here before) 0 (levelPrice i counts j))
+-- The lead of a level with the price w, where the plan so far is at `before` in the slot before and `here` in this one. If the two are equal,
+-- the slot before has the same level, and its lead. If not, the slot before is known to be above the level, or below it.
+unfoldable pub carried : (w before here lead : ℕ) → ℕ
+carried w before here lead = cond (eqb here before) lead (cond (leb here before) 0 w)
 
 -- The place after a round with the width b, by the side found and the next slot's place after the round.
 unfoldable pub raisedPlace : (b here side next : ℕ) → ℕ
@@ -62,7 +62,7 @@ module _ (i : Instance) (counts : List ℕ) (start b : ℕ) (plan : ℕ → ℕ)
   unfoldable pub leadBefore : ℕ → ℕ
   leadBefore zero = firstLead i counts start (levelAt 0)
   leadBefore (suc t) =
-      carried i counts (plan t) (plan (suc t)) (levelAt (suc t)) (judge i counts (levelAt t) (i .load t) (leadBefore t) .lead)
+      carried (levelPrice i counts (levelAt (suc t))) (plan t) (plan (suc t)) (judge i counts (levelAt t) (i .load t) (leadBefore t) .lead)
 
   -- The side that is found in slot t.
   unfoldable pub sideAt : ℕ → ℕ

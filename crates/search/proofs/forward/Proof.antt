@@ -37,24 +37,33 @@ add-level c =
     let p = start (c .before .before .before) .pre in
     omega (arith, p .width .most, c .wide .ensures, c .before .shared-slice-known4 .given (c .before .before .before .loop .t) .fits)
 
+level-price-requires-2 : tie.Need-level-price-requires-2 Inv-loop μ-loop
+level-price-requires-2 c κs = start (c .before .before .before) .pre .on-card
+
 carry-requires : tie.Need-carry-requires Inv-loop μ-loop
-carry-requires c κs = start (c .before .before .before) .pre .on-card
+carry-requires c κs = tt
 
 load-requires : tie.Need-load-requires Inv-loop μ-loop
 load-requires c κs =
-    let test = c .before .before .before in
+    let test = c .before .before .before .before in
     let p = start (test .before) .pre in
     load-there (p .on-card .ready) (omega (arith, p .plan-size, test .loop-test .taken))
 
 judge-requires : tie.Need-judge-requires Inv-loop μ-loop
 judge-requires c κs =
-    let loop = c .before .before .before .before .before in
+    let carry = c .before in
+    let wide = carry .before .before in
+    let loop = wide .before .before .before in
     let p = start loop .pre in
-    record { on-card = p .on-card; small = carried-small (p .on-card) _ _ _ (loop .loop .inv .small) (c .before .carry .ensures) }
+    record {
+      on-card = p .on-card;
+      small =
+          carried-small p (loop .loop .inv) (wide .wide .ensures) refl (carry .before .level-price2 .ensures) (carry .carry .ensures);
+    }
 
 slice-write-sides : tie.Need-slice-write-sides Inv-loop μ-loop
 slice-write-sides c =
-    let loop = c .before .before .before .before .before .before in
+    let loop = c .before .before .before .before .before .before .before in
     let p = start loop .pre in
     omega (arith, loop .loop .inv .written .size, p .plan-size, p .sides-size)
 
@@ -63,9 +72,11 @@ loop-less c = omega arith
 
 loop-again : tie.Need-loop-again Inv-loop μ-loop
 loop-again c =
-    let loop = c .before .before .before .before .before .before in
+    let carry = c .before .before in
+    let wide = carry .before .before in
+    let loop = wide .before .before .before in
     let p = start loop .pre in
-    forward-turns p (loop .loop .inv) (c .before .before .before .wide .ensures) refl (c .before .before .carry .ensures)
+    forward-turns p (loop .loop .inv) (wide .wide .ensures) refl (carry .before .level-price2 .ensures) (carry .carry .ensures)
     (c .before .load .ensures .is) (c .judge .ensures) (omega (arith, p .plan-size, p .sides-size))
 
 same-length : tie.Need-same-length Inv-loop μ-loop
@@ -76,5 +87,5 @@ returns c = forward-ends (start (c .before) .pre) (c .before .loop .inv) (c .loo
 
 pub forward-spec : {M : Type 1} → statement M
 forward-spec =
-    tie.close (tie.spec Inv-loop μ-loop sub-reach level-price-requires loop-holds (λ c. omega arith) wide-requires add-level carry-requires
-    load-requires judge-requires slice-write-sides (λ c. omega arith) loop-less loop-again same-length returns)
+    tie.close (tie.spec Inv-loop μ-loop sub-reach level-price-requires loop-holds (λ c. omega arith) wide-requires add-level
+    level-price-requires-2 carry-requires load-requires judge-requires slice-write-sides (λ c. omega arith) loop-less loop-again same-length returns)

@@ -2,7 +2,7 @@ use mathlib.Core.Path.{_∙_}
 use native.Mathlib.Omega.{arith}
 use borrow.Author.Needs.{needs}
 use Rattle.counts.proofs.Shares.{operating-most}
-use Rattle.search.proofs.Levels.{served-at, served-above, low-top}
+use Rattle.search.proofs.Levels.{served-at, served-above, low-top, level-most}
 use Rattle.search.proofs.Verdicts.{judge-beyond, judge-forced, judge-weighed}
 use Rattle.search.proofs.judge.Statement.{statement}
 use Rattle.search.proofs.judge.Tie as tie
@@ -40,7 +40,14 @@ level-price-requires : tie.Need-level-price-requires
 level-price-requires c κs = search needs
 
 weigh-requires : tie.Need-weigh-requires
-weigh-requires c κs = search needs
+weigh-requires c κs =
+    let served = c .before in
+    let start = served .before .before .before .before .before .before .before .before .before in
+    let serves = rw (start .pre .on-card .ready .header .top-is) at (served .before .before .if2 .left) in
+    record {
+      priced = rw (c .level-price .ensures) (level-most (start .pre .on-card) _);
+      served = rw (served .operating-cost2 .ensures) (operating-most (served-at (start .pre .on-card) _ serves));
+    }
 
 returns-3 : tie.Need-returns-3
 returns-3 c =
