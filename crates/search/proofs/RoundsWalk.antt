@@ -11,7 +11,7 @@ use Rattle.lists.specs.Lists.{tabulate, length-tabulate, getD-tabulate}
 use Rattle.model.specs.Instance.{Instance, instanceOf}
 use Rattle.card.specs.declared.Header.{Header}
 use Rattle.thresholds.specs.Thresholds.{levelAt, leadBefore, sideAt, raisedAt, inSlot, forward, backward, round, rounds}
-use Rattle.thresholds.specs.ThresholdLaws.{side-inside, raised-inside, raised-step}
+use Rattle.thresholds.specs.ThresholdLaws.{side-most, side-inside, raised-inside, raised-step}
 use Rattle.search.specs.SearchRequires.{OnCard, Width, RoundReady, BackReady, RoundsReady}
 use Rattle.search.proofs.Levels.{few-places}
 
@@ -28,6 +28,13 @@ module _ (i : Instance) (counts : List ℕ) (b : ℕ) (some : 1 ≤ b) (plan : L
       let level = levelAt i counts 0 b (inSlot plan) t in
       let found = rw (getD-tabulate (i .slots) (sideAt i counts 0 b (inSlot plan)) t 0 h) at up in
       omega (arith, side-inside i counts level (i .load t) (leadBefore i counts 0 b (inSlot plan) t) found)
+
+  -- Each side is 0, 1 or 2.
+  pub side-small : (t : ℕ) → t < i .slots → inSlot (forward i counts 0 b plan) t ≤ 2
+  unfolding forward sideAt
+  side-small t h =
+      rw (getD-tabulate (i .slots) (sideAt i counts 0 b (inSlot plan)) t 0 h)
+      (side-most i counts (levelAt i counts 0 b (inSlot plan) t) (i .load t) (leadBefore i counts 0 b (inSlot plan) t))
 
   -- After a round each place is one of the list.
   round-inside : ((t : ℕ) → inSlot plan t < length counts) → (t : ℕ) → inSlot (round i counts 0 b plan) t < length counts
@@ -92,6 +99,8 @@ module _ {s : List ℕ} {h : Header} {counts : List ℕ} {digits : ℕ} {plan₀
           inside = λ t inside up.
               let room = side-room (instanceOf s) counts b (width .some) plan t (omega (arith, f .plan-kept, p .plan-size)) (rw found-is at up) in
               omega (arith, few-places (p .on-card));
+          sides-most = λ t inside.
+              rw found-is (side-small (instanceOf s) counts b (width .some) plan t (omega (arith, f .plan-kept, p .plan-size)));
         }
 
     pub rounds-turn :

@@ -53,25 +53,12 @@ module _ (w before here lead : ℕ) where
   unfolding carried
   carried-below h = rw (ne-eqb here before (λ e. omega arith), lt-leb here before h)
 
--- The place after a round with the width b.
-module _ (b here side next : ℕ) where
-  pub raised-on : 2 ≤ side → here + b ≡ raisedPlace b here side next
+-- The place after a round with the width b, by the test whether the next slot's place is above the level.
+module _ (b here side next : ℕ) {above : ℕ} (above-is : above ≡ isLess (here + b - 1) next) where
+  pub raised-not : side + above < 2 → here ≡ raisedPlace b here side next
   unfolding raisedPlace
-  raised-on h = rw (le-leb 2 (side + isLess (here + b - 1) next) (omega arith))
+  raised-not h = rw (lt-leb 2 (side + isLess (here + b - 1) next) (rw above-is at h))
 
-  pub raised-off : side ≡ 0 → here ≡ raisedPlace b here side next
-  unfolding raisedPlace isLess
-  raised-off e = rw e (off (leb next (here + b - 1)))
-    where
-      off : (t : Bool) → here ≡ cond (leb 2 (0 + cond t 0 1)) (here + b) here
-      off true = refl
-      off false = refl
-
-  module _ (width : 1 ≤ b) (keeps : side ≡ 1) where
-    pub raised-with : here + b ≤ next → here + b ≡ raisedPlace b here side next
-    unfolding raisedPlace
-    raised-with h = rw (keeps, less-one (here + b - 1) next (omega arith))
-
-    pub raised-without : next < here + b → here ≡ raisedPlace b here side next
-    unfolding raisedPlace
-    raised-without h = rw (keeps, less-zero (here + b - 1) next (omega arith))
+  pub raised-up : 2 ≤ side + above → here + b ≡ raisedPlace b here side next
+  unfolding raisedPlace
+  raised-up h = rw (le-leb 2 (side + isLess (here + b - 1) next) (rw above-is at h))

@@ -32,10 +32,11 @@ pub record Width (b : ℕ) : Type 0 where
   pub some : 1 ≤ b
   pub most : b ≤ 128
 
--- A place in a byte, and the width of a round.
-pub record Raisable (b place : ℕ) : Type 0 where
+-- A place in a byte, the width of a round, and a side.
+pub record Raisable (b place side : ℕ) : Type 0 where
   pub width : Width b
   pub byte : place ≤ 255
+  pub side-most : side ≤ 2
 
 -- An accepted card with its counts, the width of a round, a plan so far, and room for a side for each slot.
 pub record RoundReady (s : List ℕ) (h : Header) (counts : List ℕ) (b : ℕ) (plan sides : List ℕ) : Type 0 where
@@ -49,6 +50,7 @@ pub record BackReady (b : ℕ) (plan sides : List ℕ) : Type 0 where
   pub width : Width b
   pub size : length sides ≡ length plan
   pub inside : (t : ℕ) → t < length plan → 1 ≤ getD sides t 0 → getD plan t 0 + b ≤ 255
+  pub sides-most : (t : ℕ) → t < length plan → getD sides t 0 ≤ 2
 
 -- A plan of places: each is a place of the list, whose counts fit in a byte.
 pub record Placed (counts plan : List ℕ) : Type 0 where

@@ -130,17 +130,12 @@ fn forward(card: &[u8], h: Header, counts: &[u64], width: usize, plan: &[u8], si
 
 // The place after a round, by the side found and the next slot's place after the round.
 fn raise(width: usize, place: usize, side: u8, next: usize) -> usize
-    requires { ⌜ Raisable width place ⌝ }
+    requires { ⌜ Raisable width place side ⌝ }
     ensures { λ r. ⌜ r ≡ raisedPlace width place side next ⌝ }
 {
-    let raised = place + width;
-    if 2 <= side {
-        return raised;
-    }
-    if side == 0 {
-        return place;
-    }
-    if raised <= next { raised } else { place }
+    let level = place + width - 1;
+    let votes = side + is_less(level as u64, next as u64);
+    if votes < 2 { place } else { place + width }
 }
 
 // Backward through the slots: each slot's place after the round. After the last slot the place is 0.

@@ -32,7 +32,11 @@ shared-slice-read-raise c =
 raise-requires : tie.Need-raise-requires Inv-loop μ-loop
 raise-requires c κs =
     let loop = c .before .before .before .before in
-    record { width = start loop .pre .width; byte = omega (arith, c .before .wide .ensures, c .before .before .slice-known2 .given (loop .loop .t - 1) .fits) }
+    record {
+      width = start loop .pre .width;
+      byte = omega (arith, c .before .wide .ensures, c .before .before .slice-known2 .given (loop .loop .t - 1) .fits);
+      side-most = start loop .pre .sides-most (loop .loop .t - 1) (omega (arith, loop .loop .inv .within));
+    }
 
 cast-plan : tie.Need-cast-plan Inv-loop μ-loop
 cast-plan c =

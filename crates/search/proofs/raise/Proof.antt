@@ -1,20 +1,22 @@
+use Prim.Native.Nat.{_+_, _-_}
 use native.Mathlib.Omega.{arith}
 use borrow.Author.Needs.{needs}
-use Rattle.search.proofs.Verdicts.{raised-on, raised-off, raised-with, raised-without}
+use Rattle.thresholds.specs.ThresholdLaws.{less-most}
+use Rattle.search.proofs.Verdicts.{raised-not, raised-up}
 use Rattle.search.proofs.raise.Statement.{statement}
 use Rattle.search.proofs.raise.Tie as tie
 
+add-votes : tie.Need-add-votes
+add-votes c =
+    let start = c .before in
+    omega (arith, c .is-less .ensures, start .pre .side-most, less-most (start .args .place + start .args .width - 1) (start .args .next))
+
 returns : tie.Need-returns
-returns c = raised-on _ _ _ _ (c .if1 .taken)
+returns c = raised-not _ _ _ _ (c .before .is-less .ensures) (c .if1 .taken)
 
 returns-2 : tie.Need-returns-2
-returns-2 c = raised-off _ _ _ _ (c .if2 .taken)
-
-returns-3 : tie.Need-returns-3
-returns-3 c = raised-with _ _ _ _ (omega arith) (omega arith) (c .if3 .taken)
-
-returns-4 : tie.Need-returns-4
-returns-4 c = raised-without _ _ _ _ (omega arith) (omega arith) (c .if3 .left)
+returns-2 c = raised-up _ _ _ _ (c .before .is-less .ensures) (c .if1 .left)
 
 pub raise-spec : {M : Type 1} → statement M
-raise-spec = tie.close (tie.spec (λ c. search needs) returns returns-2 returns-3 returns-4)
+raise-spec =
+    tie.close (tie.spec (λ c. search needs) (λ c. search needs) (λ c κs. search needs) add-votes (λ c. search needs) returns returns-2)
