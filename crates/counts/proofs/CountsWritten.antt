@@ -2,19 +2,17 @@
 -- no power.
 use Prim.Native.Nat.{ℕ, zero, suc, _+_, _-_, _^_, _≤_, _<_}
 use mathlib.Core.Path.{_≡_, sym, _∙_, ap}
-use mathlib.Core.Bool.{Bool, true, false, cond}
 use mathlib.Core.List.{List, [], _∷_, _++_, append-assoc}
 use native.Mathlib.Numerals.{add-one}
 use native.Mathlib.Omega.{arith}
 use lib.ListN.{length, getD, take, drop, set, length-set, length-append, List·getD-append}
-use lib.Dec.{eqb}
 use lib.Seq.{length-take-le, take-suc-set, drop-set-lt, drop-cons, set-at}
 use borrow.Author.Tests.{eq-eqb, ne-eqb}
 use borrow.Rule.Slice.PartMut.{putMid, midOf, mid-len, post-is}
 use Rattle.lists.specs.Lists.{tabulate, length-tabulate, getD-tabulate, writtenOver}
 use Rattle.model.specs.Counts.{allCounts, coarseCounts}
 use Rattle.counts.specs.AllowedCounts.{CoarseRoom, numbersBelow, firstPowers, powersUpTo}
-use Rattle.counts.proofs.Powers.{zeroAndPowers, joined, Coarse, coarse-known}
+use Rattle.counts.proofs.Powers.{zeroAndPowers, joined, coarse-known}
 
 -- All counts from 0 to m are written.
 pub all-written :

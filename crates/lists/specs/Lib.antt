@@ -3,6 +3,7 @@ pub mod Numbers
 pub mod Products
 pub mod Division
 pub mod Rising
+pub mod Backwards
 pub mod Tests
 pub mod Ranges
 pub mod Sums

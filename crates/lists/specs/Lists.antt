@@ -44,6 +44,12 @@ tabulate-same n {f} same = equal-tabulate (length-tabulate n f) (λ k h. getD-ta
 pub tabulate-constant : (n : ℕ) {f : ℕ → ℕ} {x : ℕ} → ((k : ℕ) → k < n → f k ≡ x) → tabulate n f ≡ replicate n x
 tabulate-constant n {x = x} same = sym (equal-tabulate (length-replicate n x) (λ k h. getD-replicate n k x 0 h ∙ sym (same k h)))
 
+-- A list of zeros has the entry 0 at each index.
+pub zeros-at : (n t : ℕ) → _≡_ {A = ℕ} (getD (replicate n 0) t 0) 0
+zeros-at zero t = refl
+zeros-at (suc n) zero = refl
+zeros-at (suc n) (suc t) = zeros-at n t
+
 -- Place t of n from the front is a place u from the back.
 pub from-back : (n t : ℕ) → t < n → (u : ℕ) × (t + u + 1 ≡ n)
 from-back n t h = let (u, e) = le-dest h in (u, omega arith)

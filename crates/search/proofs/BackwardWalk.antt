@@ -1,6 +1,6 @@
 -- Backward through the slots: the loop.
 use Prim.Native.Nat.{ℕ, suc, _+_, _-_, _≤_, _<_}
-use mathlib.Core.Path.{_≡_, refl, sym, ap, _∙_}
+use mathlib.Core.Path.{_≡_, sym, _∙_}
 use mathlib.Core.List.{List}
 use native.Mathlib.Omega.{arith}
 use lib.ListN.{length, getD, set}
@@ -43,7 +43,7 @@ module _ {b : ℕ} {old sides new : List ℕ} {next t : ℕ} (f : BackwardLoop b
     pub byte-raised : BackReady b old sides → place ≤ 255 → x < 256
     byte-raised r byte =
         rw x-is
-        (raised-inside b place side next 256 (r .width .some) (omega arith)
+        (raised-inside b place side next 256 (omega arith)
         (λ up. omega (arith, place-old, r .inside (t - 1) (omega arith) (rw side-is at up))))
 
   pub backward-ends : t ≤ 0 → new ≡ backward (length old) b old sides

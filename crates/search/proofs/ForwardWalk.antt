@@ -1,5 +1,5 @@
 -- Forward through the slots: the loop, and what it hands to each slot.
-use Prim.Native.Nat.{ℕ, suc, _+_, _-_, _*_, _≤_, _<_, min}
+use Prim.Native.Nat.{ℕ, _+_, _-_, _≤_, _<_}
 use mathlib.Core.Path.{_≡_, refl, sym, ap, _∙_}
 use mathlib.Core.List.{List}
 use mathlib.Core.Logic.{⊎-elim}
@@ -15,9 +15,8 @@ use Rattle.model.specs.Thesis.{switchingPrice}
 use Rattle.card.specs.declared.Header.{Header}
 use Rattle.thresholds.specs.Places.{countAtPlace}
 use Rattle.thresholds.specs.Thresholds.{Verdict, levelPrice, judge, firstLead, carried, levelAt, leadBefore, sideAt, inSlot, forward}
-use Rattle.thresholds.specs.ThresholdLaws.{lead-most, carried-most}
-use Rattle.search.specs.SearchRequires.{OnCard, RoundReady, mostLead}
-use Rattle.search.proofs.Verdicts.{carried-same, carried-below}
+use Rattle.thresholds.specs.ThresholdLaws.{lead-most, carried-same, carried-below, carried-most}
+use Rattle.search.specs.SearchRequires.{RoundReady, mostLead}
 use Rattle.search.proofs.Levels.{level-most}
 
 -- From start count 0 the lead before the first slot is the whole price of the level.
@@ -55,10 +54,10 @@ module _ {s : List ℕ} {h : Header} {counts : List ℕ} {b : ℕ} {plan old : L
       at-zero : inSlot plan 0 ≤ 0 → carried price 0 (inSlot plan 0) lead ≡ price
       at-zero g =
           let same : level ≡ b - 1 = omega arith in
-          sym (carried-same price 0 (inSlot plan 0) lead (omega arith)) ∙ rw same e
+          carried-same price 0 (inSlot plan 0) lead (omega arith) ∙ rw same e
 
       above-zero : 0 < inSlot plan 0 → carried price 0 (inSlot plan 0) lead ≡ price
-      above-zero g = sym (carried-below price 0 (inSlot plan 0) lead g)
+      above-zero g = carried-below price 0 (inSlot plan 0) lead g
 
   module _ {sides : List ℕ} {before lead t : ℕ} (f : ForwardLoop (instanceOf s) counts b plan old sides before lead t) where
     -- The level of slot t, its price, and the lead that is carried on to it.

@@ -1,13 +1,16 @@
 -- Levels of an accepted card's list of allowed counts, and what they cost.
 use Prim.Native.Nat.{ℕ, _+_, _-_, _*_, _≤_, _<_}
-use mathlib.Core.Path.{_≡_, sym, ap}
+use mathlib.Core.Path.{_≡_, ap}
+use mathlib.Core.Bool.{true, false}
 use mathlib.Core.List.{List}
 use mathlib.Core.Logic.{⊎-elim}
 use native.Mathlib.Nat.{mul-le-mul, mul-le-mul-right, mul-zero, sub-le, le-trans, le-of-lt}
 use native.Mathlib.Omega.{arith}
 use lib.ListN.{length, List·getD-eq-default}
+use borrow.Author.Tests.{le-leb, lt-leb}
 use Rattle.lists.specs.Numbers.{le-or-lt}
 use Rattle.model.specs.Instance.{instanceOf}
+use Rattle.model.specs.Counts.{canServe}
 use Rattle.model.specs.Thesis.{switchingPrice}
 use Rattle.laws.specs.Acceptance.{modules-range, top-range, up-range, down-range}
 use Rattle.card.specs.declared.Header.{Header}
@@ -37,14 +40,28 @@ module _ {s : List ℕ} {h : Header} {counts : List ℕ} (on : OnCard s h counts
   pub count-most : (j : ℕ) → countAtPlace counts j ≤ 200
   count-most j = omega (arith, in-rack j, modules-range s (on .ready .accepted) .1)
 
-  pub served-at : {l : ℕ} (j : ℕ) → l ≤ countAtPlace counts j * instanceOf s .topStep → Served s h (countAtPlace counts j) l
-  served-at j serves = record { ready = on .ready; in-rack = in-rack j; serves = serves }
+  -- What the test on a place's count and the load says.
+  module _ {l : ℕ} (j : ℕ) where
+    pub cannot-serve : countAtPlace counts j * h .topStep < l → canServe (instanceOf s) (countAtPlace counts j) l ≡ false
+    unfolding canServe
+    cannot-serve less = lt-leb l (countAtPlace counts j * instanceOf s .topStep) (rw (on .ready .header .top-is) at less)
 
-  -- What the place below a level can serve, the place above it can.
-  pub served-above :
-      {l : ℕ} (j : ℕ) → j + 1 < length counts → l ≤ countAtPlace counts j * instanceOf s .topStep → Served s h (countAtPlace counts (j + 1)) l
-  served-above j inside serves =
-      served-at (j + 1) (le-trans serves (mul-le-mul-right (instanceOf s .topStep) (le-of-lt (on .allowed .rises j inside))))
+    module _ (enough : l ≤ countAtPlace counts j * h .topStep) where
+      enough-light : l ≤ countAtPlace counts j * instanceOf s .topStep
+      enough-light = rw (on .ready .header .top-is) at enough
+
+      pub can-serve : canServe (instanceOf s) (countAtPlace counts j) l ≡ true
+      unfolding canServe
+      can-serve = le-leb l (countAtPlace counts j * instanceOf s .topStep) enough-light
+
+      pub served-at : Served s h (countAtPlace counts j) l
+      served-at = record { ready = on .ready; in-rack = in-rack j; serves = enough-light }
+
+      -- What the place below a level can serve, the place above it can.
+      pub served-above : j + 1 < length counts → Served s h (countAtPlace counts (j + 1)) l
+      served-above inside =
+          let more = mul-le-mul-right (instanceOf s .topStep) (le-of-lt (on .allowed .rises j inside)) in
+          record { ready = on .ready; in-rack = in-rack (j + 1); serves = le-trans enough-light more }
 
   pub low-top : (j : ℕ) → countAtPlace counts j * h .topStep ≤ 40000
   low-top j =

@@ -1,14 +1,12 @@
 -- The places found become counts, and these are the plan by thresholds.
 use Prim.Native.Nat.{ℕ, _+_, _≤_, _<_}
-use mathlib.Core.Path.{_≡_, refl, sym, ap, _∙_}
+use mathlib.Core.Path.{_≡_, refl, ap, _∙_}
 use mathlib.Core.List.{List, _++_}
-use mathlib.Core.Logic.{⊎-elim}
 use native.Mathlib.Omega.{arith}
 use lib.Seq.{length-take-le}
-use lib.ListN.{length, getD, set, take, drop, replicate, length-append, length-drop, length-replicate, getD-replicate, List·getD-eq-default}
-use Rattle.lists.specs.Numbers.{le-or-lt}
-use Rattle.lists.specs.Lists.{tabulate}
-use Rattle.lists.specs.Filling.{Upto, upto-none, upto-more, upto-all}
+use lib.ListN.{length, getD, set, take, drop, replicate, length-append, length-drop, length-replicate}
+use Rattle.lists.specs.Lists.{tabulate, zeros-at}
+use Rattle.lists.specs.Filling.{Upto, upto-more, upto-all}
 use Rattle.model.specs.Instance.{instanceOf}
 use Rattle.card.specs.declared.Header.{Header}
 use Rattle.counts.specs.AllowedCounts.{powersUpTo}
@@ -38,14 +36,6 @@ module _ (counts : List ℕ) {plan₀ plan : List ℕ} {t : ℕ} (f : CountsLoop
   pub counts-end : length plan ≤ t → plan ≡ countsAt counts plan₀
   unfolding countsAt
   counts-end past = upto-all f (omega (arith, f .size))
-
--- A list of zeros has the entry 0 at each index.
-zeros-at : (n t : ℕ) → inSlot (replicate n 0) t ≡ 0
-zeros-at n t =
-    ⊎-elim
-    (λ (past : n ≤ t). List·getD-eq-default (replicate {A = ℕ} n 0) 0 {n = t} (omega (arith, length-replicate {A = ℕ} n 0)))
-    (λ (h : t < n). getD-replicate n t 0 0 h)
-    (le-or-lt n t)
 
 -- A list whose first n entries were written and that was then cleared is as long as it was.
 pub cleared-whole :

@@ -1,6 +1,6 @@
 -- The rounds: the loop over the digits, what it hands to the two walks, and that the places stay in the list.
 use Prim.Native.Nat.{ℕ, zero, suc, _+_, _-_, _^_, _≤_, _<_}
-use mathlib.Core.Path.{_≡_, refl, sym, ap, _∙_}
+use mathlib.Core.Path.{_≡_, refl, ap, _∙_}
 use mathlib.Core.List.{List}
 use mathlib.Core.Logic.{⊎-elim}
 use native.Mathlib.Omega.{arith}
@@ -12,7 +12,7 @@ use Rattle.model.specs.Instance.{Instance, instanceOf}
 use Rattle.card.specs.declared.Header.{Header}
 use Rattle.thresholds.specs.Thresholds.{levelAt, leadBefore, sideAt, raisedAt, inSlot, forward, backward, round, rounds}
 use Rattle.thresholds.specs.ThresholdLaws.{side-most, side-inside, raised-inside, raised-step}
-use Rattle.search.specs.SearchRequires.{OnCard, Width, RoundReady, BackReady, RoundsReady}
+use Rattle.search.specs.SearchRequires.{Width, RoundReady, BackReady, RoundsReady}
 use Rattle.search.proofs.Levels.{few-places}
 
 -- A power of two below 256 is a width.
@@ -46,7 +46,7 @@ module _ (i : Instance) (counts : List ℕ) (b : ℕ) (some : 1 ≤ b) (plan : L
       rw (List·getD-eq-default (tabulate (i .slots) places) 0 {n = t} (omega arith)) (omega (arith, inside 0)))
       (λ (h : t < i .slots).
       rw (getD-tabulate (i .slots) places t 0 h, raised-step (i .slots) b (inSlot plan) (inSlot sides) t h)
-      (raised-inside b (inSlot plan t) (inSlot sides t) (places (suc t)) (length counts) some (inside t) (side-room t h)))
+      (raised-inside b (inSlot plan t) (inSlot sides t) (places (suc t)) (length counts) (inside t) (side-room t h)))
       (le-or-lt (i .slots) t)
     where
       sides : List ℕ

@@ -4,7 +4,6 @@ use card::Header;
 ghost use Prim.Native.Nat.{_-_, min};
 ghost use mathlib.Core.Path.{_≡_};
 ghost use lib.ListN.{length, replicate};
-ghost use Rattle.lists.specs.Lists.{tabulate};
 ghost use Rattle.model.specs.Instance.{instanceOf};
 ghost use Rattle.counts.specs.AllowedCounts.{powersUpTo};
 ghost use Rattle.thresholds.specs.Places.{lastPlace};

@@ -5,6 +5,7 @@ use Prim.Native.Nat.{ℕ, zero, suc, _+_, _-_, _*_}
 use mathlib.Core.Bool.{cond}
 use mathlib.Core.List.{List, [], _∷_, _++_}
 use lib.Dec.{leb}
+use Rattle.lists.specs.Backwards.{backTo}
 use Rattle.model.specs.Instance.{Instance}
 use Rattle.model.specs.Counts.{canServe, operatingCost}
 use Rattle.model.specs.Thesis.{switchingPrice}
@@ -67,11 +68,6 @@ module _ (i : Instance) (counts : List ℕ) (start : ℕ) where
   unfoldable pub searchedCost : ℕ
   searchedCost = column (i .slots) 0
 
-  -- The place of the searched plan in the slot that is d before the end. After the last slot it is 0.
-  unfoldable pub placeFromEnd : ℕ → ℕ
-  placeFromEnd zero = 0
-  placeFromEnd (suc d) = selection (i .slots - suc d) (placeFromEnd d)
-
-  -- The place of the searched plan in slot t.
-  unfoldable pub placeIn : ℕ → ℕ
-  placeIn t = placeFromEnd (i .slots - t)
+  -- The place of the searched plan in slot t. After the last slot it is 0.
+  abbrev pub placeIn : ℕ → ℕ
+  placeIn = backTo (i .slots) selection

@@ -1,18 +1,19 @@
 -- Columns are convex, so a slot's verdict on a level is by the difference of the column there.
 use Prim.Native.Nat.{ℕ, zero, suc, _+_, _-_, _*_, _≤_, _<_, min}
-use mathlib.Core.Path.{_≡_, ap, _∙_}
+use mathlib.Core.Path.{_≡_}
 use mathlib.Core.Logic.{⊎-elim}
 use mathlib.Core.List.{List}
 use native.Mathlib.Nat.{le-of-lt, mul-le-mul-left}
 use native.Mathlib.Omega.{arith}
 use lib.ListN.{length}
 use Rattle.lists.specs.Numbers.{le-or-lt}
+use Rattle.lists.specs.Backwards.{back-step, back-all}
 use Rattle.model.specs.Instance.{Instance}
 use Rattle.model.specs.Thesis.{switchingPrice}
 use Rattle.thresholds.specs.Places.{countAtPlace, Ascending}
 use Rattle.thresholds.specs.Thresholds.{levelPrice, judge, firstLead}
 use Rattle.theory.specs.Hypotheses.{Plannable}
-use Rattle.theory.specs.Columns.{column, selection, placeFromEnd, placeIn}
+use Rattle.theory.specs.Columns.{column, selection, placeIn}
 use Rattle.theory.specs.SlotColumns.{by-way, column-best, column-rises}
 use Rattle.theory.specs.ConvexValues.{middle-of-kink}
 use Rattle.theory.specs.NearLeads.{Judged}
@@ -49,26 +50,11 @@ module _ (i : Instance) (counts : List ℕ) (start : ℕ) (asc : Ascending count
   column-bends (suc t) h k inside =
       after-convex asc (column-best i counts start asc (ready .loads) t h) (ready .convex) (column-bends t (omega arith)) k inside
 
-  -- The place in a slot is the selection there by the place in the next slot.
-  place-selected : (t : ℕ) → t < i .slots → placeIn i counts start t ≡ selection i counts start t (placeIn i counts start (suc t))
-  unfolding placeIn placeFromEnd
-  place-selected t h =
-      let rest : i .slots - t ≡ suc (i .slots - suc t) = omega arith in
-      let back : i .slots - suc (i .slots - suc t) ≡ t = omega arith in
-      ap (placeFromEnd i counts start) rest ∙ ap (λ n. selection i counts start n (placeFromEnd i counts start (i .slots - suc t))) back
-
-  -- The searched plan's place in the slot that is d before the end is a place of the list.
-  inside-from-end : (d : ℕ) → d ≤ i .slots → placeFromEnd i counts start d < length counts
-  unfolding placeFromEnd
-  inside-from-end zero h = omega (arith, asc .two)
-  inside-from-end (suc d) h =
-      column-best i counts start asc (ready .loads) (i .slots - suc d) (omega arith) .chosen-in
-      (placeFromEnd i counts start d) (inside-from-end d (omega arith))
-
   -- The searched plan's places are places of the list.
   pub place-inside : (t : ℕ) → t ≤ i .slots → placeIn i counts start t < length counts
-  unfolding placeIn
-  place-inside t h = inside-from-end (i .slots - t) (omega arith)
+  place-inside =
+      back-all (i .slots) (selection i counts start) (λ j. j < length counts) (omega (arith, asc .two))
+      (λ t next h inside. column-best i counts start asc (ready .loads) t h .chosen-in next inside)
 
   -- Before the first slot the slope is the first lead.
   pub first-slope : (j : ℕ) → j + 1 < length counts → slope i counts start 0 j ≡ firstLead i counts start j
@@ -98,6 +84,6 @@ module _ (i : Instance) (counts : List ℕ) (start : ℕ) (asc : Ascending count
       (judge i counts j (i .load t))
   judged-at t j h inside =
       let best = column-best i counts start asc (ready .loads) t h in
-      rw (place-selected t h)
+      rw (back-step (i .slots) (selection i counts start) t h)
       (judged asc best (ready .convex) (column-bends t (omega arith)) j inside _ (slope-up t j (omega arith) inside) _
       (place-inside (suc t) h))

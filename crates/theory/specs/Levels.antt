@@ -6,7 +6,7 @@ use mathlib.Core.Bool.{true, false, false≢true}
 use mathlib.Core.Logic.{_⊎_, ⊎-elim}
 use mathlib.Core.List.{List}
 use lib.ListN.{length}
-use borrow.Author.Tests.{leb-true, le-leb, lt-leb}
+use borrow.Author.Tests.{leb-true, le-leb}
 use native.Mathlib.Nat.{add-zero, le-dest, eq-or-lt-of-le, lt-of-not-le, mul-le-mul-left, mul-le-mul-right}
 use native.Mathlib.Omega.{arith}
 use Rattle.lists.specs.Numbers.{le-or-lt, true-or-false}
@@ -14,8 +14,9 @@ use Rattle.model.specs.Instance.{Instance}
 use Rattle.model.specs.Counts.{canServe, operatingCost}
 use Rattle.model.specs.Thesis.{switchingPrice}
 use Rattle.laws.specs.Tables.{Convex}
-use Rattle.thresholds.specs.Places.{countAtPlace, lastPlace, Ascending, count-rises}
-use Rattle.thresholds.specs.Thresholds.{weighed, levelPrice, judge}
+use Rattle.thresholds.specs.Places.{countAtPlace, Ascending, count-rises}
+use Rattle.thresholds.specs.Thresholds.{levelPrice, judge}
+use Rattle.thresholds.specs.ThresholdLaws.{judge-serves, judge-forced}
 use Rattle.theory.specs.Columns.{servedUpTo}
 use Rattle.theory.specs.Hypotheses.{SlotBest}
 use Rattle.theory.specs.SlotColumns.{by-way, after-rises, after-slope}
@@ -275,23 +276,12 @@ module _
         forced : Fails k → (n : ℕ) → n < length counts → k < chosen n
         forced fails n here = above-paying n k here inside (λ serves. absurd (false≢true (sym fails ∙ serves)))
 
-        -- The verdict says so, whatever the lead.
-        judge-forced : Fails k → (lead : ℕ) → judge i counts k l lead ≡ record { lead = 0; side = 2 }
-        unfolding judge
-        judge-forced fails lead = rw (lt-leb (lastPlace counts) k (omega arith), fails)
-
-        -- If it does, the verdict weighs the two places.
-        judge-serves :
-            Serves k → (lead : ℕ) → judge i counts k l lead ≡ weighed (levelPrice i counts k) (lead + running (k + 1)) (running k)
-        unfolding judge
-        judge-serves serves lead = rw (lt-leb (lastPlace counts) k (omega arith), serves)
-
         -- The column after the slot rises over the level by the lead of the slot's verdict on it.
         pub slope-after : (own : ℕ) → before (k + 1) ≡ before k + own → after (k + 1) ≡ after k + judge i counts k l own .lead
         slope-after own e =
             ⊎-elim
-            (λ (serves : Serves k). rw (judge-serves serves own) (omega (arith, rise serves)))
-            (λ (fails : Fails k). rw (judge-forced fails own) (omega (arith, flat (forced fails k (omega arith)))))
+            (λ (serves : Serves k). rw (judge-serves i counts k l own (omega arith) serves) (omega (arith, rise serves)))
+            (λ (fails : Fails k). rw (judge-forced i counts k l own (omega arith) fails) (omega (arith, flat (forced fails k (omega arith)))))
             (serves-or-fails k)
 
         -- The slot's verdict on the level is right about its choice.
@@ -301,8 +291,8 @@ module _
         judged own e n here =
             ⊎-elim
             (λ (serves : Serves k).
-            rw (fun-ext (judge-serves serves)) (judged-weighed k (chosen n) n _ _ _ own (sides own e serves n here)))
-            (λ (fails : Fails k). rw (fun-ext (judge-forced fails)) (judged-forced k (chosen n) n _ own (forced fails n here)))
+            rw (fun-ext (λ lead. judge-serves i counts k l lead (omega arith) serves)) (judged-weighed k (chosen n) n _ _ _ own (sides own e serves n here)))
+            (λ (fails : Fails k). rw (fun-ext (λ lead. judge-forced i counts k l lead (omega arith) fails)) (judged-forced k (chosen n) n _ own (forced fails n here)))
             (serves-or-fails k)
 
       -- The column after the slot is convex.

@@ -1,30 +1,24 @@
 -- Each round of the search digit by digit halves the places in which the searched plan is known to be, until one is left in each slot.
 use Prim.Native.Nat.{ℕ, zero, suc, _+_, _-_, _^_, _≤_, _<_}
-use mathlib.Core.Path.{_≡_, refl, sym, ap, _∙_}
+use mathlib.Core.Path.{_≡_, sym, ap, _∙_}
 use mathlib.Core.Logic.{⊎-elim}
 use mathlib.Core.List.{List}
-use native.Mathlib.Nat.{sub-self, pow-zero, two-pow-succ}
+use native.Mathlib.Nat.{pow-zero, two-pow-succ}
 use native.Mathlib.Omega.{arith}
 use lib.ListN.{length, replicate, List·getD-eq-default}
 use lib.Pow.{pow-pos}
-use borrow.Author.Tests.{eq-eqb, ne-eqb, le-leb, lt-leb}
 use Rattle.lists.specs.Numbers.{le-or-lt}
-use Rattle.lists.specs.Lists.{tabulate, length-tabulate, getD-tabulate}
+use Rattle.lists.specs.Backwards.{back-end}
+use Rattle.lists.specs.Lists.{tabulate, length-tabulate, getD-tabulate, zeros-at}
 use Rattle.model.specs.Instance.{Instance}
 use Rattle.thresholds.specs.Places.{lastPlace, Ascending}
 use Rattle.thresholds.specs.Thresholds.{levelPrice, judge, carried, levelAt, leadBefore, sideAt, raisedAt, inSlot, forward, backward, round, rounds}
-use Rattle.thresholds.specs.ThresholdLaws.{side-beyond, raised-step, raised-end}
+use Rattle.thresholds.specs.ThresholdLaws.{side-beyond, carried-same, carried-above, carried-below, raised-step, raised-end}
 use Rattle.theory.specs.Hypotheses.{Plannable}
-use Rattle.theory.specs.Columns.{placeFromEnd, placeIn}
+use Rattle.theory.specs.Columns.{selection, placeIn}
 use Rattle.theory.specs.NearLeads.{Near, Tells}
 use Rattle.theory.specs.ConvexColumns.{slope, place-inside, first-slope, next-slope, judged-at}
 use Rattle.theory.specs.Halves.{Apart, equal, lower, higher, first, Digit, halves-apart, raised-digit}
-
--- The plan before the first round is 0 in every slot, and after the last.
-none-yet : (n t : ℕ) → inSlot (replicate n 0) t ≡ 0
-none-yet zero t = refl
-none-yet (suc n) zero = refl
-none-yet (suc n) (suc t) = none-yet n t
 
 module _ (i : Instance) (counts : List ℕ) (start : ℕ) where
   -- The searched plan's place in a slot.
@@ -46,11 +40,6 @@ module _ (i : Instance) (counts : List ℕ) (start : ℕ) where
   abbrev AllTell : (b : ℕ) → (plan sides : ℕ → ℕ) → Type 0
   AllTell b plan sides = (t : ℕ) → t < i .slots → Tells (level b plan t) (place t) (place (suc t)) (sides t)
 
-  -- After the last slot the searched plan's place is 0.
-  pub place-end : placeIn i counts start (i .slots) ≡ 0
-  unfolding placeIn placeFromEnd
-  place-end = ap (placeFromEnd i counts start) (sub-self (i .slots))
-
   -- Backward through the slots, by sides that tell.
   module _ (b : ℕ) (plan sides : ℕ → ℕ) (some : 1 ≤ b) (within : Within (b + b) plan) (tells : AllTell b plan sides) where
     -- The place in a slot after the round.
@@ -62,7 +51,7 @@ module _ (i : Instance) (counts : List ℕ) (start : ℕ) where
     raised-digits zero t e =
         let last : t ≡ i .slots = omega arith in
         let new = ap raised last ∙ raised-end (i .slots) b plan sides in
-        let old = ap place last ∙ place-end in
+        let old = ap place last ∙ back-end (i .slots) (selection i counts start) in
         record { low = omega arith; high = omega arith; half = first (omega (arith, within .low t (omega arith))) }
     raised-digits (suc d) t e =
         let h : t < i .slots = omega arith in
@@ -125,19 +114,18 @@ module _ (i : Instance) (counts : List ℕ) (start : ℕ) where
           Near (level b plan (suc t)) (place (suc t))
           (carried (levelPrice i counts (level b plan (suc t))) (plan t) (plan (suc t)) (judge i counts (level b plan t) (i .load t) lead .lead))
           (slope i counts start (suc t) (level b plan (suc t)))
-      unfolding carried
       carried-near t lead h inside near (equal e) =
           let j = level b plan (suc t) in
-          rw (eq-eqb (plan (suc t)) (plan t) (sym e), e, next-slope i counts start asc ready t j h inside)
+          rw (carried-same (levelPrice i counts j) (plan t) (plan (suc t)) (judge i counts (level b plan t) (i .load t) lead .lead) (sym e), e, next-slope i counts start asc ready t j h inside)
           (judged-at i counts start asc ready t j h inside .near lead (rw e at near inside))
       carried-near t lead h inside near (lower g) =
           let j = level b plan (suc t) in
-          rw (ne-eqb (plan (suc t)) (plan t) (λ e. omega arith), lt-leb (plan (suc t)) (plan t) (omega arith))
+          rw (carried-below (levelPrice i counts j) (plan t) (plan (suc t)) (judge i counts (level b plan t) (i .load t) lead .lead) (omega arith))
           (rw (next-slope i counts start asc ready t j h inside)
           (judged-at i counts start asc ready t j h inside .from-below (omega (arith, within .high t (omega arith)))))
       carried-near t lead h inside near (higher g) =
           let j = level b plan (suc t) in
-          rw (ne-eqb (plan (suc t)) (plan t) (λ e. omega arith), le-leb (plan (suc t)) (plan t) (omega arith))
+          rw (carried-above (levelPrice i counts j) (plan t) (plan (suc t)) (judge i counts (level b plan t) (i .load t) lead .lead) (omega arith))
           (rw (next-slope i counts start asc ready t j h inside)
           (judged-at i counts start asc ready t j h inside .from-above (omega (arith, within .low t (omega arith)))))
 
@@ -183,9 +171,9 @@ module _ (i : Instance) (counts : List ℕ) (start : ℕ) where
     all-within : (e : ℕ) → lastPlace counts < 2 ^ e → Within (2 ^ e) (inSlot (replicate (i .slots) 0))
     all-within e wide =
         record {
-          low = λ t h. omega (arith, none-yet (i .slots) t);
-          high = λ t h. omega (arith, none-yet (i .slots) t, place-inside i counts start asc ready t h);
-          apart = λ t h. equal (none-yet (i .slots) t ∙ sym (none-yet (i .slots) (suc t)));
+          low = λ t h. omega (arith, zeros-at (i .slots) t);
+          high = λ t h. omega (arith, zeros-at (i .slots) t, place-inside i counts start asc ready t h);
+          apart = λ t h. equal (zeros-at (i .slots) t ∙ sym (zeros-at (i .slots) (suc t)));
         }
 
     -- If the list has at most 2 ^ e places, e rounds find the searched plan's place in each slot.

@@ -3,11 +3,11 @@ use Prim.Native.Nat.{ℕ, zero, suc, _+_, _-_, _*_, _≤_, _<_}
 use mathlib.Core.Path.{_≡_, refl, sym, ap, _∙_}
 use mathlib.Core.Bool.{Bool, true, false, cond, false≢true}
 use mathlib.Core.List.{List}
-use native.Mathlib.Nat.{mul-le-mul-left, mul-zero, sub-eq-zero-of-le}
+use native.Mathlib.Nat.{mul-le-mul-left}
 use native.Mathlib.Omega.{arith}
 use lib.ListN.{length}
 use Rattle.model.specs.Instance.{Instance}
-use Rattle.model.specs.Counts.{canServe, operatingCost}
+use Rattle.model.specs.Counts.{canServe}
 use Rattle.model.specs.Thesis.{switchingPrice}
 use Rattle.thresholds.specs.Places.{countAtPlace, lastPlace, Ascending, count-rises, last-inside, last-serves}
 use Rattle.theory.specs.Columns.{Choice, cheaper, servedUpTo, servedAt, servedOrAbove, fromTop, bestPlace, column, selection}

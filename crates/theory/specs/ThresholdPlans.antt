@@ -1,5 +1,5 @@
 -- The plan that is found digit by digit is the searched plan, so it is the least plan by counts.
-use Prim.Native.Nat.{ℕ, zero, suc, _-_, _^_, _≤_, _<_}
+use Prim.Native.Nat.{ℕ, zero, suc, _^_, _≤_, _<_}
 use mathlib.Core.Path.{_≡_, sym, ap, _∙_}
 use mathlib.Core.Logic.{⊎-elim}
 use mathlib.Core.List.{List, []}
@@ -8,26 +8,16 @@ use native.Mathlib.Omega.{arith}
 use lib.ListN.{getD}
 use lib.Seq.{getD-at}
 use Rattle.lists.specs.Numbers.{le-or-lt}
+use Rattle.lists.specs.Backwards.{back-end, back-step}
 use Rattle.lists.specs.Lists.{equal-tabulate}
 use Rattle.lists.specs.Members.{snoc-before}
 use Rattle.model.specs.Instance.{Instance}
 use Rattle.thresholds.specs.Places.{countAtPlace, lastPlace, Ascending}
 use Rattle.thresholds.specs.Thresholds.{thresholdPlan}
 use Rattle.theory.specs.Hypotheses.{Plannable, LeastByCounts}
-use Rattle.theory.specs.Columns.{selection, wayBack, searchedPlan, placeFromEnd, placeIn}
+use Rattle.theory.specs.Columns.{selection, wayBack, searchedPlan, placeIn}
 use Rattle.theory.specs.Least.{way-back-length, searched-least}
-use Rattle.theory.specs.Rounds.{place-end, rounds-found}
-
--- The searched plan's place in a slot is the one selected by its place in the next.
-place-step :
-    (i : Instance) (counts : List ℕ) (start t : ℕ) → t < i .slots →
-    placeIn i counts start t ≡ selection i counts start t (placeIn i counts start (suc t))
-unfolding placeIn placeFromEnd
-place-step i counts start t h =
-    let d = i .slots - suc t in
-    let before : i .slots - t ≡ suc d = omega arith in
-    let same : i .slots - suc d ≡ t = omega arith in
-    ap (placeFromEnd i counts start) before ∙ ap (λ u. selection i counts start u (placeFromEnd i counts start d)) same
+use Rattle.theory.specs.Rounds.{rounds-found}
 
 module _ (i : Instance) (counts : List ℕ) (start : ℕ) (asc : Ascending counts (i .modules)) (ready : Plannable i) where
   -- The way back from the searched plan's place after t slots has the counts at its places before.
@@ -40,7 +30,7 @@ module _ (i : Instance) (counts : List ℕ) (start : ℕ) (asc : Ascending count
       let before = wayBack i counts start t (placeIn i counts start t) in
       let count = countAtPlace counts (placeIn i counts start t) in
       let size = way-back-length i counts start asc (ready .loads) t (placeIn i counts start t) in
-      rw (sym (place-step i counts start t h))
+      rw (sym (back-step (i .slots) (selection i counts start) t h))
       (⊎-elim
       (λ (last : t ≤ u).
       let same : u ≡ t = omega arith in
@@ -56,7 +46,7 @@ module _ (i : Instance) (counts : List ℕ) (start : ℕ) (asc : Ascending count
       (equal-tabulate
       (way-back-length i counts start asc (ready .loads) (i .slots) 0)
       (λ t h.
-      ap (λ (j : ℕ). getD (wayBack i counts start (i .slots) j) t 0) (sym (place-end i counts start)) ∙
+      ap (λ (j : ℕ). getD (wayBack i counts start (i .slots) j) t 0) (sym (back-end (i .slots) (selection i counts start))) ∙
       way-back-entry (i .slots) t (omega arith) h ∙
       ap (countAtPlace counts) (sym (rounds-found i counts start asc ready e wide t h))))
 

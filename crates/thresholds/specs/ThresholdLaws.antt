@@ -1,19 +1,20 @@
 -- Laws of what the search digit by digit computes.
 use Prim.Native.Nat.{ℕ, suc, _+_, _-_, _≤_, _<_}
-use mathlib.Core.Path.{_≡_, refl, ap, _∙_}
+use mathlib.Core.Path.{_≡_, refl}
 use mathlib.Core.Bool.{Bool, true, false, cond}
 use mathlib.Core.List.{List}
 use mathlib.Core.Logic.{⊎-elim}
-use native.Mathlib.Nat.{sub-self}
+use native.Mathlib.Nat.{le-of-lt, eq-or-lt-of-le}
 use native.Mathlib.Omega.{arith}
-use lib.Dec.{leb, eqb}
+use lib.Dec.{leb}
 use lib.ListN.{length}
-use borrow.Author.Tests.{le-leb, lt-leb, leb-false, eqb-true}
-use Rattle.lists.specs.Numbers.{le-or-lt}
+use borrow.Author.Tests.{le-leb, lt-leb, eq-eqb, ne-eqb}
+use Rattle.lists.specs.Numbers.{le-or-lt, true-or-false}
+use Rattle.lists.specs.Backwards.{back-end, back-step}
 use Rattle.model.specs.Instance.{Instance}
 use Rattle.model.specs.Counts.{canServe, operatingCost}
 use Rattle.thresholds.specs.Places.{countAtPlace, lastPlace}
-use Rattle.thresholds.specs.Thresholds.{Verdict, isLess, weighed, levelPrice, judge, carried, raisedPlace, fromEnd, raisedAt}
+use Rattle.thresholds.specs.Thresholds.{Verdict, isLess, weighed, levelPrice, judge, carried, raisedPlace, raisedAt}
 
 -- The test is 1 where x is less than y.
 pub less-one : (x y : ℕ) → x < y → isLess x y ≡ 1
@@ -48,19 +49,35 @@ module _ (i : Instance) (counts : List ℕ) (j l lead : ℕ) where
   abbrev weighedHere : Verdict
   weighedHere = weighed (levelPrice i counts j) upper lower
 
-  -- The slot's verdict is one of three, and inside the list one of two.
+  -- Beyond the list no plan is above the level.
+  pub judge-beyond : lastPlace counts ≤ j → judge i counts j l lead ≡ record { lead = 0; side = 0 }
+  unfolding judge
+  judge-beyond h = rw (le-leb (lastPlace counts) j h) refl
+
+  module _ (inside : j < lastPlace counts) where
+    -- Inside the list the two places are weighed if the one below the level serves.
+    pub judge-serves : canServe i (countAtPlace counts j) l ≡ true → judge i counts j l lead ≡ weighedHere
+    unfolding judge
+    judge-serves serves = rw (lt-leb (lastPlace counts) j inside, serves) refl
+
+    -- If it does not, every plan is above the level.
+    pub judge-forced : canServe i (countAtPlace counts j) l ≡ false → judge i counts j l lead ≡ record { lead = 0; side = 2 }
+    unfolding judge
+    judge-forced fails = rw (lt-leb (lastPlace counts) j inside, fails) refl
+
+  -- So what holds of these verdicts holds of the slot's.
   judge-cases :
       (P : Verdict → Type 0) → P (record { lead = 0; side = 0 }) →
       (j < lastPlace counts → P weighedHere × P (record { lead = 0; side = 2 })) → P (judge i counts j l lead)
-  unfolding judge
-  judge-cases P beyond inside = by-tests (leb (lastPlace counts) j) refl (canServe i (countAtPlace counts j) l)
-    where
-      by-tests :
-          (past : Bool) → leb (lastPlace counts) j ≡ past → (serving : Bool) →
-          P (cond past (record { lead = 0; side = 0 }) (cond serving weighedHere (record { lead = 0; side = 2 })))
-      by-tests true e serving = beyond
-      by-tests false e true = inside (leb-false _ _ e) .0
-      by-tests false e false = inside (leb-false _ _ e) .1
+  judge-cases P beyond inside =
+      ⊎-elim
+      (λ (h : lastPlace counts ≤ j). rw (judge-beyond h) beyond)
+      (λ (h : j < lastPlace counts).
+      ⊎-elim
+      (λ (serves : canServe i (countAtPlace counts j) l ≡ true). rw (judge-serves h serves) (inside h .0))
+      (λ (fails : canServe i (countAtPlace counts j) l ≡ false). rw (judge-forced h fails) (inside h .1))
+      (true-or-false (canServe i (countAtPlace counts j) l)))
+      (le-or-lt (lastPlace counts) j)
 
   -- A side is 0, 1 or 2.
   pub side-most : judge i counts j l lead .side ≤ 2
@@ -85,22 +102,41 @@ module _ (i : Instance) (counts : List ℕ) (j l lead : ℕ) where
       (λ (inside : j + 1 < length counts). inside)
       (le-or-lt (length counts) (j + 1))
 
--- What bounds a lead and the price of a level bounds the lead that is carried over to the next slot.
-pub carried-most : (w before here lead most : ℕ) → lead ≤ most → w ≤ most → carried w before here lead ≤ most
-unfolding carried
-carried-most w before here lead most small price = by-tests (eqb here before) (leb here before)
-  where
-    by-tests : (same falls : Bool) → cond same lead (cond falls 0 w) ≤ most
-    by-tests true falls = small
-    by-tests false true = omega arith
-    by-tests false false = price
+-- The lead that is carried over to a level with the price w, from a slot before whose place so far is `before`.
+module _ (w before here lead : ℕ) where
+  -- From the same place it is the slot's own.
+  pub carried-same : here ≡ before → carried w before here lead ≡ lead
+  unfolding carried
+  carried-same e = rw (eq-eqb here before e) refl
+
+  -- From a higher one it is 0.
+  pub carried-above : here < before → carried w before here lead ≡ 0
+  unfolding carried
+  carried-above h = rw (ne-eqb here before (λ e. omega arith), le-leb here before (le-of-lt h)) refl
+
+  -- From a lower one it is the price.
+  pub carried-below : before < here → carried w before here lead ≡ w
+  unfolding carried
+  carried-below h = rw (ne-eqb here before (λ e. omega arith), lt-leb here before h) refl
+
+  -- What bounds the slot's own lead and the price bounds the lead that is carried over.
+  pub carried-most : (most : ℕ) → lead ≤ most → w ≤ most → carried w before here lead ≤ most
+  carried-most most small price =
+      ⊎-elim
+      (λ (h : here ≤ before).
+      ⊎-elim
+      (λ (e : here ≡ before). rw (carried-same e) small)
+      (λ (g : here < before). rw (carried-above g) (omega arith))
+      (eq-or-lt-of-le h))
+      (λ (h : before < here). rw (carried-below h) price)
+      (le-or-lt here before)
 
 -- A place that a round raises is a place of a list with n entries, if a side above 0 is found inside the list only. Where the side is 0 the
 -- next slot's place alone does not raise it.
 pub raised-inside :
-    (b here side next n : ℕ) → 1 ≤ b → here < n → (1 ≤ side → here + b < n) → raisedPlace b here side next < n
+    (b here side next n : ℕ) → here < n → (1 ≤ side → here + b < n) → raisedPlace b here side next < n
 unfolding raisedPlace
-raised-inside b here side next n _ low high =
+raised-inside b here side next n low high =
     let sum = side + isLess (here + b - 1) next in
     ⊎-elim
     (λ (many : 2 ≤ sum). rw (le-leb 2 sum many) (high (omega (arith, less-most (here + b - 1) next))))
@@ -111,15 +147,8 @@ module _ (slots b : ℕ) (plan sides : ℕ → ℕ) where
   -- A slot's place after a round is by the next slot's.
   pub raised-step :
       (t : ℕ) → t < slots → raisedAt slots b plan sides t ≡ raisedPlace b (plan t) (sides t) (raisedAt slots b plan sides (suc t))
-  unfolding raisedAt fromEnd
-  raised-step t h =
-      let d = slots - suc t in
-      let before : slots - t ≡ suc d = omega arith in
-      let same : slots - suc d ≡ t = omega arith in
-      ap (fromEnd slots b plan sides) before ∙
-      ap (λ u. raisedPlace b (plan u) (sides u) (fromEnd slots b plan sides d)) same
+  raised-step = back-step slots _
 
   -- After the last slot the place is 0.
   pub raised-end : raisedAt slots b plan sides slots ≡ 0
-  unfolding raisedAt fromEnd
-  raised-end = rw (sub-self slots) refl
+  raised-end = back-end slots _

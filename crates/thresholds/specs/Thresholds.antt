@@ -7,6 +7,7 @@ use mathlib.Core.List.{List}
 use lib.ListN.{getD, replicate}
 use lib.Dec.{leb, eqb}
 use Rattle.lists.specs.Lists.{tabulate}
+use Rattle.lists.specs.Backwards.{backTo}
 use Rattle.model.specs.Instance.{Instance}
 use Rattle.model.specs.Counts.{canServe, operatingCost}
 use Rattle.model.specs.Thesis.{switchingPrice}
@@ -70,14 +71,9 @@ module _ (i : Instance) (counts : List ℕ) (start b : ℕ) (plan : ℕ → ℕ)
 
 -- Backward through the slots, for a plan so far and the sides.
 module _ (slots b : ℕ) (plan sides : ℕ → ℕ) where
-  -- The place in the slot that is d before the end. After the last slot it is 0.
-  unfoldable pub fromEnd : ℕ → ℕ
-  fromEnd zero = 0
-  fromEnd (suc d) = raisedPlace b (plan (slots - suc d)) (sides (slots - suc d)) (fromEnd d)
-
-  -- The place in slot t after the round.
-  unfoldable pub raisedAt : ℕ → ℕ
-  raisedAt t = fromEnd (slots - t)
+  -- The place in slot t after the round. After the last slot it is 0.
+  abbrev pub raisedAt : ℕ → ℕ
+  raisedAt = backTo slots (λ t next. raisedPlace b (plan t) (sides t) next)
 
 -- An entry of a plan or of sides, by the slot.
 abbrev pub inSlot : List ℕ → ℕ → ℕ

@@ -2,7 +2,6 @@ use Prim.Native.Nat.{_-_}
 use mathlib.Core.Path.{refl}
 use native.Mathlib.Omega.{arith}
 use lib.ListN.{length}
-use borrow.Author.Needs.{needs}
 use Rattle.model.specs.Instance.{instanceOf}
 use Rattle.card.proofs.FieldsThere.{load-there}
 use Rattle.search.proofs.ForwardWalk.{ForwardLoop, forward-starts, carried-small, forward-turns, forward-ends}

@@ -1,14 +1,14 @@
-use mathlib.Core.Path.{_∙_}
+use mathlib.Core.Path.{sym, _∙_}
 use native.Mathlib.Omega.{arith}
 use borrow.Author.Needs.{needs}
 use Rattle.counts.proofs.Shares.{operating-most}
-use Rattle.search.proofs.Levels.{served-at, served-above, low-top, level-most}
-use Rattle.search.proofs.Verdicts.{judge-beyond, judge-forced, judge-weighed}
+use Rattle.search.proofs.Levels.{can-serve, cannot-serve, served-at, served-above, low-top, level-most}
+use Rattle.thresholds.specs.ThresholdLaws.{judge-beyond, judge-serves, judge-forced}
 use Rattle.search.proofs.judge.Statement.{statement}
 use Rattle.search.proofs.judge.Tie as tie
 
 returns : tie.Need-returns
-returns c = judge-beyond _ _ _ _ _ (c .if1 .taken)
+returns c = sym (judge-beyond _ _ _ _ _ (c .if1 .taken))
 
 mul-if2 : tie.Need-mul-if2
 mul-if2 c =
@@ -18,23 +18,22 @@ mul-if2 c =
 returns-2 : tie.Need-returns-2
 returns-2 c =
     let start = c .before .before .before .before .before .before .before in
-    judge-forced _ _ _ _ _ (omega arith) (rw (start .pre .on-card .ready .header .top-is) at (c .if2 .taken))
+    sym (judge-forced _ _ _ _ _ (omega arith) (cannot-serve (start .pre .on-card) _ (c .if2 .taken)))
 
 operating-cost-requires : tie.Need-operating-cost-requires
 operating-cost-requires c κs =
     let start = c .before .before .before .before .before .before .before in
-    served-above (start .pre .on-card) _ (omega arith) (rw (start .pre .on-card .ready .header .top-is) at (c .if2 .left))
+    served-above (start .pre .on-card) _ (c .if2 .left) (omega arith)
 
 add-upper : tie.Need-add-upper
 add-upper c =
     let start = c .before .before .before .before .before .before .before .before in
-    let serves = rw (start .pre .on-card .ready .header .top-is) at (c .before .if2 .left) in
-    omega (arith, c .operating-cost .ensures, operating-most (served-above (start .pre .on-card) _ (omega arith) serves))
+    omega (arith, c .operating-cost .ensures, operating-most (served-above (start .pre .on-card) _ (c .before .if2 .left) (omega arith)))
 
 operating-cost-requires-2 : tie.Need-operating-cost-requires-2
 operating-cost-requires-2 c κs =
     let start = c .before .before .before .before .before .before .before .before in
-    served-at (start .pre .on-card) _ (rw (start .pre .on-card .ready .header .top-is) at (c .before .if2 .left))
+    served-at (start .pre .on-card) _ (c .before .if2 .left)
 
 level-price-requires : tie.Need-level-price-requires
 level-price-requires c κs = search needs
@@ -43,10 +42,9 @@ weigh-requires : tie.Need-weigh-requires
 weigh-requires c κs =
     let served = c .before in
     let start = served .before .before .before .before .before .before .before .before .before in
-    let serves = rw (start .pre .on-card .ready .header .top-is) at (served .before .before .if2 .left) in
     record {
       priced = rw (c .level-price .ensures) (level-most (start .pre .on-card) _);
-      served = rw (served .operating-cost2 .ensures) (operating-most (served-at (start .pre .on-card) _ serves));
+      served = rw (served .operating-cost2 .ensures) (operating-most (served-at (start .pre .on-card) _ (served .before .before .if2 .left)));
     }
 
 returns-3 : tie.Need-returns-3
@@ -54,7 +52,7 @@ returns-3 c =
     let start = c .before .before .before .before .before .before .before .before .before .before .before in
     rw (c .before .level-price .ensures, c .before .before .operating-cost2 .ensures, c .before .before .before .operating-cost .ensures) at
     (c .weigh .ensures) ∙
-    judge-weighed _ _ _ _ _ (omega arith) (rw (start .pre .on-card .ready .header .top-is) at (c .before .before .before .before .if2 .left))
+    sym (judge-serves _ _ _ _ _ (omega arith) (can-serve (start .pre .on-card) _ (c .before .before .before .before .if2 .left)))
 
 pub judge-spec : {M : Type 1} → statement M
 judge-spec =
