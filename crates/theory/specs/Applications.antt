@@ -5,7 +5,7 @@ use mathlib.Core.Path.{_≡_, refl}
 use mathlib.Core.Bool.{true}
 use mathlib.Core.List.{List, [], _∷_, _++_, flatMap}
 use native.Mathlib.Omega.{arith}
-use lib.Dec.{leb}
+use lib.Dec.{leb, lit<}
 use lib.ListN.{getD, take, drop, replicate}
 use borrow.Author.Tests.{leb-true}
 use Rattle.lists.specs.Tests.{every, every-at, allOf}
@@ -21,10 +21,11 @@ use Rattle.model.specs.Sheets.{off, stateAt, sheetLength, sheetEntries, lightAt
 use Rattle.model.specs.Sheets.{sheetOperatingCost, sheetSwitchingCost, sheetCost, activeAt, countsOf}
 use Rattle.model.specs.Thesis.{countAt, slotCost, countsCost}
 use Rattle.model.specs.Plans.{moduleByte, slotRow, sheetOf, planCost, planServes, plansInOrder, cheapest, cheapestOf, leastPlan, leastCost}
+use Rattle.thresholds.specs.Thresholds.{thresholdPlan}
 use Rattle.theory.specs.Hypotheses.{Plannable}
 use Rattle.theory.specs.SheetLaws.{sheet-at-least}
-use Rattle.theory.specs.CountLists.{InRules, rules-hold}
-use Rattle.theory.specs.Condition3.{exact-least, list-ratio, coarse-twice, planner-bound}
+use Rattle.theory.specs.CountLists.{InRules, rules-hold, all-rules}
+use Rattle.theory.specs.Condition3.{threshold-plan, exact-least, list-ratio, coarse-twice, planner-bound}
 use Rattle.theory.specs.Explanations.{spread-zero, swaps-zero}
 use Rattle.theory.specs.Counterexamples.{exampleE, steadySheet, steady-serves}
 use Rattle.model.specs.Planners.{exact, listed, allowedCounts, plannedCost}
@@ -100,6 +101,11 @@ spread-zero-applied = spread-zero example-plannable movedSheet moved-serves .0 (
 -- And some pattern with the same counts has a lower switching cost.
 pub swaps-zero-applied : NoBetterChoice exampleE movedSheet → ⊥
 swaps-zero-applied least = absurd (omega (arith, swaps-zero example-plannable movedSheet moved-serves .1 least, moved-points .1))
+
+-- Of example E the plan by thresholds, found in four rounds, is the least plan.
+pub threshold-plan-applied : thresholdPlan exampleE (allCounts 8) 0 4 ≡ leastPlan exampleE (allCounts 8)
+unfolding tabulate allCounts
+threshold-plan-applied = threshold-plan example-plannable (allCounts 8) (all-rules 8 (omega arith) .ascending) 4 (lit< tt)
 
 -- The exact plan costs no more than the steady sheet: 5 ≤ 5.
 pub exact-least-applied : leastCost exampleE (allCounts (exampleE .modules)) ≤ sheetCost exampleE steadySheet

@@ -9,6 +9,7 @@ use lib.Dec.{lit<}
 use Rattle.lists.specs.Tests.{every}
 use Rattle.lists.specs.Sums.{sum}
 use Rattle.lists.specs.Ranges.{leastOver, firstOver}
+use Rattle.lists.specs.Backwards.{fromEnd, backTo}
 use Rattle.lists.specs.Lists.{tabulate, rows, keep}
 use Rattle.lists.specs.Bytes.{littleEndian, bytesOf}
 use Rattle.model.specs.Instance.{Instance, instanceOf, topStepPlace, headLength, tableOf}
@@ -26,7 +27,9 @@ use Rattle.model.specs.Examples.{cardA}
 use Rattle.laws.specs.LeastSteps.{lowestStep}
 use Rattle.thresholds.specs.Places.{countAtPlace, Ascending, GrowsBy}
 use Rattle.theory.specs.Columns.{servedOrAbove, fromTop, bestPlace, column, searchedCost}
-use Rattle.theory.specs.Hypotheses.{Plannable, PlanFits, Entry, activeIn, lightIn, rowCost}
+use Rattle.thresholds.specs.Thresholds.{isLess, judge, firstLead, carried, raisedPlace, leadBefore, sideAt, forward, backward, rounds}
+use Rattle.thresholds.specs.Thresholds.{thresholdPlan}
+use Rattle.theory.specs.Hypotheses.{LoadsFit, Plannable, PlanFits, Entry, activeIn, lightIn, rowCost}
 use Rattle.theory.specs.CountLists.{InRules, rules-hold}
 
 -- A show of two modules and no slot, with a table F(0) to F(2).
@@ -250,6 +253,39 @@ start-has-a-price = (
   all-off-before .0,
   lit< tt,
 )
+
+-- A show of three modules and one slot with load 3, and a table that is not convex.
+abbrev bent : Instance
+bent =
+    record {
+      modules = 3;
+      topStep = 3;
+      slots = 1;
+      powerUp = 0;
+      powerDown = 0;
+      table = λ k. getD (0 ∷ 0 ∷ 1 ∷ 1 ∷ []) k 0;
+      load = λ t. 3;
+    }
+
+-- Without convexity the operating cost need not be convex in the count: two modules cost 1, and one and three cost 1 and 0.
+pub running-needs-convex : operatingCost bent 1 3 + operatingCost bent 3 3 < 2 * operatingCost bent 2 3
+unfolding leastOver leastFrom operatingCost
+running-needs-convex = lit< tt
+
+-- Nor need the plan by thresholds be the least: one module, which costs 1, and not three, which cost 0. The list is all counts, and two rounds
+-- are as many as it needs.
+pub threshold-needs-convex :
+    LoadsFit bent × (allCounts 3 ≡ 0 ∷ 1 ∷ 2 ∷ 3 ∷ []) × (planServes bent (3 ∷ []) ≡ true) ×
+    (countsCost bent 0 (3 ∷ []) < countsCost bent 0 (thresholdPlan bent (allCounts 3) 0 2))
+unfolding every sum tabulate allCounts canServe operatingCost planServes countAt slotCost countsCost leastOver leastFrom
+    thresholdPlan rounds backward forward fromEnd backTo sideAt leadBefore judge carried raisedPlace firstLead isLess
+threshold-needs-convex = (λ t h. omega arith, refl, refl, lit< tt)
+
+-- With fewer rounds than the list has digits the plan by thresholds need not serve.
+pub threshold-needs-rounds :
+    Plannable (level 2 0 1) × Ascending (noneOrAll 2) 2 × (planServes (level 2 0 1) (thresholdPlan (level 2 0 1) (noneOrAll 2) 0 0) ≡ false)
+unfolding every tabulate canServe planServes thresholdPlan rounds
+threshold-needs-rounds = (level-plannable 2 0 1 (omega arith) (omega arith), none-or-all-ascending 2 (omega arith), refl)
 
 -- A head with top step 3, and behind it what the catalogue call writes for top step 2, and nothing more.
 abbrev cutBehindTable : List ℕ
