@@ -570,7 +570,7 @@ extern "C" {
 #endif
 
 /* The release of this library. */
-#define LAMP_RELEASE "2.6.0"
+#define LAMP_RELEASE "2.7.0"
 
 /* The version of the cards that this library accepts, and of those that it makes. */
 #define LAMP_CARD_VERSION 1
@@ -604,7 +604,7 @@ extern "C" {
  * use needs more in the first call that uses memset, because the dynamic linker then runs on the same
  * stack: 6,904 bytes were measured on one machine. Such a host may use memset once before, or be linked
  * with -Wl,-z,now. */
-#define LAMP_MAX_STACK 4864
+#define LAMP_MAX_STACK 3328
 
 /* What every call but lamp_explain and the acts of a sitting returns. */
 struct lamp_answer {

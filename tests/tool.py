@@ -516,7 +516,12 @@ def course_book():
     """The commands that the course book's page prints give the costs and the plans beside them, and every card of the page has one."""
     page = (ROOT / "docs" / "COURSE-BOOK.md").read_text(encoding="utf-8")
     rows = re.findall(r"^\| [^|]* \| `(bin/[^`|]*)` \| (\d+) \| ([\d ]+) \|$", page, re.MULTILINE)
-    require("each command of the course book is in a row", len(rows) == len(re.findall("`bin/[^`]*samples/", page)))
+    costs = re.findall(r"^\| \d+ \| `(bin/lamp cost [^`|]*)` \| (\d+) \|$", page, re.MULTILINE)
+    require("each command of the course book is in a row", len(rows) + len(costs) == len(re.findall("`bin/[^`]*samples/", page)))
+    require("the course book has the running costs of three counts", len(costs) == 3)
+    for command, cost in costs:
+        printed = subprocess.run(command.split(), cwd=ROOT, capture_output=True, check=True).stdout
+        require(f"the course book's {command}", printed == f"{cost}\n".encode())
     for command, cost, plan in rows:
         printed = subprocess.run(command.split(), cwd=ROOT, capture_output=True, check=True).stdout
         require(f"the course book's {command}", f"\ncost {cost}\nplan {plan}\n".encode() in b"\n" + printed)
