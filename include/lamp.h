@@ -602,7 +602,7 @@ extern "C" {
  * multiple of 256. It counts the call's return address, those arguments and the reply that lie on the
  * stack, and the memset of the GNU C library. A dynamically linked host that binds symbols at their first
  * use needs more in the first call that uses memset, because the dynamic linker then runs on the same
- * stack: 6,904 bytes were measured on one machine. Such a host may use memset once before, or be linked
+ * stack: 6,152 bytes were measured on one machine. Such a host may use memset once before, or be linked
  * with -Wl,-z,now. */
 #define LAMP_MAX_STACK 3328
 

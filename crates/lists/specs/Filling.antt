@@ -19,11 +19,6 @@ pub record Upto (f : ℕ → ℕ) (j : ℕ) (old new : List ℕ) : Type 0 where
 pub upto-none : (f : ℕ → ℕ) (old : List ℕ) → Upto f 0 old old
 upto-none f old = record { size = refl; done = λ k h g. absurd (omega arith); kept = λ k h. refl }
 
--- Where entry 0 is right already, the filling may begin at 1.
-pub upto-first : {f : ℕ → ℕ} (old : List ℕ) → getD old 0 0 ≡ f 0 → Upto f 1 old old
-upto-first old e =
-    record { size = refl; done = λ k h _. let same : k ≡ 0 = omega arith in rw same e; kept = λ k _. refl }
-
 -- A store at j, where everything below j is done, fills the list up to j + 1.
 pub upto-more :
     {f : ℕ → ℕ} {j x : ℕ} {old new : List ℕ} → Upto f j old new → j < length old → x ≡ f j → Upto f (j + 1) old (set new j x)

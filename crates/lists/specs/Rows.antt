@@ -1,9 +1,8 @@
 -- Rows of m entries each, one after the other at the front of a list.
-use Prim.Native.Nat.{ℕ, suc, _+_, _*_, _/_, _%_, _^_, _≤_, _<_}
+use Prim.Native.Nat.{ℕ, suc, _+_, _*_, _^_, _≤_, _<_}
 use mathlib.Core.Path.{_≡_, sym, ap, _∙_}
 use mathlib.Core.List.{List, _++_, append-assoc}
-use mathlib.Core.Logic.{⊎-elim}
-use native.Mathlib.Nat.{zero-add, mul-le-mul-left, eq-zero-or-pos, mod-lt, div-add-mod', div-lt-iff-lt-mul}
+use native.Mathlib.Nat.{zero-add, mul-le-mul-left}
 use native.Mathlib.Numerals.{add-one}
 use native.Mathlib.Omega.{arith}
 use lib.Arith.{digits-lt}
@@ -19,18 +18,10 @@ row-within m h g = omega (arith, mul-le-mul-left m h)
 
 module _ (m : ℕ) (f : ℕ → List ℕ) (sized : (t : ℕ) → length (f t) ≡ m) where
   -- Entry k of row t stands at place t * m + k, whatever comes after the rows.
-  pub front-row : (n t k d : ℕ) (rest : List ℕ) → t < n → k < m → getD (rows n f ++ rest) (t * m + k) d ≡ getD (f t) k d
+  front-row : (n t k d : ℕ) (rest : List ℕ) → t < n → k < m → getD (rows n f ++ rest) (t * m + k) d ≡ getD (f t) k d
   front-row n t k d rest h g =
       List·getD-append (rows n f) rest d (t * m + k) (omega (arith, length-rows m n f sized, digits-lt h g)) ∙
       getD-rows m n f sized t k d h g
-
-  -- Each entry before the rows' end stands in its row, at the place's quotient and remainder by m.
-  pub front-entry : (n k d : ℕ) (rest : List ℕ) → k < n * m → getD (rows n f ++ rest) k d ≡ getD (f (k / m)) (k % m) d
-  front-entry n k d rest h =
-      ⊎-elim
-      (λ (none : m ≡ 0). absurd (omega (arith, ap (λ (x : ℕ). n * x) none)))
-      (λ (some : 0 < m). rw (div-add-mod' k m) at (front-row n (k / m) (k % m) d rest (div-lt-iff-lt-mul some .1 h) (mod-lt k some)))
-      (eq-zero-or-pos m)
 
   -- Filling row by row, the first n rows written and the rest as it was, keeps the length.
   pub rows-size : (n : ℕ) (old : List ℕ) → n * m ≤ length old → length (rows n f ++ drop (n * m) old) ≡ length old

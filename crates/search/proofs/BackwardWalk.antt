@@ -13,7 +13,7 @@ use Rattle.search.specs.SearchRequires.{BackReady}
 pub record BackwardLoop (b : ℕ) (old sides new : List ℕ) (next t : ℕ) : Type 0 where
   pub within : t ≤ length old
   pub written : Downto (raisedAt (length old) b (inSlot old) (inSlot sides)) t old new
-  pub follows : next ≡ raisedAt (length old) b (inSlot old) (inSlot sides) t
+  follows : next ≡ raisedAt (length old) b (inSlot old) (inSlot sides) t
 
 pub backward-starts : (b : ℕ) (old sides : List ℕ) → BackwardLoop b old sides old 0 (length old)
 backward-starts b old sides =

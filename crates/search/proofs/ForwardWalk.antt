@@ -29,7 +29,7 @@ first-lead i counts j =
 -- Before slot t the sides of the slots before it are written, and the lead that is carried on is the one before slot t.
 pub record ForwardLoop (i : Instance) (counts : List ℕ) (b : ℕ) (plan old sides : List ℕ) (before lead t : ℕ) : Type 0 where
   pub written : Upto (sideAt i counts 0 b (inSlot plan)) t old sides
-  pub carries :
+  carries :
       carried (levelPrice i counts (levelAt i counts 0 b (inSlot plan) t)) before (inSlot plan t) lead ≡
       leadBefore i counts 0 b (inSlot plan) t
   pub small : lead ≤ mostLead

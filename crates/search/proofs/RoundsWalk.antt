@@ -16,13 +16,13 @@ use Rattle.search.specs.SearchRequires.{Width, RoundReady, BackReady, Ro
 use Rattle.search.proofs.Levels.{few-places}
 
 -- A power of two below 256 is a width.
-pub power-width : (e : ℕ) → e < 8 → Width (2 ^ e)
+power-width : (e : ℕ) → e < 8 → Width (2 ^ e)
 power-width e h =
     record { some = omega (arith, pow-mono {i = 0} {j = e} (omega arith)); most = omega (arith, pow-mono {i = e} {j = 7} (omega arith)) }
 
 module _ (i : Instance) (counts : List ℕ) (b : ℕ) (some : 1 ≤ b) (plan : List ℕ) where
   -- A slot whose place may be raised has a place above it in the list.
-  pub side-room : (t : ℕ) → t < i .slots → 1 ≤ inSlot (forward i counts 0 b plan) t → inSlot plan t + b < length counts
+  side-room : (t : ℕ) → t < i .slots → 1 ≤ inSlot (forward i counts 0 b plan) t → inSlot plan t + b < length counts
   unfolding forward sideAt
   side-room t h up =
       let level = levelAt i counts 0 b (inSlot plan) t in
@@ -30,7 +30,7 @@ module _ (i : Instance) (counts : List ℕ) (b : ℕ) (some : 1 ≤ b) (plan : L
       omega (arith, side-inside i counts level (i .load t) (leadBefore i counts 0 b (inSlot plan) t) found)
 
   -- Each side is 0, 1 or 2.
-  pub side-small : (t : ℕ) → t < i .slots → inSlot (forward i counts 0 b plan) t ≤ 2
+  side-small : (t : ℕ) → t < i .slots → inSlot (forward i counts 0 b plan) t ≤ 2
   unfolding forward sideAt
   side-small t h =
       rw (getD-tabulate (i .slots) (sideAt i counts 0 b (inSlot plan)) t 0 h)
