@@ -61,26 +61,28 @@ module _ {s : List ℕ} {h : Header} {counts plan work : List ℕ} (p : Searchab
           sides-size = size ∙ p .plan-size;
         }
 
-    module _ {places : List ℕ} (places-are : places ≡ rounds (instanceOf s) counts 0 digits zeros) where
+    -- The places found are as many as there are slots.
+    module _ {places : List ℕ} (places-are : places ≡ rounds (instanceOf s) counts 0 digits zeros) (kept : length places ≡ length zeros) where
+      size : length places ≡ instanceOf s .slots
+      size = kept ∙ ap length zeros-are ∙ length-replicate (length plan) 0 ∙ p .plan-size
+
       pub places-found : Placed counts places
       places-found =
           record {
-            inside = λ t _.
+            inside = λ t h.
                 rw places-are
                 (rounds-inside (instanceOf s) counts digits zeros
-                (λ u. rw (zeros-are, zeros-at (length plan) u) (omega (arith, p .on-card .allowed .two))) t);
+                (λ u _. rw (zeros-are, zeros-at (length plan) u) (omega (arith, p .on-card .allowed .two))) t (omega (arith, size)));
             bytes = λ j. omega (arith, count-most (p .on-card) j);
           }
 
       pub plan-found :
-          {made : List ℕ} → length places ≡ length zeros → made ≡ countsAt counts places →
+          {made : List ℕ} → made ≡ countsAt counts places →
           made ≡ thresholdPlan (instanceOf s) counts 0 (powersUpTo (lastPlace counts))
       unfolding countsAt thresholdPlan
-      plan-found size made-is =
-          let slots : length places ≡ instanceOf s .slots =
-          size ∙ ap length zeros-are ∙ length-replicate (length plan) 0 ∙ p .plan-size in
+      plan-found made-is =
           let zeros-slots : zeros ≡ replicate (instanceOf s .slots) 0 = zeros-are ∙ ap (λ (n : ℕ). replicate n 0) (p .plan-size) in
           let same : places ≡ rounds (instanceOf s) counts 0 (powersUpTo (lastPlace counts)) (replicate (instanceOf s .slots) 0) =
           places-are ∙ rw (digits-is, zeros-slots) refl in
-          made-is ∙ ap (λ (n : ℕ). tabulate n (λ t. countAtPlace counts (inSlot places t))) slots ∙
+          made-is ∙ ap (λ (n : ℕ). tabulate n (λ t. countAtPlace counts (inSlot places t))) size ∙
           ap (λ (l : List ℕ). tabulate (instanceOf s .slots) (λ t. countAtPlace counts (inSlot l t))) same

@@ -2,16 +2,14 @@
 use Prim.Native.Nat.{ℕ, zero, suc, _+_, _-_, _^_, _≤_, _<_}
 use mathlib.Core.Path.{_≡_, refl, ap, _∙_}
 use mathlib.Core.List.{List}
-use mathlib.Core.Logic.{⊎-elim}
+use native.Mathlib.Nat.{le-of-lt}
 use native.Mathlib.Omega.{arith}
-use lib.ListN.{length, List·getD-eq-default}
+use lib.ListN.{length}
 use lib.Pow.{pow-mono}
-use Rattle.lists.specs.Numbers.{le-or-lt}
-use Rattle.lists.specs.Lists.{tabulate, length-tabulate, getD-tabulate}
 use Rattle.model.specs.Instance.{Instance, instanceOf}
 use Rattle.card.specs.declared.Header.{Header}
-use Rattle.thresholds.specs.Thresholds.{levelAt, leadBefore, sideAt, raisedAt, inSlot, forward, backward, round, rounds}
-use Rattle.thresholds.specs.ThresholdLaws.{side-most, side-inside, raised-inside, raised-step}
+use Rattle.thresholds.specs.Thresholds.{sideAt, inSlot, forward, backward, round, rounds}
+use Rattle.thresholds.specs.ThresholdLaws.{side-most, side-inside, raised-inside, raised-step, forward-entry, backward-entry}
 use Rattle.search.specs.SearchRequires.{Width, RoundReady, BackReady, RoundsReady}
 use Rattle.search.proofs.Levels.{few-places}
 
@@ -23,42 +21,27 @@ power-width e h =
 module _ (i : Instance) (counts : List ℕ) (b : ℕ) (some : 1 ≤ b) (plan : List ℕ) where
   -- A slot whose place may be raised has a place above it in the list.
   side-room : (t : ℕ) → t < i .slots → 1 ≤ inSlot (forward i counts 0 b plan) t → inSlot plan t + b < length counts
-  unfolding forward sideAt
-  side-room t h up =
-      let level = levelAt i counts 0 b (inSlot plan) t in
-      let found = rw (getD-tabulate (i .slots) (sideAt i counts 0 b (inSlot plan)) t 0 h) at up in
-      omega (arith, side-inside i counts level (i .load t) (leadBefore i counts 0 b (inSlot plan) t) found)
+  unfolding sideAt
+  side-room t h up = omega (arith, side-inside i counts _ _ _ (rw (forward-entry i counts 0 b plan t h) at up))
 
   -- Each side is 0, 1 or 2.
   side-small : (t : ℕ) → t < i .slots → inSlot (forward i counts 0 b plan) t ≤ 2
-  unfolding forward sideAt
-  side-small t h =
-      rw (getD-tabulate (i .slots) (sideAt i counts 0 b (inSlot plan)) t 0 h)
-      (side-most i counts (levelAt i counts 0 b (inSlot plan) t) (i .load t) (leadBefore i counts 0 b (inSlot plan) t))
+  unfolding sideAt
+  side-small t h = rw (forward-entry i counts 0 b plan t h) (side-most i counts _ _ _)
 
   -- After a round each place is one of the list.
-  round-inside : ((t : ℕ) → inSlot plan t < length counts) → (t : ℕ) → inSlot (round i counts 0 b plan) t < length counts
-  unfolding backward
-  round-inside inside t =
-      ⊎-elim
-      (λ (past : i .slots ≤ t).
-      let size = length-tabulate (i .slots) places in
-      rw (List·getD-eq-default (tabulate (i .slots) places) 0 {n = t} (omega arith)) (omega (arith, inside 0)))
-      (λ (h : t < i .slots).
-      rw (getD-tabulate (i .slots) places t 0 h, raised-step (i .slots) b (inSlot plan) (inSlot sides) t h)
-      (raised-inside b (inSlot plan t) (inSlot sides t) (places (suc t)) (length counts) (inside t) (side-room t h)))
-      (le-or-lt (i .slots) t)
-    where
-      sides : List ℕ
-      sides = forward i counts 0 b plan
-
-      places : ℕ → ℕ
-      places = raisedAt (i .slots) b (inSlot plan) (inSlot sides)
+  round-inside :
+      ((t : ℕ) → t < i .slots → inSlot plan t < length counts) →
+      (t : ℕ) → t < i .slots → inSlot (round i counts 0 b plan) t < length counts
+  round-inside inside t h =
+      let sides = forward i counts 0 b plan in
+      rw (backward-entry (i .slots) b plan sides t (le-of-lt h), raised-step (i .slots) b (inSlot plan) (inSlot sides) t h)
+      (raised-inside b (inSlot plan t) (inSlot sides t) _ (length counts) (inside t h) (side-room t h))
 
 -- After all rounds each place is one of the list.
 pub rounds-inside :
-    (i : Instance) (counts : List ℕ) (e : ℕ) (plan : List ℕ) → ((t : ℕ) → inSlot plan t < length counts) →
-    (t : ℕ) → inSlot (rounds i counts 0 e plan) t < length counts
+    (i : Instance) (counts : List ℕ) (e : ℕ) (plan : List ℕ) → ((t : ℕ) → t < i .slots → inSlot plan t < length counts) →
+    (t : ℕ) → t < i .slots → inSlot (rounds i counts 0 e plan) t < length counts
 unfolding rounds
 rounds-inside i counts zero plan inside = inside
 rounds-inside i counts (suc e) plan inside =

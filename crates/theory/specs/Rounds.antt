@@ -5,15 +5,15 @@ use mathlib.Core.Logic.{⊎-elim}
 use mathlib.Core.List.{List}
 use native.Mathlib.Nat.{pow-zero, two-pow-succ}
 use native.Mathlib.Omega.{arith}
-use lib.ListN.{length, replicate, List·getD-eq-default}
+use lib.ListN.{length, replicate}
 use lib.Pow.{pow-pos}
 use Rattle.lists.specs.Numbers.{le-or-lt}
 use Rattle.lists.specs.Backwards.{back-end}
-use Rattle.lists.specs.Lists.{tabulate, length-tabulate, getD-tabulate, zeros-at}
+use Rattle.lists.specs.Lists.{zeros-at}
 use Rattle.model.specs.Instance.{Instance}
 use Rattle.thresholds.specs.Places.{lastPlace, Ascending}
-use Rattle.thresholds.specs.Thresholds.{levelPrice, judge, carried, levelAt, leadBefore, sideAt, raisedAt, inSlot, forward, backward, round, rounds}
-use Rattle.thresholds.specs.ThresholdLaws.{side-beyond, carried-same, carried-above, carried-below, raised-step, raised-end}
+use Rattle.thresholds.specs.Thresholds.{levelPrice, judge, carried, levelAt, leadBefore, sideAt, raisedAt, inSlot, forward, round, rounds}
+use Rattle.thresholds.specs.ThresholdLaws.{side-beyond, forward-entry, backward-entry, carried-same, carried-above, carried-below, raised-step, raised-end}
 use Rattle.theory.specs.Hypotheses.{Plannable}
 use Rattle.theory.specs.Columns.{selection, placeIn}
 use Rattle.theory.specs.NearLeads.{Near, Tells}
@@ -83,27 +83,6 @@ module _ (i : Instance) (counts : List ℕ) (start : ℕ) where
         apart = λ t g. rw (same t (omega arith), same (suc t) g) (within .apart t g);
       }
 
-  -- The entries of the sides that a round finds.
-  forward-entry :
-      (b : ℕ) (plan : List ℕ) (t : ℕ) → t < i .slots → inSlot (forward i counts start b plan) t ≡ sideAt i counts start b (inSlot plan) t
-  unfolding forward
-  forward-entry b plan t h = getD-tabulate (i .slots) (sideAt i counts start b (inSlot plan)) t 0 h
-
-  -- The entries of the places after a round, also in the slot after the last.
-  backward-entry :
-      (b : ℕ) (plan sides : List ℕ) (t : ℕ) → t ≤ i .slots →
-      inSlot (backward (i .slots) b plan sides) t ≡ raisedAt (i .slots) b (inSlot plan) (inSlot sides) t
-  unfolding backward
-  backward-entry b plan sides t h =
-      let new = raisedAt (i .slots) b (inSlot plan) (inSlot sides) in
-      ⊎-elim
-      (λ (end : i .slots ≤ t).
-      let last : t ≡ i .slots = omega arith in
-      List·getD-eq-default (tabulate (i .slots) new) 0 (omega (arith, length-tabulate (i .slots) new)) ∙
-      sym (ap new last ∙ raised-end (i .slots) b (inSlot plan) (inSlot sides)))
-      (λ (inside : t < i .slots). getD-tabulate (i .slots) new t 0 inside)
-      (le-or-lt (i .slots) t)
-
   module _ (asc : Ascending counts (i .modules)) (ready : Plannable i) where
     module _ (b : ℕ) (plan : ℕ → ℕ) (some : 1 ≤ b) (within : Within (b + b) plan) where
       -- A lead that is near before a slot is carried over to one that is near before the next, by the plan so far in the two.
@@ -156,9 +135,9 @@ module _ (i : Instance) (counts : List ℕ) (start : ℕ) where
         (b : ℕ) (plan : List ℕ) → 1 ≤ b → Within (b + b) (inSlot plan) → Within b (inSlot (round i counts start b plan))
     round-within b plan some within =
         let sides = inSlot (forward i counts start b plan) in
-        let tells : AllTell b (inSlot plan) sides = λ t h. rw (forward-entry b plan t h) (side-tells b (inSlot plan) some within t h) in
+        let tells : AllTell b (inSlot plan) sides = λ t h. rw (forward-entry i counts start b plan t h) (side-tells b (inSlot plan) some within t h) in
         within-same b (raisedAt (i .slots) b (inSlot plan) sides) (inSlot (round i counts start b plan))
-        (backward-entry b plan (forward i counts start b plan)) (raised-within b (inSlot plan) sides some within tells)
+        (backward-entry (i .slots) b plan (forward i counts start b plan)) (raised-within b (inSlot plan) sides some within tells)
 
     -- The rounds with the widths 2 ^ (e - 1), .., 2, 1 leave one place for each slot.
     rounds-within : (e : ℕ) (plan : List ℕ) → Within (2 ^ e) (inSlot plan) → Within 1 (inSlot (rounds i counts start e plan))

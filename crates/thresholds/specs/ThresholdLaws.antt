@@ -1,20 +1,22 @@
 -- Laws of what the search digit by digit computes.
 use Prim.Native.Nat.{ℕ, suc, _+_, _-_, _≤_, _<_}
-use mathlib.Core.Path.{_≡_, refl}
+use mathlib.Core.Path.{_≡_, refl, sym, ap, _∙_}
 use mathlib.Core.Bool.{Bool, true, false, cond}
 use mathlib.Core.List.{List}
 use mathlib.Core.Logic.{⊎-elim}
 use native.Mathlib.Nat.{le-of-lt, eq-or-lt-of-le}
 use native.Mathlib.Omega.{arith}
 use lib.Dec.{leb}
-use lib.ListN.{length}
+use lib.ListN.{length, List·getD-eq-default}
 use borrow.Author.Tests.{le-leb, lt-leb, eq-eqb, ne-eqb}
 use Rattle.lists.specs.Numbers.{le-or-lt, true-or-false}
+use Rattle.lists.specs.Lists.{tabulate, length-tabulate, getD-tabulate}
 use Rattle.lists.specs.Backwards.{back-end, back-step}
 use Rattle.model.specs.Instance.{Instance}
 use Rattle.model.specs.Counts.{canServe, operatingCost}
 use Rattle.thresholds.specs.Places.{countAtPlace, lastPlace}
-use Rattle.thresholds.specs.Thresholds.{Verdict, isLess, weighed, levelPrice, judge, carried, raisedPlace, raisedAt}
+use Rattle.thresholds.specs.Thresholds.{Verdict, isLess, weighed, levelPrice, judge, carried, raisedPlace, sideAt, raisedAt}
+use Rattle.thresholds.specs.Thresholds.{inSlot, forward, backward}
 
 -- The test is 1 where x is less than y.
 pub less-one : (x y : ℕ) → x < y → isLess x y ≡ 1
@@ -152,3 +154,26 @@ module _ (slots b : ℕ) (plan sides : ℕ → ℕ) where
   -- After the last slot the place is 0.
   pub raised-end : raisedAt slots b plan sides slots ≡ 0
   raised-end = back-end slots _
+
+-- The entries of the sides that a round finds.
+pub forward-entry :
+    (i : Instance) (counts : List ℕ) (start b : ℕ) (plan : List ℕ) (t : ℕ) → t < i .slots →
+    inSlot (forward i counts start b plan) t ≡ sideAt i counts start b (inSlot plan) t
+unfolding forward
+forward-entry i counts start b plan t h = getD-tabulate (i .slots) (sideAt i counts start b (inSlot plan)) t 0 h
+
+-- The entries of the places after a round, also in the slot after the last.
+pub backward-entry :
+    (slots b : ℕ) (plan sides : List ℕ) (t : ℕ) → t ≤ slots →
+    inSlot (backward slots b plan sides) t ≡ raisedAt slots b (inSlot plan) (inSlot sides) t
+unfolding backward
+backward-entry slots b plan sides t h =
+    ⊎-elim
+    (λ (end : t ≡ slots).
+    List·getD-eq-default (tabulate slots new) 0 (omega (arith, length-tabulate slots new)) ∙
+    sym (ap new end ∙ raised-end slots b (inSlot plan) (inSlot sides)))
+    (λ (inside : t < slots). getD-tabulate slots new t 0 inside)
+    (eq-or-lt-of-le h)
+  where
+    new : ℕ → ℕ
+    new = raisedAt slots b (inSlot plan) (inSlot sides)

@@ -42,6 +42,7 @@ to-counts-requires c κs =
     let found = c .before .before .before .before .before in
     let filled = found .before .before .before .before .before in
     places-found (start filled .pre) (filled .before .before .powers-up-to .ensures) (filled .fill .ensures) (found .rounds .ensures)
+    (found .rounds .kept .1 .1 .1 .1 .0)
 
 fill-requires-2 : tie.Need-fill-requires-2
 fill-requires-2 c κs = tt
