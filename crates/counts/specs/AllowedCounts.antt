@@ -1,5 +1,5 @@
 -- The lists of allowed counts as they are written to memory, and what writing them asks for.
-use Prim.Native.Nat.{ℕ, _+_, _-_, _^_, _≤_}
+use Prim.Native.Nat.{ℕ, _+_, _-_, _^_, _≤_, _<_}
 use mathlib.Core.List.{List}
 use lib.ListN.{length}
 use lib.Count.{leadingZeros}
@@ -28,6 +28,10 @@ pub record CountsRoom (counts : List ℕ) (m : ℕ) : Type 0 where
   pub some : 1 ≤ m
   pub most : m ≤ 200
   pub room : 201 ≤ length counts
+
+-- A power of two that the table of powers has.
+pub record PowerListed (k : ℕ) : Type 0 where
+  pub listed : k < 8
 
 -- A count of a rack that has from 1 to 200 modules.
 pub record RackCount (count modules : ℕ) : Type 0 where

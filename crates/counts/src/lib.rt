@@ -1,14 +1,14 @@
 // Counts of active modules: the planners' lists of allowed counts, the rounded count, and the operating cost of a count.
 use card::Header;
 ghost use mathlib.Core.Path.{_≡_};
-ghost use Prim.Native.Nat.{_^_, _≤_, _<_};
+ghost use Prim.Native.Nat.{_^_, _≤_};
 ghost use lib.ListN.{length};
 ghost use Rattle.lists.specs.Lists.{writtenOver};
 ghost use Rattle.model.specs.Instance.{instanceOf};
 ghost use Rattle.model.specs.Counts.{operatingCost, allCounts, coarseCounts, roundedCount, printedCases, caseValue};
 ghost use Rattle.counts.specs.Serving.{Served};
 ghost use Rattle.model.specs.Planners.{allowedCounts};
-ghost use Rattle.counts.specs.AllowedCounts.{AllRoom, CoarseRoom, CountsRoom, RackCount, plannerOf};
+ghost use Rattle.counts.specs.AllowedCounts.{AllRoom, CoarseRoom, CountsRoom, RackCount, PowerListed, plannerOf};
 ghost use Rattle.counts.specs.AllowedCounts.{numbersBelow, firstPowers, powersUpTo};
 
 // The two planners of document 01.
@@ -22,7 +22,7 @@ const POWERS: [u16; 8] = [1, 2, 4, 8, 16, 32, 64, 128];
 
 // Two to the power of k.
 pub fn power(k: usize) -> u64
-    requires { ⌜ k < 8 ⌝ }
+    requires { ⌜ PowerListed k ⌝ }
     ensures { λ r. ⌜ r ≡ 2 ^ k ⌝ }
 {
     let read = POWERS[k];

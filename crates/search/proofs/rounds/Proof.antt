@@ -18,7 +18,7 @@ loop-holds : tie.Need-loop-holds Inv-loop μ-loop
 loop-holds c = rounds-start _ _ _ _ _
 
 power-requires : tie.Need-power-requires Inv-loop μ-loop
-power-requires c κs = omega (arith, start (c .before) .pre .few, c .before .loop .inv .within)
+power-requires c κs = record { listed = omega (arith, start (c .before) .pre .few, c .before .loop .inv .within) }
 
 forward-requires : tie.Need-forward-requires Inv-loop μ-loop
 forward-requires c κs =
