@@ -50,7 +50,7 @@ module _ (xs : List ℕ) (m : ℕ) (asked : CoarseRoom xs m) {p : ℕ} (p-is : p
     abbrev after : List ℕ
     after = putMid 1 (p + 1 - 1) (set xs 0 0) ys
 
-    after-is : after ≡ zeroAndPowers (p) ++ drop (p + 1) xs
+    after-is : after ≡ zeroAndPowers p ++ drop (p + 1) xs
     unfolding zeroAndPowers
     after-is =
         let some : 0 < length xs = omega (arith, asked .room) in
@@ -63,41 +63,41 @@ module _ (xs : List ℕ) (m : ℕ) (asked : CoarseRoom xs m) {p : ℕ} (p-is : p
         )
 
     -- The entry that is compared with m is the last power.
-    at-last : getD after (p) 0 ≡ 2 ^ (p - 1)
+    at-last : getD after p 0 ≡ 2 ^ (p - 1)
     at-last =
-        let inside : p < length (zeroAndPowers (p)) = omega (arith, length-zeroAndPowers (p)) in
-        ap (λ (l : List ℕ). getD l (p) 0) after-is ∙
-        List·getD-append (zeroAndPowers (p)) (drop (p + 1) xs) 0 (p) inside ∙
-        last-power (p) (known .0)
+        let inside : p < length (zeroAndPowers p) = omega (arith, length-zeroAndPowers p) in
+        ap (λ (l : List ℕ). getD l p 0) after-is ∙
+        List·getD-append (zeroAndPowers p) (drop (p + 1) xs) 0 p inside ∙
+        last-power p (known .0)
 
     -- Where m is a power, the list is complete as it stands.
-    module _ (equal : getD after (p) 0 ≡ m) where
-      power-list : coarseCounts m ≡ zeroAndPowers (p)
+    module _ (equal : getD after p 0 ≡ m) where
+      power-list : coarseCounts m ≡ zeroAndPowers p
       unfolding joined
       power-list = known .2 ∙ rw (eq-eqb (2 ^ (p - 1)) m (sym at-last ∙ equal))
 
       power-length : p + 1 ≡ length (coarseCounts m)
-      power-length = sym (ap length power-list ∙ length-zeroAndPowers (p))
+      power-length = sym (ap length power-list ∙ length-zeroAndPowers p)
 
       pub power-done : (p + 1 ≡ length (coarseCounts m)) × (after ≡ writtenOver (coarseCounts m) xs)
       power-done = (power-length, rw (← power-length, power-list) after-is)
 
     -- Where m is no power, it is joined.
-    module _ (other : getD after (p) 0 ≡ m → ⊥) where
-      other-list : coarseCounts m ≡ zeroAndPowers (p) ++ (m ∷ [])
+    module _ (other : getD after p 0 ≡ m → ⊥) where
+      other-list : coarseCounts m ≡ zeroAndPowers p ++ (m ∷ [])
       unfolding joined
       other-list = known .2 ∙ rw (ne-eqb (2 ^ (p - 1)) m (λ e. other (at-last ∙ e)))
 
       other-length : p + 1 + 1 ≡ length (coarseCounts m)
       other-length =
-          let joined = length-append (zeroAndPowers (p)) (m ∷ []) in
-          omega (arith, ap length other-list, length-zeroAndPowers (p))
+          let joined = length-append (zeroAndPowers p) (m ∷ []) in
+          omega (arith, ap length other-list, length-zeroAndPowers p)
 
       other-written : set after (p + 1) m ≡ writtenOver (coarseCounts m) xs
       other-written =
           let inside : p + 1 < length xs = omega (arith, known .1, asked .room) in
           rw (← other-length, other-list, after-is, drop-cons xs (p + 1) 0 inside, add-one (p + 1), append-assoc)
-          (set-at (zeroAndPowers (p)) _ _ m (p + 1) (length-zeroAndPowers (p)))
+          (set-at (zeroAndPowers p) _ _ m (p + 1) (length-zeroAndPowers p))
 
       pub other-done :
           (p + 1 + 1 ≡ length (coarseCounts m)) ×

@@ -30,7 +30,7 @@ first-lead i counts j =
 pub record ForwardLoop (i : Instance) (counts : List ℕ) (b : ℕ) (plan old sides : List ℕ) (before lead t : ℕ) : Type 0 where
   pub written : Upto (sideAt i counts 0 b (inSlot plan)) t old sides
   carries :
-      carried (levelPrice i counts (levelAt i counts 0 b (inSlot plan) t)) before (inSlot plan t) lead ≡
+      carried (levelPrice i counts (levelAt b (inSlot plan) t)) before (inSlot plan t) lead ≡
       leadBefore i counts 0 b (inSlot plan) t
   pub small : lead ≤ mostLead
 

@@ -30,7 +30,7 @@ module _ {s : List ℕ} {h : Header} {counts : List ℕ} (on : OnCard s h counts
   price-is = omega arith
 
   -- No count exceeds the rack.
-  pub in-rack : (j : ℕ) → countAtPlace counts j ≤ instanceOf s .modules
+  in-rack : (j : ℕ) → countAtPlace counts j ≤ instanceOf s .modules
   in-rack j =
       ⊎-elim
       (λ (g : length counts ≤ j). omega (arith, List·getD-eq-default counts 0 g))

@@ -13,7 +13,7 @@ use Rattle.thresholds.specs.ThresholdLaws.{side-most, side-inside, raised-insid
 use Rattle.search.specs.SearchRequires.{Width, RoundReady, BackReady, RoundsReady}
 use Rattle.search.proofs.Levels.{few-places}
 
--- A power of two below 256 is a width.
+-- A power of two up to 128 is a width.
 power-width : (e : ℕ) → e < 8 → Width (2 ^ e)
 power-width e h =
     record { some = omega (arith, pow-mono {i = 0} {j = e} (omega arith)); most = omega (arith, pow-mono {i = e} {j = 7} (omega arith)) }

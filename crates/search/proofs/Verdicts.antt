@@ -6,7 +6,8 @@ use Rattle.thresholds.specs.Thresholds.{isLess, weighed, raisedPlace}
 
 -- A verdict by its parts: the test on each side, and the truncated difference up to the price.
 pub verdict-is :
-    (w upper lower : ℕ) {side side′ lead : ℕ} → side ≡ isLess upper lower → side′ ≡ isLess upper (lower + w) → lead ≡ min w (upper - lower) →
+    (w upper lower : ℕ) {side side′ lead : ℕ} → side ≡ isLess upper lower → side′ ≡ isLess upper (lower + w) →
+    lead ≡ min w (upper - lower) →
     record { lead = lead; side = side + side′ } ≡ weighed w upper lower
 verdict-is w upper lower a b c = rw (a, b, c) refl
 

@@ -27,7 +27,7 @@ pub record LevelReady (s : List ℕ) (h : Header) (counts : List ℕ) (lead : �
   pub on-card : OnCard s h counts
   pub small : lead ≤ mostLead
 
--- A width of a round: a power of two below 256.
+-- The width of a round, from 1 to 128.
 pub record Width (b : ℕ) : Type 0 where
   pub some : 1 ≤ b
   pub most : b ≤ 128
@@ -57,7 +57,7 @@ pub record Placed (counts plan : List ℕ) : Type 0 where
   pub inside : (t : ℕ) → t < length plan → getD plan t 0 < length counts
   pub bytes : (j : ℕ) → countAtPlace counts j ≤ 255
 
--- An accepted card with its counts, at most eight rounds, places of the list, and room for a side for each slot.
+-- An accepted card with its counts, at most eight rounds, a plan so far, and room for a side for each slot.
 pub record RoundsReady (s : List ℕ) (h : Header) (counts : List ℕ) (e : ℕ) (plan sides : List ℕ) : Type 0 where
   pub on-card : OnCard s h counts
   pub few : e ≤ 8

@@ -54,8 +54,8 @@ module _ {i : Instance} (ready : Plannable i) where
           first = λ r a e. L .first r a (omega (arith, allowed-cost p (L .allowed), allowed-cost r a));
         }
 
-    -- The search over the list finds the least plan and its cost (thesis 4.12, 5.7).
-    pub searched-plan : (searchedPlan i counts 0 ≡ leastPlan i counts) × (searchedCost i counts 0 ≡ leastCost i counts)
+    -- The dynamic program over the list gives the least plan and its cost (thesis 4.12, 5.7).
+    searched-plan : (searchedPlan i counts 0 ≡ leastPlan i counts) × (searchedCost i counts 0 ≡ leastCost i counts)
     searched-plan =
         let L = searched-least i counts 0 asc (ready .loads) in
         let same = least-plan-unique i counts _ _ (by-counts-least L) (least-plan i counts asc (ready .loads)) in
@@ -64,7 +64,7 @@ module _ {i : Instance} (ready : Plannable i) where
 
     -- The plan found digit by digit, in e rounds over a list with at most 2 ^ e places, is the least plan.
     pub threshold-plan : (e : ℕ) → lastPlace counts < 2 ^ e → thresholdPlan i counts 0 e ≡ leastPlan i counts
-    threshold-plan e wide = threshold-searched i counts 0 asc ready e wide ∙ searched-plan .0
+    threshold-plan e wide = threshold-searched i counts 0 asc (ready .loads) (ready .convex) e wide ∙ searched-plan .0
 
     -- The least plan is the least plan by counts.
     pub least-by-counts : LeastByCounts i counts 0 (leastPlan i counts)

@@ -12,7 +12,8 @@ use Rattle.model.specs.Instance.{Instance}
 use Rattle.model.specs.Thesis.{switchingPrice}
 use Rattle.thresholds.specs.Places.{countAtPlace, Ascending}
 use Rattle.thresholds.specs.Thresholds.{levelPrice, judge, firstLead}
-use Rattle.theory.specs.Hypotheses.{Plannable}
+use Rattle.laws.specs.Tables.{Convex}
+use Rattle.theory.specs.Hypotheses.{LoadsFit}
 use Rattle.theory.specs.Columns.{column, selection, placeIn}
 use Rattle.theory.specs.SlotColumns.{by-way, column-best, column-rises}
 use Rattle.theory.specs.ConvexValues.{middle-of-kink}
@@ -34,7 +35,16 @@ held-rise price x y s h =
     rw none (omega (arith, mul-le-mul-left price less)))
     (le-or-lt s x)
 
-module _ (i : Instance) (counts : List ℕ) (start : ℕ) (asc : Ascending counts (i .modules)) (ready : Plannable i) where
+-- Before the first slot the slope is the first lead.
+pub first-slope :
+    (i : Instance) (counts : List ℕ) (start : ℕ) → Ascending counts (i .modules) → (j : ℕ) → j + 1 < length counts →
+    slope i counts start 0 j ≡ firstLead i counts start j
+unfolding column firstLead
+first-slope i counts start asc j inside =
+    held-rise (switchingPrice i) (countAtPlace counts j) (countAtPlace counts (j + 1)) start (le-of-lt (asc .rises j inside))
+
+module _ (i : Instance) (counts : List ℕ) (start : ℕ) (asc : Ascending counts (i .modules)) (loads : LoadsFit i)
+    (convex : Convex (i .topStep) (i .table)) where
   -- Every column is convex.
   column-bends : (t : ℕ) → t ≤ i .slots → (k : ℕ) → k + 1 + 1 < length counts → Bends counts (column i counts start t) k
   unfolding column
@@ -48,33 +58,27 @@ module _ (i : Instance) (counts : List ℕ) (start : ℕ) (asc : Ascending count
       middle-of-kink (switchingPrice i) (z - y) (y - x) (z - start) (y - start) (x - start) (λ some. omega arith) (omega arith) in
       omega arith
   column-bends (suc t) h k inside =
-      after-convex asc (column-best i counts start asc (ready .loads) t h) (ready .convex) (column-bends t (omega arith)) k inside
+      after-convex asc (column-best i counts start asc loads t h) convex (column-bends t (omega arith)) k inside
 
   -- The searched plan's places are places of the list.
   pub place-inside : (t : ℕ) → t ≤ i .slots → placeIn i counts start t < length counts
   place-inside =
       back-all (i .slots) (selection i counts start) (λ j. j < length counts) (omega (arith, asc .two))
-      (λ t next h inside. column-best i counts start asc (ready .loads) t h .chosen-in next inside)
-
-  -- Before the first slot the slope is the first lead.
-  pub first-slope : (j : ℕ) → j + 1 < length counts → slope i counts start 0 j ≡ firstLead i counts start j
-  unfolding column firstLead
-  first-slope j inside =
-      held-rise (switchingPrice i) (countAtPlace counts j) (countAtPlace counts (j + 1)) start (le-of-lt (asc .rises j inside))
+      (λ t next h inside. column-best i counts start asc loads t h .chosen-in next inside)
 
   -- Over a level a column rises by its slope.
   slope-up :
       (t j : ℕ) → t ≤ i .slots → j + 1 < length counts →
       column i counts start t (j + 1) ≡ column i counts start t j + slope i counts start t j
-  slope-up t j h inside = omega (arith, column-rises i counts start asc (ready .loads) t j (j + 1) h (omega arith) inside)
+  slope-up t j h inside = omega (arith, column-rises i counts start asc loads t j (j + 1) h (omega arith) inside)
 
   -- The slope after a slot is the lead that its verdict gives.
   pub next-slope :
       (t j : ℕ) → t < i .slots → j + 1 < length counts →
       slope i counts start (suc t) j ≡ judge i counts j (i .load t) (slope i counts start t j) .lead
   next-slope t j h inside =
-      let best = column-best i counts start asc (ready .loads) t h in
-      let rise = slope-after asc best (ready .convex) (column-bends t (omega arith)) j inside _ (slope-up t j (omega arith) inside) in
+      let best = column-best i counts start asc loads t h in
+      let rise = slope-after asc best convex (column-bends t (omega arith)) j inside _ (slope-up t j (omega arith) inside) in
       omega arith
 
   -- The verdict of slot t on level j is right about the searched plan.
@@ -83,7 +87,7 @@ module _ (i : Instance) (counts : List ℕ) (start : ℕ) (asc : Ascending count
       Judged j (placeIn i counts start t) (placeIn i counts start (suc t)) (levelPrice i counts j) (slope i counts start t j)
       (judge i counts j (i .load t))
   judged-at t j h inside =
-      let best = column-best i counts start asc (ready .loads) t h in
+      let best = column-best i counts start asc loads t h in
       rw (back-step (i .slots) (selection i counts start) t h)
-      (judged asc best (ready .convex) (column-bends t (omega arith)) j inside _ (slope-up t j (omega arith) inside) _
+      (judged asc best convex (column-bends t (omega arith)) j inside _ (slope-up t j (omega arith) inside) _
       (place-inside (suc t) h))

@@ -52,6 +52,10 @@ concave = ofTable (0 ∷ 2 ∷ 3 ∷ [])
 abbrev peaked : Instance
 peaked = ofTable (0 ∷ 5 ∷ 1 ∷ [])
 
+-- A convex table.
+abbrev straight : Instance
+straight = ofTable (0 ∷ 2 ∷ 4 ∷ [])
+
 -- A row with one module at step 0 and one at step 2.
 abbrev unevenRow : ℕ → ℕ
 unevenRow k = getD (0 ∷ 2 ∷ []) k 0
@@ -241,7 +245,7 @@ all-off-before = (
   lit< tt,
 )
 
--- From a start count the search may cost more than twice as much as a plan without the price of the start: here 1 against 0.
+-- From a start count the dynamic program may cost more than twice as much as a plan without the price of the start: here 1 against 0.
 pub start-has-a-price :
     Plannable (level 2 0 1) × Ascending (noneOrAll 2) 2 × GrowsBy 2 (noneOrAll 2) ×
     PlanFits (level 2 0 1) (1 ∷ []) × (2 * countsCost (level 2 0 1) 1 (1 ∷ []) < searchedCost (level 2 0 1) (noneOrAll 2) 1)
@@ -271,6 +275,11 @@ bent =
 pub running-needs-convex : operatingCost bent 1 3 + operatingCost bent 3 3 < 2 * operatingCost bent 2 3
 unfolding leastOver leastFrom operatingCost
 running-needs-convex = lit< tt
+
+-- Nor is it convex from a count on that cannot serve the load: a load of 1 with no, one and two modules costs 0, 2 and 2.
+pub running-needs-served : operatingCost straight 0 1 + operatingCost straight 2 1 < 2 * operatingCost straight 1 1
+unfolding leastOver leastFrom operatingCost
+running-needs-served = lit< tt
 
 -- Nor need the plan by thresholds be the least: one module, which costs 1, and not three, which cost 0. The list is all counts, and two rounds
 -- are as many as it needs.

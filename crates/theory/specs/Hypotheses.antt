@@ -1,17 +1,18 @@
 -- The hypotheses that the theorems share, as propositions.
-use Prim.Native.Nat.{ℕ, suc, _+_, _-_, _*_, _≤_, _<_}
+use Prim.Native.Nat.{ℕ, suc, _*_, _≤_, _<_}
 use mathlib.Core.Path.{_≡_}
 use mathlib.Core.Bool.{true}
 use mathlib.Core.List.{List}
 use lib.ListN.{length, getD}
 use Rattle.lists.specs.Sums.{sum}
 use Rattle.model.specs.Instance.{Instance}
-use Rattle.model.specs.Counts.{canServe, operatingCost}
+use Rattle.model.specs.Counts.{canServe}
 use Rattle.model.specs.Sheets.{off, isEntry, stepOf, stepCost, activeOf}
-use Rattle.model.specs.Thesis.{switchingPrice, countAt, slotCost, countsCost}
+use Rattle.model.specs.Thesis.{countAt, slotCost, countsCost}
 use Rattle.model.specs.Plans.{Allowed, NotAfter, planServes}
 use Rattle.laws.specs.Tables.{Convex}
 use Rattle.thresholds.specs.Places.{countAtPlace}
+use Rattle.theory.specs.Columns.{servedUpTo}
 
 -- The full rack serves every load.
 abbrev pub LoadsFit : Instance → Type 0
@@ -51,18 +52,14 @@ pub record PlanFits (i : Instance) (p : List ℕ) : Type 0 where
 pub record SlotBest (i : Instance) (counts : List ℕ) (l : ℕ) (before after chosen : ℕ → ℕ) : Type 0 where
   pub at-most :
       (j k : ℕ) → j < length counts → k < length counts → canServe i (countAtPlace counts k) l ≡ true →
-      after j ≤ before k + operatingCost i (countAtPlace counts k) l + switchingPrice i * (countAtPlace counts j - countAtPlace counts k)
+      after j ≤ servedUpTo i counts l before j k
   pub chosen-in : (j : ℕ) → j < length counts → chosen j < length counts
   pub chosen-serves : (j : ℕ) → j < length counts → canServe i (countAtPlace counts (chosen j)) l ≡ true
   pub attained :
-      (j : ℕ) → j < length counts →
-      after j ≡
-      before (chosen j) + operatingCost i (countAtPlace counts (chosen j)) l +
-      switchingPrice i * (countAtPlace counts j - countAtPlace counts (chosen j))
+      (j : ℕ) → j < length counts → after j ≡ servedUpTo i counts l before j (chosen j)
   pub smallest :
       (j k : ℕ) → j < length counts → k < length counts → canServe i (countAtPlace counts k) l ≡ true →
-      after j ≡ before k + operatingCost i (countAtPlace counts k) l + switchingPrice i * (countAtPlace counts j - countAtPlace counts k) →
-      chosen j ≤ k
+      after j ≡ servedUpTo i counts l before j k → chosen j ≤ k
 
 -- The cost by counts of a plan's first t slots.
 abbrev pub costOfFirst : Instance → ℕ → List ℕ → ℕ → ℕ

@@ -1,4 +1,4 @@
--- The search over a list of allowed counts gives the least plan by counts, first in tie order.
+-- The dynamic program over a list of allowed counts gives the least plan by counts, first in tie order.
 use Prim.Native.Nat.{ℕ, zero, suc, _+_, _-_, _*_, _≤_, _<_}
 use mathlib.Core.Path.{_≡_, refl, sym, _∙_}
 use mathlib.Core.List.{List, [], _∷_, _++_}
@@ -46,6 +46,14 @@ module _ (i : Instance) (start : ℕ) where
       let before : (u : ℕ) → u < t → getD (p ++ (x ∷ [])) u 0 ≡ getD p u 0 = λ u h. snoc-before p x 0 t u e h in
       rw (cost-same t (p ++ (x ∷ [])) p before, count-same t (p ++ (x ∷ [])) p before, getD-at p x [] 0 t e)
 
+-- The way back has a count for each slot.
+pub way-back-length : (i : Instance) (counts : List ℕ) (start t j : ℕ) → length (wayBack i counts start t j) ≡ t
+unfolding wayBack
+way-back-length i counts start zero j = refl
+way-back-length i counts start (suc t) j =
+    let c = selection i counts start t j in
+    snoc-length (wayBack i counts start t c) _ t (way-back-length i counts start t c)
+
 module _ (i : Instance) (counts : List ℕ) (start : ℕ) (asc : Ascending counts (i .modules)) (loads : LoadsFit i) where
   -- The cost of a plan's first t slots and the price of switching on from its count there up to place j.
   abbrev costTo : List ℕ → ℕ → ℕ → ℕ
@@ -66,12 +74,6 @@ module _ (i : Instance) (counts : List ℕ) (start : ℕ) (asc : Ascending count
         column-best i counts start asc loads t h .at-most j k inside within serves,
       ))
 
-  -- The way back has a count for each slot.
-  pub way-back-length : (t j : ℕ) → length (wayBack i counts start t j) ≡ t
-  unfolding wayBack
-  way-back-length zero j = refl
-  way-back-length (suc t) j = let c = selection i counts start t j in snoc-length (wayBack i counts start t c) _ t (way-back-length t c)
-
   -- The counts of the way back stand at places that serve.
   way-back-placed : (t j : ℕ) → t ≤ i .slots → j < length counts → Placed i counts (wayBack i counts start t j) t
   unfolding wayBack
@@ -80,7 +82,7 @@ module _ (i : Instance) (counts : List ℕ) (start : ℕ) (asc : Ascending count
       let c = selection i counts start t j in
       let best = column-best i counts start asc loads t h in
       let within = best .chosen-in j inside in
-      placed-snoc i counts (wayBack i counts start t c) t c (way-back-length t c) (way-back-placed t c (omega arith) within) within
+      placed-snoc i counts (wayBack i counts start t c) t c (way-back-length i counts start t c) (way-back-placed t c (omega arith) within) within
       (best .chosen-serves j inside)
 
   -- The way back costs what the column says.
@@ -91,7 +93,7 @@ module _ (i : Instance) (counts : List ℕ) (start : ℕ) (asc : Ascending count
       let c = selection i counts start t j in
       let best = column-best i counts start asc loads t h in
       let p = wayBack i counts start t c in
-      let whole = way-back-length t c in
+      let whole = way-back-length i counts start t c in
       rw (getD-at p (countAtPlace counts c) [] 0 t whole)
       (omega (
         arith,
@@ -111,7 +113,7 @@ module _ (i : Instance) (counts : List ℕ) (start : ℕ) (asc : Ascending count
       let best = column-best i counts start asc loads t h in
       let n = countAtPlace counts c in
       let p = wayBack i counts start t c in
-      let whole = way-back-length t c in
+      let whole = way-back-length i counts start t c in
       let last = getD-at p n [] 0 t whole in
       let (k, within, here, serves) = placed t (omega arith) in
       let earlier : Placed i counts r t = λ u g. placed u (omega arith) in
@@ -134,7 +136,7 @@ module _ (i : Instance) (counts : List ℕ) (start : ℕ) (asc : Ascending count
   first-inside : 0 < length counts
   first-inside = omega (arith, asc .two)
 
-  -- The cost of the search is that of its plan.
+  -- The cost of the dynamic program is that of its plan.
   pub searched-cost : searchedCost i counts start ≡ countsCost i start (searchedPlan i counts start)
   unfolding searchedCost searchedPlan
   searched-cost =
@@ -150,13 +152,13 @@ module _ (i : Instance) (counts : List ℕ) (start : ℕ) (asc : Ascending count
         cost-to-first r,
       )
 
-  -- The plan of the search is the least by counts, first in tie order (thesis 4.12).
+  -- The plan of the dynamic program is the least by counts, first in tie order (thesis 4.12).
   pub searched-least : LeastByCounts i counts start (searchedPlan i counts start)
   unfolding searchedPlan searchedCost
   searched-least =
       record {
         allowed =
-            allowed-of i counts (wayBack i counts start (i .slots) 0) (way-back-length (i .slots) 0)
+            allowed-of i counts (wayBack i counts start (i .slots) 0) (way-back-length i counts start (i .slots) 0)
             (way-back-placed (i .slots) 0 (omega arith) first-inside);
         least = λ r a. omega (arith, searched-cost, searched-below r a);
         first =

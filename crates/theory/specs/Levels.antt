@@ -110,7 +110,7 @@ module _
         let low : x < y = asc .rises k (omega arith) in
         let second : x + (y - x) ≡ y = omega arith in
         let third : y + (z - y) ≡ z = omega (arith, asc .rises (k + 1) inside) in
-        rw (second, third) at (running-convex i convex x (y - x) (z - y) l (omega arith) (leb-true l (x * i .topStep) serves))
+        rw (second, third) at (running-convex i convex x (y - x) (z - y) l (leb-true l (x * i .topStep) serves))
 
     -- On a convex table and after a convex column.
     module _ (convex : Convex (i .topStep) (i .table)) (bends : (k : ℕ) → k + 1 + 1 < length counts → Bends counts before k) where
@@ -291,8 +291,11 @@ module _
         judged own e n here =
             ⊎-elim
             (λ (serves : Serves k).
-            rw (fun-ext (λ lead. judge-serves i counts k l lead (omega arith) serves)) (judged-weighed k (chosen n) n _ _ _ own (sides own e serves n here)))
-            (λ (fails : Fails k). rw (fun-ext (λ lead. judge-forced i counts k l lead (omega arith) fails)) (judged-forced k (chosen n) n _ own (forced fails n here)))
+            rw (fun-ext (λ lead. judge-serves i counts k l lead (omega arith) serves))
+            (judged-weighed k (chosen n) n _ _ _ own (sides own e serves n here)))
+            (λ (fails : Fails k).
+            rw (fun-ext (λ lead. judge-forced i counts k l lead (omega arith) fails))
+            (judged-forced k (chosen n) n _ own (forced fails n here)))
             (serves-or-fails k)
 
       -- The column after the slot is convex.

@@ -1,8 +1,9 @@
 -- The theorems, a module a subject. Every statement is over instances and lists of any size. The end theorems are in SheetLaws,
--- Enumeration, Average, CountLists, Condition3, Explanations, RearrangedSheets, SmallestPlans, Refusals, Outcomes, ExplainedSheets,
--- CourseBook, ListedCounts, LongInput, Generator and PracticeCards, and the other modules lead to them. Counterexamples shows that their
--- hypotheses are needed, and Applications that they can be met. RelatedCards and BookExamples show that the hypotheses of CourseBook can be
--- met, and that sharper forms of its facts fail.
+-- RunningCosts, ThresholdPlans, Enumeration, Average, CountLists, Condition3, Explanations, RearrangedSheets, SmallestPlans, Refusals,
+-- Outcomes, ExplainedSheets, CourseBook, ListedCounts, LongInput, Generator and PracticeCards, and the other modules lead to them.
+-- Counterexamples shows that their hypotheses are needed, and Applications that they can be met. RelatedCards and BookExamples show that
+-- the hypotheses of CourseBook can be met, and that sharper forms of its facts fail.
+pub mod Columns
 pub mod Hypotheses
 pub mod RowCosts
 pub mod Switching
@@ -10,7 +11,6 @@ pub mod CountCosts
 pub mod SheetLaws
 pub mod PlacedPlans
 pub mod Ties
-pub mod Columns
 pub mod Choices
 pub mod SlotColumns
 pub mod Least

@@ -12,7 +12,7 @@ pub record Near (j x lead own : ℕ) : Type 0 where
   pub above : j < x → lead ≤ own
   pub below : x ≤ j → own ≤ lead
 
--- On which side of the level the plan is in a slot, by its side in the next slot and by what the two places cost.
+-- What the two places cost, where `own` is the right lead, by the sides of the level on which the plan is in a slot and in the next.
 pub record Sides (j x next w upper lower own : ℕ) : Type 0 where
   pub both : j < x → j < next → own + upper < lower + w
   pub falls : j < x → next ≤ j → own + upper < lower

@@ -14,7 +14,8 @@ use Rattle.model.specs.Instance.{Instance}
 use Rattle.thresholds.specs.Places.{lastPlace, Ascending}
 use Rattle.thresholds.specs.Thresholds.{levelPrice, judge, carried, levelAt, leadBefore, sideAt, raisedAt, inSlot, forward, round, rounds}
 use Rattle.thresholds.specs.ThresholdLaws.{side-beyond, forward-entry, backward-entry, carried-same, carried-above, carried-below, raised-step, raised-end}
-use Rattle.theory.specs.Hypotheses.{Plannable}
+use Rattle.laws.specs.Tables.{Convex}
+use Rattle.theory.specs.Hypotheses.{LoadsFit}
 use Rattle.theory.specs.Columns.{selection, placeIn}
 use Rattle.theory.specs.NearLeads.{Near, Tells}
 use Rattle.theory.specs.ConvexColumns.{slope, place-inside, first-slope, next-slope, judged-at}
@@ -25,10 +26,6 @@ module _ (i : Instance) (counts : List ℕ) (start : ℕ) where
   abbrev place : ℕ → ℕ
   place = placeIn i counts start
 
-  -- The level that is judged in a slot, in a round with the width b.
-  abbrev level : (b : ℕ) → (plan : ℕ → ℕ) → ℕ → ℕ
-  level = levelAt i counts start
-
   -- A plan so far with the width h: the searched plan's place is one of the h places from `plan t` on, and those of neighbouring slots are
   -- the same or do not meet. The slot after the last counts too.
   record Within (h : ℕ) (plan : ℕ → ℕ) : Type 0 where
@@ -38,7 +35,7 @@ module _ (i : Instance) (counts : List ℕ) (start : ℕ) where
 
   -- The sides of all slots in a round with the width b tell on which side of its level the searched plan is.
   abbrev AllTell : (b : ℕ) → (plan sides : ℕ → ℕ) → Type 0
-  AllTell b plan sides = (t : ℕ) → t < i .slots → Tells (level b plan t) (place t) (place (suc t)) (sides t)
+  AllTell b plan sides = (t : ℕ) → t < i .slots → Tells (levelAt b plan t) (place t) (place (suc t)) (sides t)
 
   -- Backward through the slots, by sides that tell.
   module _ (b : ℕ) (plan sides : ℕ → ℕ) (some : 1 ≤ b) (within : Within (b + b) plan) (tells : AllTell b plan sides) where
@@ -83,37 +80,38 @@ module _ (i : Instance) (counts : List ℕ) (start : ℕ) where
         apart = λ t g. rw (same t (omega arith), same (suc t) g) (within .apart t g);
       }
 
-  module _ (asc : Ascending counts (i .modules)) (ready : Plannable i) where
+  module _ (asc : Ascending counts (i .modules)) (loads : LoadsFit i)
+      (convex : Convex (i .topStep) (i .table)) where
     module _ (b : ℕ) (plan : ℕ → ℕ) (some : 1 ≤ b) (within : Within (b + b) plan) where
       -- A lead that is near before a slot is carried over to one that is near before the next, by the plan so far in the two.
       carried-near :
-          (t lead : ℕ) → t < i .slots → level b plan (suc t) + 1 < length counts →
-          (level b plan t + 1 < length counts → Near (level b plan t) (place t) lead (slope i counts start t (level b plan t))) →
+          (t lead : ℕ) → t < i .slots → levelAt b plan (suc t) + 1 < length counts →
+          (levelAt b plan t + 1 < length counts → Near (levelAt b plan t) (place t) lead (slope i counts start t (levelAt b plan t))) →
           Apart (b + b) (plan t) (plan (suc t)) →
-          Near (level b plan (suc t)) (place (suc t))
-          (carried (levelPrice i counts (level b plan (suc t))) (plan t) (plan (suc t)) (judge i counts (level b plan t) (i .load t) lead .lead))
-          (slope i counts start (suc t) (level b plan (suc t)))
+          Near (levelAt b plan (suc t)) (place (suc t))
+          (carried (levelPrice i counts (levelAt b plan (suc t))) (plan t) (plan (suc t)) (judge i counts (levelAt b plan t) (i .load t) lead .lead))
+          (slope i counts start (suc t) (levelAt b plan (suc t)))
       carried-near t lead h inside near (equal e) =
-          let j = level b plan (suc t) in
-          rw (carried-same (levelPrice i counts j) (plan t) (plan (suc t)) (judge i counts (level b plan t) (i .load t) lead .lead) (sym e), e, next-slope i counts start asc ready t j h inside)
-          (judged-at i counts start asc ready t j h inside .near lead (rw e at near inside))
+          let j = levelAt b plan (suc t) in
+          rw (carried-same (levelPrice i counts j) (plan t) (plan (suc t)) (judge i counts (levelAt b plan t) (i .load t) lead .lead) (sym e), e, next-slope i counts start asc loads convex t j h inside)
+          (judged-at i counts start asc loads convex t j h inside .near lead (rw e at near inside))
       carried-near t lead h inside near (lower g) =
-          let j = level b plan (suc t) in
-          rw (carried-below (levelPrice i counts j) (plan t) (plan (suc t)) (judge i counts (level b plan t) (i .load t) lead .lead) (omega arith))
-          (rw (next-slope i counts start asc ready t j h inside)
-          (judged-at i counts start asc ready t j h inside .from-below (omega (arith, within .high t (omega arith)))))
+          let j = levelAt b plan (suc t) in
+          rw (carried-below (levelPrice i counts j) (plan t) (plan (suc t)) (judge i counts (levelAt b plan t) (i .load t) lead .lead) (omega arith))
+          (rw (next-slope i counts start asc loads convex t j h inside)
+          (judged-at i counts start asc loads convex t j h inside .from-below (omega (arith, within .high t (omega arith)))))
       carried-near t lead h inside near (higher g) =
-          let j = level b plan (suc t) in
-          rw (carried-above (levelPrice i counts j) (plan t) (plan (suc t)) (judge i counts (level b plan t) (i .load t) lead .lead) (omega arith))
-          (rw (next-slope i counts start asc ready t j h inside)
-          (judged-at i counts start asc ready t j h inside .from-above (omega (arith, within .low t (omega arith)))))
+          let j = levelAt b plan (suc t) in
+          rw (carried-above (levelPrice i counts j) (plan t) (plan (suc t)) (judge i counts (levelAt b plan t) (i .load t) lead .lead) (omega arith))
+          (rw (next-slope i counts start asc loads convex t j h inside)
+          (judged-at i counts start asc loads convex t j h inside .from-above (omega (arith, within .low t (omega arith)))))
 
       -- The lead before each slot is near, if its level is inside the list.
       lead-near :
-          (t : ℕ) → t < i .slots → level b plan t + 1 < length counts →
-          Near (level b plan t) (place t) (leadBefore i counts start b plan t) (slope i counts start t (level b plan t))
+          (t : ℕ) → t < i .slots → levelAt b plan t + 1 < length counts →
+          Near (levelAt b plan t) (place t) (leadBefore i counts start b plan t) (slope i counts start t (levelAt b plan t))
       unfolding leadBefore
-      lead-near zero h inside = omega (arith, first-slope i counts start asc ready (level b plan 0) inside)
+      lead-near zero h inside = omega (arith, first-slope i counts start asc (levelAt b plan 0) inside)
       lead-near (suc t) h inside =
           let earlier : t < i .slots = omega arith in
           carried-near t (leadBefore i counts start b plan t) earlier inside (lead-near t earlier) (within .apart t earlier)
@@ -122,12 +120,12 @@ module _ (i : Instance) (counts : List ℕ) (start : ℕ) where
       side-tells : AllTell b plan (sideAt i counts start b plan)
       unfolding sideAt
       side-tells t h =
-          let j = level b plan t in
+          let j = levelAt b plan t in
           let lead = leadBefore i counts start b plan t in
           ⊎-elim
           (λ (beyond : length counts ≤ j + 1).
-          omega (arith, side-beyond i counts j (i .load t) lead beyond, place-inside i counts start asc ready t (omega arith)))
-          (λ (inside : j + 1 < length counts). judged-at i counts start asc ready t j h inside .tells lead (lead-near t h inside))
+          omega (arith, side-beyond i counts j (i .load t) lead beyond, place-inside i counts start asc loads convex t (omega arith)))
+          (λ (inside : j + 1 < length counts). judged-at i counts start asc loads convex t j h inside .tells lead (lead-near t h inside))
           (le-or-lt (length counts) (j + 1))
 
     -- A round halves the width.
@@ -151,7 +149,7 @@ module _ (i : Instance) (counts : List ℕ) (start : ℕ) where
     all-within e wide =
         record {
           low = λ t h. omega (arith, zeros-at (i .slots) t);
-          high = λ t h. omega (arith, zeros-at (i .slots) t, place-inside i counts start asc ready t h);
+          high = λ t h. omega (arith, zeros-at (i .slots) t, place-inside i counts start asc loads convex t h);
           apart = λ t h. equal (zeros-at (i .slots) t ∙ sym (zeros-at (i .slots) (suc t)));
         }
 

@@ -2,7 +2,7 @@
 use Prim.Native.Nat.{ℕ, _+_, _-_, _*_, _/_, _%_, _≤_, _<_}
 use mathlib.Core.Path.{_≡_, ap}
 use mathlib.Core.Logic.{⊎-elim}
-use native.Mathlib.Nat.{div-add-mod, div-le-of-le-mul, sub-add-cancel, mul-le-mul-left, mul-le-mul-right}
+use native.Mathlib.Nat.{add-zero, eq-zero-or-pos, div-add-mod, div-le-of-le-mul, sub-add-cancel, mul-le-mul-left, mul-le-mul-right}
 use native.Mathlib.Omega.{arith}
 use Rattle.lists.specs.Numbers.{le-or-lt}
 use Rattle.lists.specs.Products.{mul-le-mul-some}
@@ -62,11 +62,15 @@ middle-on-line :
 middle-on-line x u v p q y z a b c on first third =
     omega (arith, mul-le-mul-left v first, mul-le-mul-left u third, ap (λ (y : ℕ). (u + v) * y) on)
 
--- On a convex table, falling or not, of three counts x < x + u < x + u + v that serve a load the middle one costs at most the straight line
+-- On a convex table, falling or not, of three counts x ≤ x + u ≤ x + u + v that serve a load the middle one costs at most the straight line
 -- between its neighbours: the operating cost is convex in the count.
 pub running-convex :
-    (i : Instance) → Convex (i .topStep) (i .table) → (x u v l : ℕ) → 0 < u → l ≤ x * i .topStep →
+    (i : Instance) → Convex (i .topStep) (i .table) → (x u v l : ℕ) → l ≤ x * i .topStep →
     Middle u v (operatingCost i x l) (operatingCost i (x + u) l) (operatingCost i (x + u + v) l)
-running-convex i convex x u v l apart fits =
+running-convex i convex x u v l fits =
+    ⊎-elim
+    (λ (none : u ≡ 0). rw (none, add-zero x) (omega arith))
+    (λ (some : 0 < u).
     let line = operating-above i (l / (x + u)) _ _ (line-below i convex x (x + u) l (omega arith) fits) in
-    middle-on-line x u v _ _ _ _ _ _ _ (on-line i (x + u) l (omega arith)) (line x l fits) (line (x + u + v) l (omega arith))
+    middle-on-line x u v _ _ _ _ _ _ _ (on-line i (x + u) l (omega arith)) (line x l fits) (line (x + u + v) l (omega arith)))
+    (eq-zero-or-pos u)

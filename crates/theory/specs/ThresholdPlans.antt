@@ -14,12 +14,14 @@ use Rattle.lists.specs.Members.{snoc-before}
 use Rattle.model.specs.Instance.{Instance}
 use Rattle.thresholds.specs.Places.{countAtPlace, lastPlace, Ascending}
 use Rattle.thresholds.specs.Thresholds.{thresholdPlan}
-use Rattle.theory.specs.Hypotheses.{Plannable, LeastByCounts}
+use Rattle.laws.specs.Tables.{Convex}
+use Rattle.theory.specs.Hypotheses.{LoadsFit, LeastByCounts}
 use Rattle.theory.specs.Columns.{selection, wayBack, searchedPlan, placeIn}
 use Rattle.theory.specs.Least.{way-back-length, searched-least}
 use Rattle.theory.specs.Rounds.{rounds-found}
 
-module _ (i : Instance) (counts : List ℕ) (start : ℕ) (asc : Ascending counts (i .modules)) (ready : Plannable i) where
+module _ (i : Instance) (counts : List ℕ) (start : ℕ) (asc : Ascending counts (i .modules)) (loads : LoadsFit i)
+    (convex : Convex (i .topStep) (i .table)) where
   -- The way back from the searched plan's place after t slots has the counts at its places before.
   way-back-entry :
       (t u : ℕ) → t ≤ i .slots → u < t →
@@ -29,7 +31,7 @@ module _ (i : Instance) (counts : List ℕ) (start : ℕ) (asc : Ascending count
   way-back-entry (suc t) u h g =
       let before = wayBack i counts start t (placeIn i counts start t) in
       let count = countAtPlace counts (placeIn i counts start t) in
-      let size = way-back-length i counts start asc (ready .loads) t (placeIn i counts start t) in
+      let size = way-back-length i counts start t (placeIn i counts start t) in
       rw (sym (back-step (i .slots) (selection i counts start) t h))
       (⊎-elim
       (λ (last : t ≤ u).
@@ -44,12 +46,12 @@ module _ (i : Instance) (counts : List ℕ) (start : ℕ) (asc : Ascending count
   threshold-searched e wide =
       sym
       (equal-tabulate
-      (way-back-length i counts start asc (ready .loads) (i .slots) 0)
+      (way-back-length i counts start (i .slots) 0)
       (λ t h.
       ap (λ (j : ℕ). getD (wayBack i counts start (i .slots) j) t 0) (sym (back-end (i .slots) (selection i counts start))) ∙
       way-back-entry (i .slots) t (omega arith) h ∙
-      ap (countAtPlace counts) (sym (rounds-found i counts start asc ready e wide t h))))
+      ap (countAtPlace counts) (sym (rounds-found i counts start asc loads convex e wide t h))))
 
   -- The plan found in e rounds is the least plan by counts, first in tie order.
   pub threshold-least : (e : ℕ) → lastPlace counts < 2 ^ e → LeastByCounts i counts start (thresholdPlan i counts start e)
-  threshold-least e wide = rw (threshold-searched e wide) (searched-least i counts start asc (ready .loads))
+  threshold-least e wide = rw (threshold-searched e wide) (searched-least i counts start asc loads)

@@ -1,4 +1,5 @@
--- Plans found digit by digit, beside the least plans by the dynamic program over columns, which were worked out apart from these definitions.
+-- Plans found digit by digit, beside the least plans by a dynamic program over columns, which were worked out apart from these
+-- definitions.
 use Prim.Native.Nat.{ℕ, _-_}
 use mathlib.Core.Path.{_≡_, refl}
 use mathlib.Core.Bool.{Bool, true, _&&_}
@@ -13,27 +14,28 @@ use Rattle.model.specs.Counts.{canServe, operatingCost}
 use Rattle.thresholds.specs.Thresholds.{isLess, judge, firstLead, carried, raisedPlace, leadBefore, sideAt, forward, backward, rounds}
 use Rattle.thresholds.specs.Thresholds.{thresholdPlan}
 
--- A show of a rack of m with a table, a switching price and loads; the allowed counts, the start count and the number of rounds; and the
--- least plan.
+-- A show of a rack of m with a table, two prices and loads; the allowed counts, the start count and the number of rounds; and the least
+-- plan.
 record Row : Type 0 where
   modules : ℕ
   table : List ℕ
-  price : ℕ
+  powerUp : ℕ
+  powerDown : ℕ
   loads : List ℕ
   counts : List ℕ
   start : ℕ
   digits : ℕ
   least : List ℕ
 
--- The show of a row. The price is that of switching on.
+-- The show of a row.
 abbrev showOf : Row → Instance
 showOf r =
     record {
       modules = r .modules;
       topStep = length (r .table) - 1;
       slots = length (r .loads);
-      powerUp = r .price;
-      powerDown = 0;
+      powerUp = r .powerUp;
+      powerDown = r .powerDown;
       table = λ k. getD (r .table) k 0;
       load = λ t. getD (r .loads) t 0;
     }
@@ -42,13 +44,19 @@ showOf r =
 abbrev found : Row → Bool
 found r = sameList (thresholdPlan (showOf r) (r .counts) (r .start) (r .digits)) (r .least)
 
+-- So it is for each row of a list.
+allFound : List Row → Bool
+allFound [] = true
+allFound (r ∷ rs) = found r && allFound rs
+
 -- All counts of a rack of 7, with loads, so many rounds and the least plan.
 abbrev allCountsOf : (loads : List ℕ) → (digits : ℕ) → (least : List ℕ) → Row
 allCountsOf loads digits least =
     record {
       modules = 7;
       table = 0 ∷ 5 ∷ 11 ∷ [];
-      price = 4;
+      powerUp = 3;
+      powerDown = 1;
       loads = loads;
       counts = 0 ∷ 1 ∷ 2 ∷ 3 ∷ 4 ∷ 5 ∷ 6 ∷ 7 ∷ [];
       start = 0;
@@ -56,12 +64,9 @@ allCountsOf loads digits least =
       least = least;
     }
 
--- With seven slots, with a round more than the list needs, and with no slot.
-abbrev allCountsRow : Row
-allCountsRow = allCountsOf (3 ∷ 11 ∷ 4 ∷ 11 ∷ 4 ∷ 5 ∷ 0 ∷ []) 3 (3 ∷ 6 ∷ 6 ∷ 6 ∷ 5 ∷ 5 ∷ 0 ∷ [])
-
-abbrev moreRoundsRow : Row
-moreRoundsRow = allCountsOf (3 ∷ 11 ∷ 4 ∷ 11 ∷ 4 ∷ 5 ∷ 0 ∷ []) 4 (3 ∷ 6 ∷ 6 ∷ 6 ∷ 5 ∷ 5 ∷ 0 ∷ [])
+-- With seven slots and three rounds, which are as many as the list needs, or more; and with no slot.
+abbrev allCountsRow : (digits : ℕ) → Row
+allCountsRow digits = allCountsOf (3 ∷ 11 ∷ 4 ∷ 11 ∷ 4 ∷ 5 ∷ 0 ∷ []) digits (3 ∷ 6 ∷ 6 ∷ 6 ∷ 5 ∷ 5 ∷ 0 ∷ [])
 
 abbrev noSlotRow : Row
 noSlotRow = allCountsOf [] 3 []
@@ -72,7 +77,8 @@ startRow =
     record {
       modules = 3;
       table = 5 ∷ 6 ∷ 7 ∷ 13 ∷ [];
-      price = 8;
+      powerUp = 5;
+      powerDown = 3;
       loads = 0 ∷ 4 ∷ 2 ∷ 1 ∷ 6 ∷ 5 ∷ 7 ∷ [];
       counts = 0 ∷ 2 ∷ 3 ∷ [];
       start = 2;
@@ -80,22 +86,38 @@ startRow =
       least = 2 ∷ 2 ∷ 2 ∷ 2 ∷ 3 ∷ 3 ∷ 3 ∷ [];
     }
 
--- Such a list with a table that falls at first.
+-- Such a list with a table that falls.
 abbrev fallingRow : Row
 fallingRow =
     record {
-      modules = 7;
-      table = 4 ∷ 2 ∷ 6 ∷ [];
-      price = 3;
-      loads = 8 ∷ 5 ∷ 6 ∷ 9 ∷ 13 ∷ 0 ∷ 6 ∷ [];
-      counts = 0 ∷ 1 ∷ 4 ∷ 5 ∷ 6 ∷ 7 ∷ [];
-      start = 4;
+      modules = 6;
+      table = 4 ∷ 2 ∷ 1 ∷ [];
+      powerUp = 2;
+      powerDown = 4;
+      loads = 2 ∷ 7 ∷ 12 ∷ 3 ∷ 4 ∷ 5 ∷ [];
+      counts = 0 ∷ 1 ∷ 2 ∷ 3 ∷ 4 ∷ 6 ∷ [];
+      start = 2;
       digits = 3;
-      least = 5 ∷ 5 ∷ 6 ∷ 7 ∷ 7 ∷ 4 ∷ 4 ∷ [];
+      least = 2 ∷ 4 ∷ 6 ∷ 3 ∷ 3 ∷ 3 ∷ [];
+    }
+
+-- All counts from a start count, with loads that rise and fall twice.
+abbrev risingTwiceRow : Row
+risingTwiceRow =
+    record {
+      modules = 7;
+      table = 4 ∷ 4 ∷ 5 ∷ 8 ∷ [];
+      powerUp = 2;
+      powerDown = 2;
+      loads = 5 ∷ 12 ∷ 16 ∷ 20 ∷ 6 ∷ 10 ∷ 20 ∷ [];
+      counts = 0 ∷ 1 ∷ 2 ∷ 3 ∷ 4 ∷ 5 ∷ 6 ∷ 7 ∷ [];
+      start = 2;
+      digits = 3;
+      least = 2 ∷ 6 ∷ 7 ∷ 7 ∷ 5 ∷ 5 ∷ 7 ∷ [];
     }
 
 -- The plan found for each row is its least plan.
-pub plans-found : (found allCountsRow && (found moreRoundsRow && (found noSlotRow && (found startRow && found fallingRow)))) ≡ true
-unfolding thresholdPlan rounds backward forward fromEnd backTo sideAt leadBefore judge carried raisedPlace firstLead isLess tabulate sameList
+plans-found : allFound (allCountsRow 3 ∷ allCountsRow 4 ∷ noSlotRow ∷ startRow ∷ fallingRow ∷ risingTwiceRow ∷ []) ≡ true
+unfolding allFound thresholdPlan rounds backward forward fromEnd backTo sideAt leadBefore judge carried raisedPlace firstLead isLess tabulate sameList
     canServe operatingCost leastOver leastFrom
 plans-found = refl

@@ -93,8 +93,7 @@ module _ (i : Instance) (counts : List ℕ) (j l lead : ℕ) where
 
   -- Beyond the list the side is 0.
   pub side-beyond : length counts ≤ j + 1 → judge i counts j l lead .side ≤ 0
-  side-beyond =
-      judge-cases (λ verdict. length counts ≤ j + 1 → verdict .side ≤ 0) (omega arith) (λ inside. (omega arith, omega arith))
+  side-beyond beyond = rw (judge-beyond (omega arith)) (omega arith)
 
   -- A side above 0 is found inside the list only.
   pub side-inside : 1 ≤ judge i counts j l lead .side → j + 1 < length counts
@@ -133,8 +132,8 @@ module _ (w before here lead : ℕ) where
       (λ (h : before < here). rw (carried-below h) price)
       (le-or-lt here before)
 
--- A place that a round raises is a place of a list with n entries, if a side above 0 is found inside the list only. Where the side is 0 the
--- next slot's place alone does not raise it.
+-- The place after a round is a place of a list with n entries, if the place before it is one and a side above 0 is found inside the list
+-- only. Where the side is 0 the next slot's place alone does not raise it.
 pub raised-inside :
     (b here side next n : ℕ) → here < n → (1 ≤ side → here + b < n) → raisedPlace b here side next < n
 unfolding raisedPlace

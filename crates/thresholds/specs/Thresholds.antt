@@ -1,6 +1,7 @@
--- The least plan over a list of allowed counts, digit by digit of its places. Level j lies between place j and place j + 1 of the list; a plan
--- is above it in a slot if its place there is above j. A round with the width b knows of each slot's place that it is in the 2 b places
--- from `plan t` on, and finds which half it is in: forward through the slots a side of one level for each, then backward the places.
+-- The least plan over a list of allowed counts, digit by digit of its places. Level j lies between place j and place j + 1 of the list; a
+-- plan is above it in a slot if its place there is above j. A round with the width b knows of each slot's place that it is in the 2 b
+-- places from `plan t` on, and finds which half it is in: forward through the slots a side of one level for each, then backward the
+-- places.
 use Prim.Native.Nat.{ℕ, zero, suc, _+_, _-_, _*_, _^_, min}
 use mathlib.Core.Bool.{cond}
 use mathlib.Core.List.{List}
@@ -13,8 +14,8 @@ use Rattle.model.specs.Counts.{canServe, operatingCost}
 use Rattle.model.specs.Thesis.{switchingPrice}
 use Rattle.thresholds.specs.Places.{countAtPlace, lastPlace}
 
--- What a slot says of a level. The lead is how much dearer the slots up to it make the place above the level than the place below it. The side
--- is 2 if the least plan is above the level in the slot, 0 if it is below, and 1 if it is where it is in the next slot.
+-- What a slot says of a level. The lead is how much dearer the slots up to it make the place above the level than the place below it. The
+-- side is 2 if the least plan is above the level in the slot, 0 if it is below, and 1 if it is where it is in the next slot.
 pub record Verdict : Type 0 where
   pub lead : ℕ
   pub side : ℕ
@@ -31,8 +32,8 @@ weighed w upper lower = record { lead = min w (upper - lower); side = isLess upp
 abbrev pub levelPrice : Instance → List ℕ → ℕ → ℕ
 levelPrice i counts j = switchingPrice i * (countAtPlace counts (j + 1) - countAtPlace counts j)
 
--- The verdict of a slot with load l on level j, by the lead before it. No plan is above a level beyond the list, and every plan is above one
--- whose place below cannot serve.
+-- The verdict of a slot with load l on level j, by the lead before it. No plan is above a level beyond the list, and every plan that
+-- serves is above one whose place below cannot serve.
 unfoldable pub judge : Instance → List ℕ → (j l lead : ℕ) → Verdict
 judge i counts j l lead =
     cond (leb (lastPlace counts) j) (record { lead = 0; side = 0 })
@@ -44,8 +45,8 @@ judge i counts j l lead =
 unfoldable pub firstLead : Instance → List ℕ → (start j : ℕ) → ℕ
 firstLead i counts start j = min (levelPrice i counts j) (switchingPrice i * (countAtPlace counts (j + 1) - start))
 
--- The lead of a level with the price w, where the plan so far is at `before` in the slot before and `here` in this one. If the two are equal,
--- the slot before has the same level, and its lead. If not, the slot before is known to be above the level, or below it.
+-- The lead of a level with the price w, where the plan so far is at `before` in the slot before and `here` in this one. If the two are
+-- equal, the slot before has the same level, and its lead. If not, the slot before is known to be above the level, or below it.
 unfoldable pub carried : (w before here lead : ℕ) → ℕ
 carried w before here lead = cond (eqb here before) lead (cond (leb here before) 0 w)
 
@@ -53,21 +54,22 @@ carried w before here lead = cond (eqb here before) lead (cond (leb here before)
 unfoldable pub raisedPlace : (b here side next : ℕ) → ℕ
 raisedPlace b here side next = cond (leb 2 (side + isLess (here + b - 1) next)) (here + b) here
 
+-- The level that a round with the width b judges in slot t, for a plan so far: the middle one of the slot's 2 b places.
+abbrev pub levelAt : (b : ℕ) → (plan : ℕ → ℕ) → (t : ℕ) → ℕ
+levelAt b plan t = plan t + b - 1
+
 -- Forward through the slots, for a plan so far.
 module _ (i : Instance) (counts : List ℕ) (start b : ℕ) (plan : ℕ → ℕ) where
-  -- The level that is judged in slot t.
-  abbrev pub levelAt : ℕ → ℕ
-  levelAt t = plan t + b - 1
-
-  -- The lead of that level before slot t.
+  -- The lead before slot t of the level that is judged there.
   unfoldable pub leadBefore : ℕ → ℕ
-  leadBefore zero = firstLead i counts start (levelAt 0)
+  leadBefore zero = firstLead i counts start (levelAt b plan 0)
   leadBefore (suc t) =
-      carried (levelPrice i counts (levelAt (suc t))) (plan t) (plan (suc t)) (judge i counts (levelAt t) (i .load t) (leadBefore t) .lead)
+      carried (levelPrice i counts (levelAt b plan (suc t))) (plan t) (plan (suc t))
+      (judge i counts (levelAt b plan t) (i .load t) (leadBefore t) .lead)
 
   -- The side that is found in slot t.
   unfoldable pub sideAt : ℕ → ℕ
-  sideAt t = judge i counts (levelAt t) (i .load t) (leadBefore t) .side
+  sideAt t = judge i counts (levelAt b plan t) (i .load t) (leadBefore t) .side
 
 -- Backward through the slots, for a plan so far and the sides.
 module _ (slots b : ℕ) (plan sides : ℕ → ℕ) where

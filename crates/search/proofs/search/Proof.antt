@@ -60,7 +60,8 @@ returns c =
     let filled = found .before .before .before .before .before in (
       plan-found (start filled .pre) (filled .before .before .powers-up-to .ensures) (filled .fill .ensures) (found .rounds .ensures)
           (found .rounds .kept .1 .1 .1 .1 .0) (made .to-counts .ensures),
-      cleared-whole (found .rounds .last .1 .1 .1 .1 .1 .0) (start filled .args .work .now) (side-bytes filled) (found .rounds .kept .1 .1 .1 .1 .1 .0) (c .before .before .fill2 .ensures),
+      cleared-whole (found .rounds .last .1 .1 .1 .1 .1 .0) (start filled .args .work .now) (side-bytes filled)
+          (found .rounds .kept .1 .1 .1 .1 .1 .0) (c .before .before .fill2 .ensures),
     )
 
 pub search-spec : {M : Type 1} → statement M

@@ -24,4 +24,5 @@ returns c =
 
 pub weigh-spec : {M : Type 1} → statement M
 weigh-spec =
-    tie.close (tie.spec (λ c κs. search needs) (λ c. search needs) (λ c κs. search needs) add-side (λ c κs. search needs) (λ c κs. search needs) returns)
+    tie.close (tie.spec (λ c κs. search needs) (λ c. search needs) (λ c κs. search needs) add-side (λ c κs. search needs)
+    (λ c κs. search needs) returns)
