@@ -63,11 +63,10 @@ next-tests = refl
 unfoldable pub joined : ℕ → ℕ → List ℕ
 joined p m = cond (eqb (2 ^ (p - 1)) m) (zeroAndPowers p) (zeroAndPowers p ++ (m ∷ []))
 
--- The second: the smaller counts with m are that list, with one to eight powers.
+-- The second: the smaller counts with m are that list, with at least one power.
 joined-test : ℕ → Bool
 joined-test k =
-    sameList (zeroAndPowers (powersUpTo k) ++ (suc k ∷ [])) (joined (powersUpTo (suc k)) (suc k)) &&
-    (leb 1 (powersUpTo (suc k)) && leb (powersUpTo (suc k)) 8)
+    sameList (zeroAndPowers (powersUpTo k) ++ (suc k ∷ [])) (joined (powersUpTo (suc k)) (suc k)) && leb 1 (powersUpTo (suc k))
 
 joined-tests : every 200 joined-test ≡ true
 unfolding every joined-test joined sameList zeroAndPowers firstPowers leadingZeros tabulate
@@ -83,26 +82,6 @@ smaller-is zero h = smaller-first
 smaller-is (suc k) h =
     smaller-more (suc k) ∙ rw (smaller-is k (omega arith)) (sym (same-list-equal _ _ (every-at 200 next-test next-tests k h)))
 
--- The coarse counts of a rack of m, and how many powers are among them.
-pub record Coarse (m : ℕ) : Type 0 where
-  pub low : 1 ≤ powersUpTo m
-  pub high : powersUpTo m ≤ 8
-  pub list : coarseCounts m ≡ joined (powersUpTo m) m
-
-pub coarse-known : (m : ℕ) → 1 ≤ m → m ≤ 200 → Coarse m
-unfolding joined-test
-coarse-known zero some most = absurd (omega arith)
-coarse-known (suc k) some most =
-    let p = powersUpTo (suc k) in
-    let t = every-at 200 joined-test joined-tests k most in
-    let found = sameList (zeroAndPowers (powersUpTo k) ++ (suc k ∷ [])) (joined p (suc k)) in
-    let range = and-right found (leb 1 p && leb p 8) t in
-    record {
-      low = leb-true 1 p (and-left (leb 1 p) (leb p 8) range);
-      high = leb-true p 8 (and-right (leb 1 p) (leb p 8) range);
-      list = coarse-split (suc k) ∙ rw (smaller-is k (omega arith)) (same-list-equal _ _ (and-left found (leb 1 p && leb p 8) t));
-    }
-
 -- A number below 256 is below the power of two that its digits end at, and has at most eight digits.
 digits-test : ℕ → Bool
 digits-test n = ltb n (2 ^ powersUpTo n) && leb (powersUpTo n) 8
@@ -116,3 +95,22 @@ unfolding digits-test
 digits-known n small =
     let t = every-at 256 digits-test digits-tests n small in
     (ltb-true n (2 ^ powersUpTo n) (and-left _ (leb (powersUpTo n) 8) t), leb-true (powersUpTo n) 8 (and-right (ltb n (2 ^ powersUpTo n)) _ t))
+
+-- The coarse counts of a rack of m, and how many powers are among them.
+pub record Coarse (m : ℕ) : Type 0 where
+  pub low : 1 ≤ powersUpTo m
+  pub high : powersUpTo m ≤ 8
+  pub list : coarseCounts m ≡ joined (powersUpTo m) m
+
+pub coarse-known : (m : ℕ) → 1 ≤ m → m ≤ 200 → Coarse m
+unfolding joined-test
+coarse-known zero some most = absurd (omega arith)
+coarse-known (suc k) some most =
+    let p = powersUpTo (suc k) in
+    let t = every-at 200 joined-test joined-tests k most in
+    let found = sameList (zeroAndPowers (powersUpTo k) ++ (suc k ∷ [])) (joined p (suc k)) in
+    record {
+      low = leb-true 1 p (and-right found (leb 1 p) t);
+      high = digits-known (suc k) (omega arith) .1;
+      list = coarse-split (suc k) ∙ rw (smaller-is k (omega arith)) (same-list-equal _ _ (and-left found (leb 1 p) t));
+    }

@@ -26,7 +26,7 @@ use Rattle.counts.specs.AllowedCounts.{CountsRoom, plannerOf, powersUpTo}
 use Rattle.counts.proofs.Powers.{digits-known}
 use Rattle.sheets.specs.SheetRequires.{PlanReady}
 use Rattle.search.specs.SearchRequires.{Searchable}
-use Rattle.search.proofs.Levels.{few-places}
+use Rattle.search.proofs.LevelPrices.{few-places}
 use Rattle.planners.specs.PlannerRequires.{Buffers, NumberRoom}
 use Rattle.planners.proofs.Fronts.{front-is}
 

@@ -17,7 +17,7 @@ use Rattle.thresholds.specs.Places.{countAtPlace}
 use Rattle.thresholds.specs.Thresholds.{Verdict, levelPrice, judge, firstLead, carried, levelAt, leadBefore, sideAt, inSlot, forward}
 use Rattle.thresholds.specs.ThresholdLaws.{lead-most, carried-same, carried-below, carried-most}
 use Rattle.search.specs.SearchRequires.{RoundReady, mostLead}
-use Rattle.search.proofs.Levels.{level-most}
+use Rattle.search.proofs.LevelPrices.{level-most}
 
 -- From start count 0 the lead before the first slot is the whole price of the level.
 first-lead : (i : Instance) (counts : List ℕ) (j : ℕ) → firstLead i counts 0 j ≡ levelPrice i counts j
@@ -42,7 +42,7 @@ module _ {s : List ℕ} {h : Header} {counts : List ℕ} {b : ℕ} {plan old : L
       record {
         written = upto-none _ old;
         carries = ⊎-elim at-zero above-zero (le-or-lt (inSlot plan 0) 0) ∙ sym (first-lead (instanceOf s) counts _);
-        small = rw e (level-most (r .on-card) (b - 1));
+        small = rw e (level-most (r .slots .on-card) (b - 1));
       }
     where
       level : ℕ
@@ -69,7 +69,7 @@ module _ {s : List ℕ} {h : Header} {counts : List ℕ} {b : ℕ} {plan old : L
           x-is ∙ rw (w-is, same, place-is) (f .carries)
 
       pub carried-small : x ≤ mostLead
-      carried-small = rw x-is (carried-most w before place lead mostLead (f .small) (rw w-is (level-most (r .on-card) level)))
+      carried-small = rw x-is (carried-most w before place lead mostLead (f .small) (rw w-is (level-most (r .slots .on-card) level)))
 
       pub forward-turns :
           {v : Verdict} {l : ℕ} → l ≡ instanceOf s .load t → v ≡ judge (instanceOf s) counts level l x → t < length old →
@@ -83,11 +83,11 @@ module _ {s : List ℕ} {h : Header} {counts : List ℕ} {b : ℕ} {plan old : L
           record {
             written = upto-more (f .written) inside (ap (λ (y : Verdict). y .side) found);
             carries = rw (add-one t, ap (λ (y : Verdict). y .lead) found, place-is) refl;
-            small = rw v-is (le-trans (lead-most (instanceOf s) counts level l x) (level-most (r .on-card) level));
+            small = rw v-is (le-trans (lead-most (instanceOf s) counts level l x) (level-most (r .slots .on-card) level));
           }
 
     pub forward-ends : length plan ≤ t → sides ≡ forward (instanceOf s) counts 0 b plan
     unfolding forward
     forward-ends past =
-        upto-all (f .written) (omega (arith, r .plan-size, r .sides-size)) ∙
-        ap (λ (n : ℕ). tabulate n (sideAt (instanceOf s) counts 0 b (inSlot plan))) (r .sides-size)
+        upto-all (f .written) (omega (arith, r .slots .plan-size, r .slots .sides-size)) ∙
+        ap (λ (n : ℕ). tabulate n (sideAt (instanceOf s) counts 0 b (inSlot plan))) (r .slots .sides-size)

@@ -1,5 +1,5 @@
 pub mod Verdicts
-pub mod Levels
+pub mod LevelPrices
 pub mod ForwardWalk
 pub mod BackwardWalk
 pub mod RoundsWalk

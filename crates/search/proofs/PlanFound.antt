@@ -15,7 +15,7 @@ use Rattle.thresholds.specs.Places.{countAtPlace, lastPlace}
 use Rattle.thresholds.specs.Thresholds.{inSlot, rounds, thresholdPlan}
 use Rattle.search.specs.Written.{countsAt}
 use Rattle.search.specs.SearchRequires.{Placed, RoundsReady, Searchable}
-use Rattle.search.proofs.Levels.{few-places, count-most}
+use Rattle.search.proofs.LevelPrices.{few-places, count-most}
 use Rattle.search.proofs.RoundsWalk.{rounds-inside}
 
 -- Up to slot t the plan has counts, and from there on places.
@@ -55,10 +55,13 @@ module _ {s : List ℕ} {h : Header} {counts plan work : List ℕ} (p : Searchab
     pub rounds-ready : {sides : List ℕ} → length sides ≡ length plan → RoundsReady s h counts digits zeros sides
     rounds-ready size =
         record {
-          on-card = p .on-card;
+          slots =
+              record {
+                on-card = p .on-card;
+                plan-size = ap length zeros-are ∙ length-replicate (length plan) 0 ∙ p .plan-size;
+                sides-size = size ∙ p .plan-size;
+              };
           few = rw digits-is few-digits;
-          plan-size = ap length zeros-are ∙ length-replicate (length plan) 0 ∙ p .plan-size;
-          sides-size = size ∙ p .plan-size;
         }
 
     -- The places found are as many as there are slots.

@@ -5,18 +5,18 @@ use mathlib.Core.List.{List}
 use native.Mathlib.Nat.{le-of-lt}
 use native.Mathlib.Omega.{arith}
 use lib.ListN.{length}
-use lib.Pow.{pow-mono}
+use lib.Pow.{pow-mono, pow-pos}
 use Rattle.model.specs.Instance.{Instance, instanceOf}
 use Rattle.card.specs.declared.Header.{Header}
 use Rattle.thresholds.specs.Thresholds.{sideAt, inSlot, forward, backward, round, rounds}
 use Rattle.thresholds.specs.ThresholdLaws.{side-most, side-inside, raised-inside, raised-step, forward-entry, backward-entry}
 use Rattle.search.specs.SearchRequires.{Width, RoundReady, BackReady, RoundsReady}
-use Rattle.search.proofs.Levels.{few-places}
+use Rattle.search.proofs.LevelPrices.{few-places}
 
 -- A power of two up to 128 is a width.
 power-width : (e : ℕ) → e < 8 → Width (2 ^ e)
 power-width e h =
-    record { some = omega (arith, pow-mono {i = 0} {j = e} (omega arith)); most = omega (arith, pow-mono {i = e} {j = 7} (omega arith)) }
+    record { some = pow-pos e; most = omega (arith, pow-mono {i = e} {j = 7} (omega arith)) }
 
 module _ (i : Instance) (counts : List ℕ) (b : ℕ) (some : 1 ≤ b) (plan : List ℕ) where
   -- A slot whose place may be raised has a place above it in the list.
@@ -46,7 +46,7 @@ unfolding rounds
 rounds-inside i counts zero plan inside = inside
 rounds-inside i counts (suc e) plan inside =
     rounds-inside i counts e (round i counts 0 (2 ^ e) plan)
-    (round-inside i counts (2 ^ e) (omega (arith, pow-mono {i = 0} {j = e} (omega arith))) plan inside)
+    (round-inside i counts (2 ^ e) (pow-pos e) plan inside)
 
 -- With e rounds left, these make of the plan so far what all rounds make of the first one.
 pub record RoundsLoop (i : Instance) (counts : List ℕ) (digits : ℕ) (plan₀ sides₀ plan sides : List ℕ) (e : ℕ) : Type 0 where
@@ -67,10 +67,13 @@ module _ {s : List ℕ} {h : Header} {counts : List ℕ} {digits : ℕ} {plan₀
   pub forward-ready : RoundReady s h counts b plan sides
   forward-ready =
       record {
-        on-card = p .on-card;
+        slots =
+            record {
+              on-card = p .slots .on-card;
+              plan-size = f .plan-kept ∙ p .slots .plan-size;
+              sides-size = f .sides-kept ∙ p .slots .sides-size;
+            };
         width = width;
-        plan-size = f .plan-kept ∙ p .plan-size;
-        sides-size = f .sides-kept ∙ p .sides-size;
       }
 
   module _ {found : List ℕ} (found-is : found ≡ forward (instanceOf s) counts 0 b plan) where
@@ -78,12 +81,12 @@ module _ {s : List ℕ} {h : Header} {counts : List ℕ} {digits : ℕ} {plan₀
     backward-ready kept =
         record {
           width = width;
-          size = omega (arith, f .plan-kept, p .plan-size, f .sides-kept, p .sides-size);
+          size = omega (arith, f .plan-kept, p .slots .plan-size, f .sides-kept, p .slots .sides-size);
           inside = λ t inside up.
-              let room = side-room (instanceOf s) counts b (width .some) plan t (omega (arith, f .plan-kept, p .plan-size)) (rw found-is at up) in
-              omega (arith, few-places (p .on-card));
+              let room = side-room (instanceOf s) counts b (width .some) plan t (omega (arith, f .plan-kept, p .slots .plan-size)) (rw found-is at up) in
+              omega (arith, few-places (p .slots .on-card));
           sides-most = λ t inside.
-              rw found-is (side-small (instanceOf s) counts b (width .some) plan t (omega (arith, f .plan-kept, p .plan-size)));
+              rw found-is (side-small (instanceOf s) counts b (width .some) plan t (omega (arith, f .plan-kept, p .slots .plan-size)));
         }
 
     pub rounds-turn :
@@ -92,7 +95,7 @@ module _ {s : List ℕ} {h : Header} {counts : List ℕ} {digits : ℕ} {plan₀
     unfolding rounds
     rounds-turn {new} new-is kept kept′ =
         let last : e ≡ suc (e - 1) = omega arith in
-        let size : length plan ≡ instanceOf s .slots = f .plan-kept ∙ p .plan-size in
+        let size : length plan ≡ instanceOf s .slots = f .plan-kept ∙ p .slots .plan-size in
         let one : new ≡ round (instanceOf s) counts 0 (2 ^ (e - 1)) plan =
         new-is ∙ ap (λ (n : ℕ). backward n b plan found) size ∙ rw (found-is, b-is) refl in
         record {

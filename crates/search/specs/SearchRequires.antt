@@ -38,12 +38,21 @@ pub record Raisable (b place side : ℕ) : Type 0 where
   pub byte : place ≤ 255
   pub side-most : side ≤ 2
 
--- An accepted card with its counts, the width of a round, a plan so far, and room for a side for each slot.
-pub record RoundReady (s : List ℕ) (h : Header) (counts : List ℕ) (b : ℕ) (plan sides : List ℕ) : Type 0 where
+-- An accepted card with its counts, a plan so far, and room for a side for each slot.
+pub record SlotsReady (s : List ℕ) (h : Header) (counts plan sides : List ℕ) : Type 0 where
   pub on-card : OnCard s h counts
-  pub width : Width b
   pub plan-size : length plan ≡ instanceOf s .slots
   pub sides-size : length sides ≡ instanceOf s .slots
+
+-- The same, with the width of a round.
+pub record RoundReady (s : List ℕ) (h : Header) (counts : List ℕ) (b : ℕ) (plan sides : List ℕ) : Type 0 where
+  pub slots : SlotsReady s h counts plan sides
+  pub width : Width b
+
+-- The same, with the number of rounds, which is at most eight.
+pub record RoundsReady (s : List ℕ) (h : Header) (counts : List ℕ) (e : ℕ) (plan sides : List ℕ) : Type 0 where
+  pub slots : SlotsReady s h counts plan sides
+  pub few : e ≤ 8
 
 -- The width of a round, a plan so far, and its sides. A place that may be raised stays in a byte.
 pub record BackReady (b : ℕ) (plan sides : List ℕ) : Type 0 where
@@ -56,13 +65,6 @@ pub record BackReady (b : ℕ) (plan sides : List ℕ) : Type 0 where
 pub record Placed (counts plan : List ℕ) : Type 0 where
   pub inside : (t : ℕ) → t < length plan → getD plan t 0 < length counts
   pub bytes : (j : ℕ) → countAtPlace counts j ≤ 255
-
--- An accepted card with its counts, at most eight rounds, a plan so far, and room for a side for each slot.
-pub record RoundsReady (s : List ℕ) (h : Header) (counts : List ℕ) (e : ℕ) (plan sides : List ℕ) : Type 0 where
-  pub on-card : OnCard s h counts
-  pub few : e ≤ 8
-  pub plan-size : length plan ≡ instanceOf s .slots
-  pub sides-size : length sides ≡ instanceOf s .slots
 
 -- What the search asks for: an accepted card with its counts, a plan with a byte for each slot, and a work byte for each slot.
 pub record Searchable (s : List ℕ) (h : Header) (counts plan work : List ℕ) : Type 0 where

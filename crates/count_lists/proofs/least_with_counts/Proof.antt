@@ -1,5 +1,5 @@
 use native.Mathlib.Omega.{arith}
-use Rattle.search.proofs.Levels.{few-places}
+use Rattle.search.proofs.LevelPrices.{few-places}
 use Rattle.planners.proofs.Fronts.{front-is, front-within, front-length}
 use borrow.Author.Needs.{needs}
 use Rattle.count_lists.proofs.least_with_counts.Statement.{statement}

@@ -23,7 +23,7 @@ sub-reach : tie.Need-sub-reach Inv-loop μ-loop
 sub-reach c = c .before .before .before .before .pre .width .some
 
 level-price-requires : tie.Need-level-price-requires Inv-loop μ-loop
-level-price-requires c κs = c .before .before .before .before .pre .on-card
+level-price-requires c κs = c .before .before .before .before .pre .slots .on-card
 
 loop-holds : tie.Need-loop-holds Inv-loop μ-loop
 loop-holds c = forward-starts (c .before .before .before .before .before .pre) (c .level-price .ensures)
@@ -37,7 +37,7 @@ add-level c =
     omega (arith, p .width .most, c .wide .ensures, c .before .shared-slice-known4 .given (c .before .before .before .loop .t) .fits)
 
 level-price-requires-2 : tie.Need-level-price-requires-2 Inv-loop μ-loop
-level-price-requires-2 c κs = start (c .before .before .before) .pre .on-card
+level-price-requires-2 c κs = start (c .before .before .before) .pre .slots .on-card
 
 carry-requires : tie.Need-carry-requires Inv-loop μ-loop
 carry-requires c κs = tt
@@ -46,7 +46,7 @@ load-requires : tie.Need-load-requires Inv-loop μ-loop
 load-requires c κs =
     let test = c .before .before .before .before in
     let p = start (test .before) .pre in
-    load-there (p .on-card .ready) (omega (arith, p .plan-size, test .loop-test .taken))
+    load-there (p .slots .on-card .ready) (omega (arith, p .slots .plan-size, test .loop-test .taken))
 
 judge-requires : tie.Need-judge-requires Inv-loop μ-loop
 judge-requires c κs =
@@ -55,7 +55,7 @@ judge-requires c κs =
     let loop = wide .before .before .before in
     let p = start loop .pre in
     record {
-      on-card = p .on-card;
+      on-card = p .slots .on-card;
       small =
           carried-small p (loop .loop .inv) (wide .wide .ensures) refl (carry .before .level-price2 .ensures) (carry .carry .ensures);
     }
@@ -64,7 +64,7 @@ slice-write-sides : tie.Need-slice-write-sides Inv-loop μ-loop
 slice-write-sides c =
     let loop = c .before .before .before .before .before .before .before in
     let p = start loop .pre in
-    omega (arith, loop .loop .inv .written .size, p .plan-size, p .sides-size)
+    omega (arith, loop .loop .inv .written .size, p .slots .plan-size, p .slots .sides-size)
 
 loop-less : tie.Need-loop-less Inv-loop μ-loop
 loop-less c = omega arith
@@ -76,7 +76,7 @@ loop-again c =
     let loop = wide .before .before .before in
     let p = start loop .pre in
     forward-turns p (loop .loop .inv) (wide .wide .ensures) refl (carry .before .level-price2 .ensures) (carry .carry .ensures)
-    (c .before .load .ensures .is) (c .judge .ensures) (omega (arith, p .plan-size, p .sides-size))
+    (c .before .load .ensures .is) (c .judge .ensures) (omega (arith, p .slots .plan-size, p .slots .sides-size))
 
 same-length : tie.Need-same-length Inv-loop μ-loop
 same-length c = c .before .loop .inv .written .size
