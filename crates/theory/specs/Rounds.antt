@@ -17,7 +17,7 @@ use Rattle.thresholds.specs.ThresholdLaws.{side-beyond, forward-entry, backward
 use Rattle.laws.specs.Tables.{Convex}
 use Rattle.theory.specs.Hypotheses.{LoadsFit}
 use Rattle.theory.specs.Columns.{selection, placeIn}
-use Rattle.theory.specs.NearLeads.{Near, Tells}
+use Rattle.theory.specs.NearLeads.{Near, Tells, Judged}
 use Rattle.theory.specs.ConvexColumns.{slope, place-inside, first-slope, next-slope, judged-at}
 use Rattle.theory.specs.Halves.{Apart, equal, lower, higher, first, Digit, halves-apart, raised-digit}
 
@@ -84,27 +84,32 @@ module _ (i : Instance) (counts : List ℕ) (start : ℕ) where
       (convex : Convex (i .topStep) (i .table)) where
     module _ (b : ℕ) (plan : ℕ → ℕ) (some : 1 ≤ b) (within : Within (b + b) plan) where
       -- A lead that is near before a slot is carried over to one that is near before the next, by the plan so far in the two.
-      carried-near :
-          (t lead : ℕ) → t < i .slots → levelAt b plan (suc t) + 1 < length counts →
-          (levelAt b plan t + 1 < length counts → Near (levelAt b plan t) (place t) lead (slope i counts start t (levelAt b plan t))) →
-          Apart (b + b) (plan t) (plan (suc t)) →
-          Near (levelAt b plan (suc t)) (place (suc t))
-          (carried (levelPrice i counts (levelAt b plan (suc t))) (plan t) (plan (suc t)) (judge i counts (levelAt b plan t) (i .load t) lead .lead))
-          (slope i counts start (suc t) (levelAt b plan (suc t)))
-      carried-near t lead h inside near (equal e) =
-          let j = levelAt b plan (suc t) in
-          rw (carried-same (levelPrice i counts j) (plan t) (plan (suc t)) (judge i counts (levelAt b plan t) (i .load t) lead .lead) (sym e), e, next-slope i counts start asc loads convex t j h inside)
-          (judged-at i counts start asc loads convex t j h inside .near lead (rw e at near inside))
-      carried-near t lead h inside near (lower g) =
-          let j = levelAt b plan (suc t) in
-          rw (carried-below (levelPrice i counts j) (plan t) (plan (suc t)) (judge i counts (levelAt b plan t) (i .load t) lead .lead) (omega arith))
-          (rw (next-slope i counts start asc loads convex t j h inside)
-          (judged-at i counts start asc loads convex t j h inside .from-below (omega (arith, within .high t (omega arith)))))
-      carried-near t lead h inside near (higher g) =
-          let j = levelAt b plan (suc t) in
-          rw (carried-above (levelPrice i counts j) (plan t) (plan (suc t)) (judge i counts (levelAt b plan t) (i .load t) lead .lead) (omega arith))
-          (rw (next-slope i counts start asc loads convex t j h inside)
-          (judged-at i counts start asc loads convex t j h inside .from-above (omega (arith, within .low t (omega arith)))))
+      module _ (t lead : ℕ) (h : t < i .slots) (inside : levelAt b plan (suc t) + 1 < length counts) where
+        -- The level of the next slot.
+        abbrev j : ℕ
+        j = levelAt b plan (suc t)
+
+        right : Judged j (place t) (place (suc t)) (levelPrice i counts j) (slope i counts start t j) (judge i counts j (i .load t))
+        right = judged-at i counts start asc loads convex t j h inside
+
+        carried-near :
+            (levelAt b plan t + 1 < length counts → Near (levelAt b plan t) (place t) lead (slope i counts start t (levelAt b plan t))) →
+            Apart (b + b) (plan t) (plan (suc t)) →
+            Near j (place (suc t))
+            (carried (levelPrice i counts j) (plan t) (plan (suc t)) (judge i counts (levelAt b plan t) (i .load t) lead .lead))
+            (slope i counts start (suc t) j)
+        carried-near near (equal e) =
+            let own = judge i counts (levelAt b plan t) (i .load t) lead .lead in
+            rw (carried-same (levelPrice i counts j) (plan t) (plan (suc t)) own (sym e), e, next-slope i counts start asc loads convex t j h inside)
+            (right .near lead (rw e at near inside))
+        carried-near near (lower g) =
+            let own = judge i counts (levelAt b plan t) (i .load t) lead .lead in
+            rw (carried-below (levelPrice i counts j) (plan t) (plan (suc t)) own (omega arith), next-slope i counts start asc loads convex t j h inside)
+            (right .from-below (omega (arith, within .high t (omega arith))))
+        carried-near near (higher g) =
+            let own = judge i counts (levelAt b plan t) (i .load t) lead .lead in
+            rw (carried-above (levelPrice i counts j) (plan t) (plan (suc t)) own (omega arith), next-slope i counts start asc loads convex t j h inside)
+            (right .from-above (omega (arith, within .low t (omega arith))))
 
       -- The lead before each slot is near, if its level is inside the list.
       lead-near :
@@ -153,10 +158,10 @@ module _ (i : Instance) (counts : List ℕ) (start : ℕ) where
           apart = λ t h. equal (zeros-at (i .slots) t ∙ sym (zeros-at (i .slots) (suc t)));
         }
 
-    -- If the list has at most 2 ^ e places, e rounds find the searched plan's place in each slot.
+    -- If the list has at most 2 ^ e places, e rounds find the searched plan's place in each slot, and in the one after the last.
     pub rounds-found :
-        (e : ℕ) → lastPlace counts < 2 ^ e → (t : ℕ) → t < i .slots →
+        (e : ℕ) → lastPlace counts < 2 ^ e → (t : ℕ) → t ≤ i .slots →
         inSlot (rounds i counts start e (replicate (i .slots) 0)) t ≡ placeIn i counts start t
     rounds-found e wide t h =
         let one = rounds-within e (replicate (i .slots) 0) (all-within e wide) in
-        omega (arith, one .low t (omega arith), one .high t (omega arith))
+        omega (arith, one .low t h, one .high t h)

@@ -3,7 +3,7 @@ use Prim.Native.Nat.{ℕ, zero, suc, _^_, _≤_, _<_}
 use mathlib.Core.Path.{_≡_, sym, ap, _∙_}
 use mathlib.Core.Logic.{⊎-elim}
 use mathlib.Core.List.{List, []}
-use native.Mathlib.Nat.{not-suc-le-zero}
+use native.Mathlib.Nat.{le-of-lt, not-suc-le-zero}
 use native.Mathlib.Omega.{arith}
 use lib.ListN.{getD}
 use lib.Seq.{getD-at}
@@ -50,7 +50,7 @@ module _ (i : Instance) (counts : List ℕ) (start : ℕ) (asc : Ascending count
       (λ t h.
       ap (λ (j : ℕ). getD (wayBack i counts start (i .slots) j) t 0) (sym (back-end (i .slots) (selection i counts start))) ∙
       way-back-entry (i .slots) t (omega arith) h ∙
-      ap (countAtPlace counts) (sym (rounds-found i counts start asc loads convex e wide t h))))
+      ap (countAtPlace counts) (sym (rounds-found i counts start asc loads convex e wide t (le-of-lt h)))))
 
   -- The plan found in e rounds is the least plan by counts, first in tie order.
   pub threshold-least : (e : ℕ) → lastPlace counts < 2 ^ e → LeastByCounts i counts start (thresholdPlan i counts start e)
