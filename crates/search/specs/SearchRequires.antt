@@ -7,6 +7,7 @@ use Rattle.model.specs.Instance.{instanceOf}
 use Rattle.card.specs.declared.Header.{Header}
 use Rattle.card.specs.Checking.{Ready}
 use Rattle.thresholds.specs.Places.{countAtPlace, Ascending}
+use Rattle.thresholds.specs.Thresholds.{levelPrice}
 
 -- An accepted card with its header, and a list of allowed counts for its rack.
 pub record OnCard (s : List ℕ) (h : Header) (counts : List ℕ) : Type 0 where
@@ -22,9 +23,10 @@ pub record Weighable (price lower : ℕ) : Type 0 where
   pub priced : price ≤ mostLead
   pub served : lower ≤ 200000000
 
--- An accepted card with its counts, and a lead that a level may have.
-pub record LevelReady (s : List ℕ) (h : Header) (counts : List ℕ) (lead : ℕ) : Type 0 where
+-- An accepted card with its counts, a level with its price, and a lead that it may have.
+pub record LevelReady (s : List ℕ) (h : Header) (counts : List ℕ) (level price lead : ℕ) : Type 0 where
   pub on-card : OnCard s h counts
+  pub price-is : price ≡ levelPrice (instanceOf s) counts level
   pub small : lead ≤ mostLead
 
 -- The width of a round, from 1 to 128.

@@ -67,10 +67,18 @@ fn level_price(card: &[u8], h: Header, counts: &[u64], level: usize) -> u64
     (h.powerUp + h.powerDown) * (counts[level + 1] - counts[level])
 }
 
-// The verdict of a slot with load l on a level, by the lead before it. No plan is above a level beyond the list, and every plan is above one
+// The verdict of a slot with load l on a level with its price, by the lead before it. No plan is above a level beyond the list, and every plan is above one
 // whose place below cannot serve.
-fn judge(card: &[u8], h: Header, counts: &[u64], level: usize, l: u64, lead: u64) -> Verdict
-    requires { ⌜ LevelReady (now card) h (now counts) lead ⌝ }
+fn judge(
+    card: &[u8],
+    h: Header,
+    counts: &[u64],
+    level: usize,
+    price: u64,
+    l: u64,
+    lead: u64,
+) -> Verdict
+    requires { ⌜ LevelReady (now card) h (now counts) level price lead ⌝ }
     ensures { λ r. ⌜ verdictOf r ≡ judged (instanceOf (now (card .entry))) (now (counts .entry)) level l lead ⌝ }
 {
     if counts.len() - 1 <= level {
@@ -83,7 +91,6 @@ fn judge(card: &[u8], h: Header, counts: &[u64], level: usize, l: u64, lead: u64
     }
     let upper = lead + counts::operating_cost(card, h, high, l);
     let lower = counts::operating_cost(card, h, low, l);
-    let price = level_price(card, h, counts, level);
     weigh(price, upper, lower)
 }
 
@@ -117,6 +124,7 @@ fn forward(card: &[u8], h: Header, counts: &[u64], width: usize, plan: &[u8], si
             h,
             counts,
             level,
+            price,
             card::load(card, h, t as u64),
             carried,
         );

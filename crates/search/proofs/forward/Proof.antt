@@ -56,6 +56,7 @@ judge-requires c κs =
     let p = start loop .pre in
     record {
       on-card = p .slots .on-card;
+      price-is = carry .before .level-price2 .ensures;
       small =
           carried-small p (loop .loop .inv) (wide .wide .ensures) refl (carry .before .level-price2 .ensures) (carry .carry .ensures);
     }

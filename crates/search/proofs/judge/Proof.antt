@@ -35,27 +35,21 @@ operating-cost-requires-2 c κs =
     let start = c .before .before .before .before .before .before .before .before in
     served-at (start .pre .on-card) _ (c .before .if2 .left)
 
-level-price-requires : tie.Need-level-price-requires
-level-price-requires c κs = search needs
-
 weigh-requires : tie.Need-weigh-requires
 weigh-requires c κs =
-    let served = c .before in
-    let start = served .before .before .before .before .before .before .before .before .before in
+    let start = c .before .before .before .before .before .before .before .before .before in
     record {
-      priced = rw (c .level-price .ensures) (level-most (start .pre .on-card) _);
-      served = rw (served .operating-cost2 .ensures) (operating-most (served-at (start .pre .on-card) _ (served .before .before .if2 .left)));
+      priced = rw (start .pre .price-is) (level-most (start .pre .on-card) _);
+      served = rw (c .operating-cost2 .ensures) (operating-most (served-at (start .pre .on-card) _ (c .before .before .if2 .left)));
     }
 
 returns-3 : tie.Need-returns-3
 returns-3 c =
-    let start = c .before .before .before .before .before .before .before .before .before .before .before in
-    rw (c .before .level-price .ensures, c .before .before .operating-cost2 .ensures, c .before .before .before .operating-cost .ensures) at
-    (c .weigh .ensures) ∙
-    sym (judge-serves _ _ _ _ _ (omega arith) (can-serve (start .pre .on-card) _ (c .before .before .before .before .if2 .left)))
+    let start = c .before .before .before .before .before .before .before .before .before .before in
+    rw (start .pre .price-is, c .before .operating-cost2 .ensures, c .before .before .operating-cost .ensures) at (c .weigh .ensures) ∙
+    sym (judge-serves _ _ _ _ _ (omega arith) (can-serve (start .pre .on-card) _ (c .before .before .before .if2 .left)))
 
 pub judge-spec : {M : Type 1} → statement M
 judge-spec =
     tie.close (tie.spec (λ c. search needs) returns (λ c. search needs) (λ c. search needs) (λ c. search needs) (λ c. search needs)
-    (λ c. search needs) mul-if2 returns-2 operating-cost-requires add-upper operating-cost-requires-2 level-price-requires
-    weigh-requires returns-3)
+    (λ c. search needs) mul-if2 returns-2 operating-cost-requires add-upper operating-cost-requires-2 weigh-requires returns-3)
