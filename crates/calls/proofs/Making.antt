@@ -14,14 +14,13 @@ use Rattle.model.specs.declared.Answer.{Answer}
 use Rattle.model.specs.declared.Answer.the-variants.{Cost, Refused}
 use Rattle.model.specs.Instance.{instanceOf}
 use Rattle.model.specs.Thesis.{countsCost}
-use Rattle.model.specs.Plans.{planServes, sheetOf}
-use Rattle.model.specs.HandedIn.{plan, rightLength, entriesInRange, loadsServed}
-use Rattle.model.specs.Calls.{makeSheet, answer, requestOf, refusals, applies, buffersOf, anyShort, firstRefusal, sheetBytes, sheetAtExit, atExit}
+use Rattle.model.specs.Plans.{planInRack, planServes, sheetOf}
+use Rattle.model.specs.Calls.{makeSheet, specOf, anyShort, firstOf, answerOf, answer, sheetBytes, sheetAtExit, atExit}
 use Rattle.laws.specs.Acceptance.{top-range}
-use Rattle.laws.specs.OnCard.{on-card-refused}
+use Rattle.laws.specs.OnCard.{on-card-refused, on-card-passed}
 use Rattle.theory.specs.Hypotheses.{PlanFits}
 use Rattle.theory.specs.SheetLaws.{plan-cost-counts}
-use Rattle.theory.specs.Outcomes.{make-tests, made-fits, made-room, sheet-at-exit}
+use Rattle.theory.specs.Outcomes.{made-fits, made-room, sheet-at-exit}
 use Rattle.card.specs.declared.Header.{Header}
 use Rattle.card.specs.declared.Checked.{Checked}
 use Rattle.card.specs.declared.Checked.the-variants.{Invalid}
@@ -48,8 +47,8 @@ module _ (s p x : List ℕ) where
   made-written is e new-is = (is, new-is ∙ rw (sheet-at-exit s p x, ← is, e))
 
   pub make-refused : {c : Checked} {y : Refusal} → c ≡ checkedOf s → c ≡ Invalid y → Made s p x (Refused y) x
-  unfolding answer requestOf refusals
-  make-refused is e = made-kept (sym (on-card-refused s _ _ _ _ _ (refused-answer s is e))) refl
+  unfolding answer answerOf specOf
+  make-refused is e = made-kept (sym (on-card-refused s _ _ (refused-answer s is e))) refl
 
   module _ {h : Header} (r : Ready s h) where
     module _ (slotwise : length p ≡ h .slots) where
@@ -57,8 +56,8 @@ module _ (s p x : List ℕ) where
       plan-sized = record { ready = r; slotwise = slotwise ∙ r .header .slots-is }
 
       pub plan-ready :
-          entriesInRange (instanceOf s) (plan p) ≡ true → planServes (instanceOf s) p ≡ true → PlanReady s h p
-      unfolding entriesInRange
+          planInRack (instanceOf s) p ≡ true → planServes (instanceOf s) p ≡ true → PlanReady s h p
+      unfolding planInRack
       plan-ready entries served =
           record {
             sized = plan-sized;
@@ -67,35 +66,35 @@ module _ (s p x : List ℕ) where
           }
 
     pub make-short : length x < h .modules * h .slots → Refused BufferTooShort ≡ answer (makeSheet s p x)
-    unfolding firstRefusal applies buffersOf anyShort
+    unfolding answer answerOf specOf firstOf anyShort
     make-short less =
-        sym (make-tests s p x (r .accepted) ∙ rw (lt-ltb (length x) (sheetBytes (instanceOf s)) (rw (← sheet-size r) less)))
+        sym (on-card-passed s _ _ (r .accepted) ∙ rw (lt-ltb (length x) (sheetBytes (instanceOf s)) (rw (← sheet-size r) less)))
 
     module _ (roomy : h .modules * h .slots ≤ length x) where
       room : sheetBytes (instanceOf s) ≤ length x
       room = rw (← sheet-size r) roomy
 
       pub make-length : (length p ≡ h .slots → ⊥) → Refused WrongLength ≡ answer (makeSheet s p x)
-      unfolding firstRefusal applies buffersOf anyShort rightLength
+      unfolding answer answerOf specOf firstOf anyShort
       make-length wrong =
           sym
-          (make-tests s p x (r .accepted) ∙
+          (on-card-passed s _ _ (r .accepted) ∙
           rw (le-ltb _ _ room, ne-eqb (length p) (instanceOf s .slots) (λ e. wrong (e ∙ sym (r .header .slots-is)))))
 
       module _ (slotwise : length p ≡ h .slots) where
-        pub make-entries : entriesInRange (instanceOf s) (plan p) ≡ false → Refused EntryRange ≡ answer (makeSheet s p x)
-        unfolding firstRefusal applies buffersOf anyShort rightLength
-        make-entries e = sym (make-tests s p x (r .accepted) ∙ rw (le-ltb _ _ room, eq-eqb _ _ (plan-sized slotwise .slotwise), e))
+        pub make-entries : planInRack (instanceOf s) p ≡ false → Refused EntryRange ≡ answer (makeSheet s p x)
+        unfolding answer answerOf specOf firstOf anyShort
+        make-entries e = sym (on-card-passed s _ _ (r .accepted) ∙ rw (le-ltb _ _ room, eq-eqb _ _ (plan-sized slotwise .slotwise), e))
 
-        module _ (entries : entriesInRange (instanceOf s) (plan p) ≡ true) where
+        module _ (entries : planInRack (instanceOf s) p ≡ true) where
           pub make-load : planServes (instanceOf s) p ≡ false → Refused LoadNotServed ≡ answer (makeSheet s p x)
-          unfolding firstRefusal applies buffersOf anyShort rightLength loadsServed
+          unfolding answer answerOf specOf firstOf anyShort
           make-load e =
-              sym (make-tests s p x (r .accepted) ∙ rw (le-ltb _ _ room, eq-eqb _ _ (plan-sized slotwise .slotwise), entries, e))
+              sym (on-card-passed s _ _ (r .accepted) ∙ rw (le-ltb _ _ room, eq-eqb _ _ (plan-sized slotwise .slotwise), entries, e))
 
           module _ (served : planServes (instanceOf s) p ≡ true) where
             pub make-cost : {n : ℕ} → n ≡ countsCost (instanceOf s) 0 p → Cost n ≡ answer (makeSheet s p x)
-            unfolding firstRefusal applies buffersOf anyShort rightLength loadsServed
+            unfolding answer answerOf specOf firstOf anyShort
             make-cost e =
                 let fit : PlanFits (instanceOf s) p =
                 record {
@@ -105,7 +104,7 @@ module _ (s p x : List ℕ) where
                   served = served;
                 } in
                 sym
-                (make-tests s p x (r .accepted) ∙
+                (on-card-passed s _ _ (r .accepted) ∙
                 rw (le-ltb _ _ room, eq-eqb _ _ (plan-sized slotwise .slotwise), entries, served)
                 (ap Cost (plan-cost-counts (instanceOf s) p fit ∙ sym e)))
 
@@ -113,8 +112,8 @@ module _ (s p x : List ℕ) where
     pub made-ready : {a : Answer} {n : ℕ} → a ≡ answer (makeSheet s p x) → a ≡ Cost n → SheetRoom s h p x
     made-ready is e =
         let given = sym is ∙ e in
-        let fit = made-fits s p x (r .accepted) given in
+        let fit = made-fits s p x given in
         record {
           plan = record { sized = record { ready = r; slotwise = fit .slotwise }; in-rack = fit .in-rack; served = fit .served };
-          room = made-room s p x (r .accepted) given;
+          room = made-room s p x given;
         }

@@ -1,7 +1,7 @@
 -- The answer of the call for the running cost, by its tests.
 use Prim.Native.Nat.{ℕ, _*_, _≤_, _<_}
 use mathlib.Core.Path.{_≡_, sym, ap, _∙_}
-use mathlib.Core.List.{List, [], _∷_}
+use mathlib.Core.List.{List}
 use native.Mathlib.Nat.{mul-le-mul}
 use native.Mathlib.Omega.{arith}
 use mir.Syntax.{w64}
@@ -12,9 +12,7 @@ use Rattle.model.specs.declared.Refusal.the-variants.{EntryRange, LoadNotServed
 use Rattle.model.specs.declared.Answer.the-variants.{Cost, Refused}
 use Rattle.model.specs.Instance.{instanceOf}
 use Rattle.model.specs.Counts.{canServe, operatingCost}
-use Rattle.model.specs.HandedIn.{pair, entriesInRange, loadsServed}
-use Rattle.model.specs.Calls.{runningCost, onCard, requestOf, refusals, applies, firstRefusal, successCost}
-use Rattle.model.specs.Calls.{answer}
+use Rattle.model.specs.Calls.{runningCost, specOf, firstOf, answerOf, answer}
 use Rattle.laws.specs.OnCard.{on-card-refused, on-card-passed}
 use Rattle.card.specs.declared.Header.{Header}
 use Rattle.card.specs.declared.Checked.{Checked}
@@ -25,19 +23,13 @@ use Rattle.counts.specs.Serving.{Served}
 
 module _ (s : List ℕ) (n l : ℕ) where
   pub pair-refused : {c : Checked} {x : Refusal} → c ≡ checkedOf s → c ≡ Invalid x → Refused x ≡ answer (runningCost s n l)
-  unfolding answer requestOf refusals
-  pair-refused is e = sym (on-card-refused s _ _ _ _ _ (refused-answer s is e))
+  unfolding answer answerOf specOf
+  pair-refused is e = sym (on-card-refused s _ _ (refused-answer s is e))
 
   module _ {h : Header} (r : Ready s h) where
-    tests :
-        answer (runningCost s n l) ≡
-        firstRefusal (applies (onCard s [] (pair n l))) (EntryRange ∷ LoadNotServed ∷ []) (Cost (operatingCost (instanceOf s) n l))
-    unfolding answer requestOf refusals successCost
-    tests = on-card-passed s _ _ _ _ _ (r .accepted)
-
     pub pair-entry : h .modules < n → Refused EntryRange ≡ answer (runningCost s n l)
-    unfolding firstRefusal applies entriesInRange
-    pair-entry many = sym (tests ∙ rw (lt-leb n (instanceOf s .modules) (omega (arith, r .header .modules-is))))
+    unfolding answer answerOf specOf firstOf
+    pair-entry many = sym (on-card-passed s _ _ (r .accepted) ∙ rw (lt-leb n (instanceOf s .modules) (omega (arith, r .header .modules-is))))
 
     module _ (few : n ≤ h .modules) where
       -- The most light of n modules is a small number.
@@ -59,11 +51,11 @@ module _ (s : List ℕ) (n l : ℕ) where
       served enough = record { ready = r; in-rack = in-rack; serves = rw (← r .header .top-is) enough }
 
       pub pair-load : n * h .topStep < l → Refused LoadNotServed ≡ answer (runningCost s n l)
-      unfolding firstRefusal applies entriesInRange loadsServed canServe
+      unfolding answer answerOf specOf firstOf canServe
       pair-load less =
-          sym (tests ∙ rw (le-leb _ _ in-rack, lt-leb l (n * instanceOf s .topStep) (rw (← r .header .top-is) less)))
+          sym (on-card-passed s _ _ (r .accepted) ∙ rw (le-leb _ _ in-rack, lt-leb l (n * instanceOf s .topStep) (rw (← r .header .top-is) less)))
 
       pub pair-cost : l ≤ n * h .topStep → {x : ℕ} → x ≡ operatingCost (instanceOf s) n l → Cost x ≡ answer (runningCost s n l)
-      unfolding firstRefusal applies entriesInRange loadsServed canServe
+      unfolding answer answerOf specOf firstOf canServe
       pair-cost enough e =
-          ap Cost e ∙ sym (tests ∙ rw (le-leb _ _ in-rack, le-leb l (n * instanceOf s .topStep) (served enough .serves)))
+          ap Cost e ∙ sym (on-card-passed s _ _ (r .accepted) ∙ rw (le-leb _ _ in-rack, le-leb l (n * instanceOf s .topStep) (served enough .serves)))

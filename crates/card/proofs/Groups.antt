@@ -7,23 +7,20 @@ use Rattle.model.specs.declared.Refusal.{Refusal}
 use Rattle.model.specs.declared.Answer.{Answer}
 use Rattle.model.specs.declared.Answer.the-variants.{Cost, Refused}
 use Rattle.model.specs.Instance.{instanceOf}
-use Rattle.model.specs.Calls.{checkCard, applies, requestOf, firstRefusal, answer, refusals, successCost, Accepted}
+use Rattle.model.specs.Calls.{checkCard, frontTests, sizeTests, bodyTests, cardTests, specOf, firstOf, answerOf, answer, Accepted}
 use Rattle.card.specs.declared.Header.{Header}
 use Rattle.card.specs.declared.Checked.{Checked}
 use Rattle.card.specs.declared.Checked.the-variants.{Valid, Invalid}
 use Rattle.card.specs.Fields.{HeaderOf, Sized}
-use Rattle.card.specs.Checking.{firstAmong, frontRefusals, sizeRefusals, bodyRefusals, headerOf, checkedAs, checkedOf, ConvexTable, Ready}
+use Rattle.card.specs.Checking.{firstAmong, headerOf, checkedAs, checkedOf, ConvexTable, Ready}
 use Rattle.laws.specs.FirstRefusal.{first-refused, first-through}
 use Rattle.laws.specs.Acceptance.{modules-range, top-range, slots-range, table-convex}
 use Rattle.laws.specs.LeastSteps.{lowestStep}
 
 module _ (s : List ℕ) where
   -- The card's answer tests refusals 1 and 2, then 3 to 5, then 6 to 8.
-  by-groups :
-      answer (checkCard s) ≡
-      firstRefusal (applies (requestOf (checkCard s))) frontRefusals
-      (firstRefusal (applies (requestOf (checkCard s))) sizeRefusals (firstRefusal (applies (requestOf (checkCard s))) bodyRefusals (Cost 0)))
-  unfolding answer refusals successCost firstRefusal
+  by-groups : answer (checkCard s) ≡ firstOf (frontTests s) (firstOf (sizeTests s) (firstOf (bodyTests s) (Cost 0)))
+  unfolding answer answerOf specOf cardTests firstOf
   by-groups = refl
 
   refused : {x : Refusal} → answer (checkCard s) ≡ Refused x → Invalid x ≡ checkedOf s
@@ -31,34 +28,32 @@ module _ (s : List ℕ) where
   refused e = rw e
 
   -- The answers of the code's three checks, one after the other.
-  module _ {front : Answer} (front-is : front ≡ firstAmong s frontRefusals) where
+  module _ {front : Answer} (front-is : front ≡ firstAmong (frontTests s)) where
     pub front-refused : {x : Refusal} → front ≡ Refused x → Invalid x ≡ checkedOf s
     unfolding firstAmong
-    front-refused e = refused (by-groups ∙ first-refused _ _ _ refl (sym front-is ∙ e))
+    front-refused e = refused (by-groups ∙ first-refused _ _ refl (sym front-is ∙ e))
 
-    module _ {k : ℕ} (front-passed : front ≡ Cost k) {size : Answer} (size-is : size ≡ firstAmong s sizeRefusals) where
-      after-front :
-          answer (checkCard s) ≡
-          firstRefusal (applies (requestOf (checkCard s))) sizeRefusals (firstRefusal (applies (requestOf (checkCard s))) bodyRefusals (Cost 0))
+    module _ {k : ℕ} (front-passed : front ≡ Cost k) {size : Answer} (size-is : size ≡ firstAmong (sizeTests s)) where
+      after-front : answer (checkCard s) ≡ firstOf (sizeTests s) (firstOf (bodyTests s) (Cost 0))
       unfolding firstAmong
-      after-front = by-groups ∙ first-through _ _ _ _ (sym front-is ∙ front-passed)
+      after-front = by-groups ∙ first-through _ _ _ (sym front-is ∙ front-passed)
 
       pub size-refused : {x : Refusal} → size ≡ Refused x → Invalid x ≡ checkedOf s
       unfolding firstAmong
-      size-refused e = refused (after-front ∙ first-refused _ _ _ refl (sym size-is ∙ e))
+      size-refused e = refused (after-front ∙ first-refused _ _ refl (sym size-is ∙ e))
 
-      module _ {l : ℕ} (size-passed : size ≡ Cost l) {body : Answer} (body-is : body ≡ firstAmong s bodyRefusals) where
+      module _ {l : ℕ} (size-passed : size ≡ Cost l) {body : Answer} (body-is : body ≡ firstAmong (bodyTests s)) where
         after-size : answer (checkCard s) ≡ body
         unfolding firstAmong
-        after-size = after-front ∙ first-through _ _ _ _ (sym size-is ∙ size-passed) ∙ sym body-is
+        after-size = after-front ∙ first-through _ _ _ (sym size-is ∙ size-passed) ∙ sym body-is
 
         pub body-refused : {x : Refusal} → body ≡ Refused x → Invalid x ≡ checkedOf s
         body-refused e = refused (after-size ∙ e)
 
         -- Where all three passed, the card is accepted.
         passed-accepted : {n : ℕ} → body ≡ Cost n → Accepted s
-        unfolding answer successCost
-        passed-accepted e = first-through _ _ _ _ (after-size ∙ e)
+        unfolding answer answerOf specOf
+        passed-accepted e = first-through _ _ _ (after-size ∙ e)
 
         -- So its table is convex.
         pub passed-convex : {n : ℕ} (h : Header) → Sized s h → body ≡ Cost n → ConvexTable s h
@@ -102,13 +97,13 @@ module _ (s : List ℕ) {c : Checked} (is : c ≡ checkedOf s) where
       go (Refused y) f = cc
 
   valid-answer : {h : Header} → c ≡ Valid h → Accepted s × (headerOf s ≡ h)
-  unfolding checkedOf answer successCost
+  unfolding checkedOf answer answerOf specOf
   valid-answer {h} e = go (answer (checkCard s)) refl (sym is ∙ e)
     where
       go :
           (a : Answer) → answer (checkCard s) ≡ a → checkedAs a (headerOf s) ≡ Valid h →
           Accepted s × (headerOf s ≡ h)
-      go (Cost n) g f = (first-through _ _ _ _ g, cc)
+      go (Cost n) g f = (first-through _ _ _ g, cc)
       go (Refused y) g f = (cc, cc)
 
   pub accepted-answer : {h : Header} → c ≡ Valid h → Accepted s

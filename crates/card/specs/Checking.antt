@@ -1,14 +1,12 @@
 -- What checking a card gives.
 use Prim.Native.Nat.{ℕ, _+_, _≤_}
 use mathlib.Core.Path.{_≡_}
-use mathlib.Core.Bool.{true}
-use mathlib.Core.List.{List, [], _∷_}
-use Rattle.model.specs.declared.Refusal.{Refusal}
-use Rattle.model.specs.declared.Refusal.the-variants.{NotACard, Version, RackSize, SlotCount, CardLength, PriceRange, NotConvex, LoadRange}
+use mathlib.Core.Bool.{Bool, true, _&&_}
+use mathlib.Core.List.{List}
 use Rattle.model.specs.declared.Answer.{Answer}
 use Rattle.model.specs.declared.Answer.the-variants.{Cost, Refused}
-use Rattle.model.specs.Instance.{instanceOf, convex}
-use Rattle.model.specs.Calls.{checkCard, answer, applies, requestOf, firstRefusal, Accepted}
+use Rattle.model.specs.Instance.{instanceOf, rackNumber, convex}
+use Rattle.model.specs.Calls.{Test, checkCard, answer, firstOf, Accepted}
 use Rattle.laws.specs.LeastSteps.{lowestStep}
 use Rattle.card.specs.declared.Header.{Header}
 use Rattle.card.specs.declared.Checked.{Checked}
@@ -25,9 +23,9 @@ pub record ConvexTable (s : List ℕ) (h : Header) : Type 0 where
   pub sized : Sized s h
   pub convexity : convex (h .topStep) (instanceOf s .table) ≡ true
 
--- The numbers of a header that have to be from 1 to 200.
-abbrev pub rackOf : Header → List ℕ
-rackOf h = h .modules ∷ h .topStep ∷ []
+-- The numbers of a header that have to be from 1 to 200 are so.
+abbrev pub rackFits : Header → Bool
+rackFits h = rackNumber (h .modules) && rackNumber (h .topStep)
 
 -- The header of an accepted card.
 abbrev pub headerOf : List ℕ → Header
@@ -41,21 +39,9 @@ headerOf s =
       lowestStep = lowestStep (instanceOf s);
     }
 
--- The first of some refusals that applies to a card, or the cost 0.
-unfoldable pub firstAmong : List ℕ → List Refusal → Answer
-firstAmong s xs = firstRefusal (applies (requestOf (checkCard s))) xs (Cost 0)
-
--- Refusals 1 and 2, which look at the mark and the version.
-abbrev pub frontRefusals : List Refusal
-frontRefusals = NotACard ∷ Version ∷ []
-
--- Refusals 3 to 5, which look at the header and the length.
-abbrev pub sizeRefusals : List Refusal
-sizeRefusals = RackSize ∷ SlotCount ∷ CardLength ∷ []
-
--- Refusals 6 to 8, which look at prices, table and loads.
-abbrev pub bodyRefusals : List Refusal
-bodyRefusals = PriceRange ∷ NotConvex ∷ LoadRange ∷ []
+-- The first of some tests that applies, or the cost 0.
+unfoldable pub firstAmong : List Test → Answer
+firstAmong ts = firstOf ts (Cost 0)
 
 -- The result of a check, by the card's answer and its header.
 abbrev pub checkedAs : Answer → Header → Checked

@@ -5,13 +5,13 @@ ghost use mathlib.Core.Path.{_≡_};
 ghost use Prim.Native.Nat.{_+_, _≤_};
 ghost use lib.ListN.{length};
 ghost use Rattle.lists.specs.Lists.{sameList};
-ghost use Rattle.lists.specs.Tests.{allOf};
 ghost use Rattle.model.specs.Instance.{instanceOf, headLength, loadPlace, markOf, cardMark, versionOf, rackNumber};
 ghost use Rattle.model.specs.Instance.{convexAt, convex, tableInRange, loadsInRange};
 ghost use Rattle.model.specs.MoreLight.{activeStep};
+ghost use Rattle.model.specs.Calls.{frontTests, sizeTests, bodyTests};
 ghost use Rattle.laws.specs.LeastSteps.{lowestStep};
 ghost use Rattle.card.specs.Fields.{Within, ReadAt, HeaderOf, Sized, PlaceNear, EntryThere, TableEntry, LoadThere, SlotLoad};
-ghost use Rattle.card.specs.Checking.{ConvexThere, ConvexTable, rackOf, firstAmong, frontRefusals, sizeRefusals, bodyRefusals, checkedOf, Ready};
+ghost use Rattle.card.specs.Checking.{ConvexThere, ConvexTable, rackFits, firstAmong, checkedOf, Ready};
 
 // The places of a card's fields: the version, the modules, with which the rest of the head begins, and the table, where the head ends.
 const VERSION_PLACE: usize = 3;
@@ -195,7 +195,7 @@ pub fn rack_number(n: u64) -> bool
 
 // The modules and the top step are from 1 to 200.
 fn rack_in_range(h: Header) -> bool
-    ensures { λ r. ⌜ r ≡ allOf rackNumber (rackOf h) ⌝ }
+    ensures { λ r. ⌜ r ≡ rackFits h ⌝ }
 {
     if !rack_number(h.modules) {
         return false;
@@ -205,7 +205,7 @@ fn rack_in_range(h: Header) -> bool
 
 // Refusals 1 and 2.
 fn check_front(card: &[u8]) -> Answer
-    ensures { λ r. ⌜ r ≡ firstAmong (now (card .entry)) frontRefusals ⌝ }
+    ensures { λ r. ⌜ r ≡ firstAmong (frontTests (now (card .entry))) ⌝ }
 {
     if card.len() < HEAD_LENGTH as usize {
         return Answer::Refused(Refusal::NotACard);
@@ -222,7 +222,7 @@ fn check_front(card: &[u8]) -> Answer
 // Refusals 3 to 5.
 fn check_size(card: &[u8], h: Header) -> Answer
     requires { ⌜ HeaderOf (now card) h ⌝ }
-    ensures { λ r. ⌜ r ≡ firstAmong (now (card .entry)) sizeRefusals ⌝ }
+    ensures { λ r. ⌜ r ≡ firstAmong (sizeTests (now (card .entry))) ⌝ }
 {
     if !rack_in_range(h) {
         return Answer::Refused(Refusal::RackSize);
@@ -313,7 +313,7 @@ fn loads_in_range(card: &[u8], h: Header) -> bool
 // Refusals 6 to 8.
 fn check_body(card: &[u8], h: Header) -> Answer
     requires { ⌜ Sized (now card) h ⌝ }
-    ensures { λ r. ⌜ r ≡ firstAmong (now (card .entry)) bodyRefusals ⌝ }
+    ensures { λ r. ⌜ r ≡ firstAmong (bodyTests (now (card .entry))) ⌝ }
 {
     if 500000000 < h.powerUp {
         return Answer::Refused(Refusal::PriceRange);

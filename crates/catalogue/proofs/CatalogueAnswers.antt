@@ -7,7 +7,6 @@ use native.Mathlib.Omega.{arith}
 use lib.ListN.{length, take}
 use lib.Seq.{take-at, length-take-le}
 use borrow.Author.Tests.{lt-ltb, le-ltb}
-use Rattle.lists.specs.Tests.{allOf}
 use Rattle.lists.specs.Lists.{writtenOver}
 use Rattle.lists.specs.Rows.{elementBytes, length-numbers, taken-bytes}
 use Rattle.lists.specs.Writing.{Room}
@@ -17,7 +16,7 @@ use Rattle.model.specs.declared.Answer.the-variants.{Cost, Refused}
 use Rattle.model.specs.Answers.{numberOf}
 use Rattle.model.specs.Instance.{tableSize, rackNumber}
 use Rattle.model.specs.Catalogue.{catalogueTop, catalogueEntry, entryOf, TestedTable, catalogueBytes}
-use Rattle.model.specs.Calls.{catalogueTable, buffersOf, anyShort, requestOf, applies, refusals, firstRefusal, answer, successCost}
+use Rattle.model.specs.Calls.{catalogueTable, anyShort, specOf, firstOf, answerOf, answer}
 use Rattle.model.specs.Calls.{tableBuffer, atExit, buffersAtExit, tableAtExit}
 use Rattle.model.specs.Promises.{WritesTable}
 use Rattle.laws.specs.Acceptance.{rack-range}
@@ -34,7 +33,7 @@ entries-room {n} {table} r =
 module _ (top : ℕ) (table : List ℕ) where
   -- The area at exit, by the answer.
   exit-by : {a : Answer} → answer (catalogueTable top table) ≡ a → atExit a (tableBuffer top table) ≡ tableAtExit (catalogueTable top table)
-  unfolding tableAtExit buffersAtExit buffersOf
+  unfolding tableAtExit buffersAtExit specOf
   exit-by e = rw e
 
   -- After a refusal nothing is promised of the area's bytes in a card.
@@ -46,7 +45,7 @@ module _ (top : ℕ) (table : List ℕ) where
       rackNumber top ≡ false →
       (Refused RackSize ≡ answer (catalogueTable top table)) ×
       ((table ≡ tableAtExit (catalogueTable top table)) × WritesTable top table (numberOf (Refused RackSize)))
-  unfolding answer refusals firstRefusal applies requestOf allOf atExit
+  unfolding answer answerOf specOf firstOf atExit
   top-refused e =
       let given : answer (catalogueTable top table) ≡ Refused RackSize = rw e refl in
       (sym given, (exit-by given, refused-writes))
@@ -57,7 +56,7 @@ module _ (top : ℕ) (table : List ℕ) where
         length table < tableSize top →
         (Refused BufferTooShort ≡ answer (catalogueTable top table)) ×
         ((table ≡ tableAtExit (catalogueTable top table)) × WritesTable top table (numberOf (Refused BufferTooShort)))
-    unfolding answer refusals firstRefusal applies requestOf allOf buffersOf anyShort atExit
+    unfolding answer answerOf specOf firstOf anyShort atExit
     short-refused h =
         let given : answer (catalogueTable top table) ≡ Refused BufferTooShort = rw (ranged, lt-ltb _ _ h) refl in
         (sym given, (exit-by given, refused-writes))
@@ -93,7 +92,7 @@ module _ (top : ℕ) (table : List ℕ) where
       pub table-given :
           {new : List ℕ} → new ≡ writtenOver (elementBytes 4 (take (top + 1) whole)) table →
           (Cost 0 ≡ answer (catalogueTable top table)) × ((new ≡ tableAtExit (catalogueTable top table)) × WritesTable top new 0)
-      unfolding answer refusals firstRefusal applies requestOf allOf buffersOf anyShort successCost atExit
+      unfolding answer answerOf specOf firstOf anyShort atExit
       table-given {new} written =
           let given : answer (catalogueTable top table) ≡ Cost 0 = rw (ranged, le-ltb _ _ long) refl in
           let over : new ≡ writtenOver (catalogueBytes top) table = rw bytes-are at written in

@@ -18,9 +18,9 @@ use Rattle.model.specs.Instance.{instanceOf}
 use Rattle.model.specs.Sheets.{serves, sheetCost}
 use Rattle.model.specs.Plans.{sheetOf}
 use Rattle.model.specs.Planners.{Planner, exact, listed, allowedCounts, ratioOf, plannedBy, plannedCost}
-use Rattle.model.specs.Calls.{NumbersOf, Gives, Accepted, planShow, makeSheet, markSheet, practiceCard, catalogueTable, answer, successCost}
+use Rattle.model.specs.Calls.{NumbersOf, Gives, Accepted, planShow, makeSheet, markSheet, practiceCard, catalogueTable, answer}
 use Rattle.model.specs.Calls.{planAtExit, workAtExit, sheetAtExit, cardAtExit, tableAtExit}
-use Rattle.model.specs.Calls.{actIn, requestOf, refusals, buffersAtExit, buffersOf, actBuffers, explainSheet}
+use Rattle.model.specs.Calls.{actIn, actSpec, specOf, buffersAtExit, explainSheet}
 use Rattle.model.specs.ExplainedPoints.{explainedWork, pointsOf}
 use Rattle.model.specs.Acts.{Act, openSitting, readLeast, opened, unopened, isClosed}
 use Rattle.model.specs.SittingState.{factsOf, stateOf, phaseOf}
@@ -80,7 +80,7 @@ module _
 -- A planner.
 module _ (k : Planner) (c p w : List ℕ) {number cost : ℕ} (given : Gives (planShow k c p w) number cost) where
   success : number ≡ 0 → answer (planShow k c p w) ≡ Cost (plannedCost k (instanceOf c))
-  unfolding successCost
+  unfolding specOf
   success e = succeeded (planShow k c p w) (sym (given .number-is) ∙ e)
 
   accepted : number ≡ 0 → Accepted c
@@ -195,17 +195,17 @@ module _ (z : Sitting) (xs : List Seat) (d a : ℕ) (c p w : List ℕ) where
 
   -- Its answer is the exact planner's.
   as-planner : replyOf z xs act .number ≡ 0 → answer (planShow exact c p w) ≡ answer (actIn z xs act)
-  unfolding replyOf replyWith toldBy told answer requestOf refusals successCost answerTo
+  unfolding replyOf replyWith toldBy told answer specOf answerTo
   as-planner e = opened-planned z xs d a c p w e
 
   -- The numbers of its reply are those of its answer.
   replied : NumbersOf (answer (actIn z xs act)) (replyOf z xs act .number) (replyOf z xs act .cost)
-  unfolding replyOf replyWith toldBy told answer requestOf refusals successCost answerTo
+  unfolding replyOf replyWith toldBy told answer specOf answerTo
   replied = record { number-is = refl; cost-is = refl }
 
   -- The plan that it leaves is the exact planner's.
   plan-left : replyOf z xs act .number ≡ 0 → planAtExit (actIn z xs act) ≡ planAtExit (planShow exact c p w)
-  unfolding planAtExit buffersAtExit buffersOf actBuffers
+  unfolding planAtExit buffersAtExit specOf actSpec
   plan-left e = rw (as-planner e)
 
   -- Its numbers are those of the exact planner.
@@ -243,5 +243,5 @@ hidden-till-closed z xs d is =
     rw is (record {
       refused = λ still candidate. ap numberOf (refused still candidate);
       no-cost = λ still candidate. ap costOf (refused still candidate);
-      none-marked = λ still candidate. ap (markedWith (factsOf (stateOf z xs)) (readLeast d)) (refused still candidate);
+      none-marked = λ still candidate. ap (markedWith (actSpec (factsOf (stateOf z xs)) (readLeast d))) (refused still candidate);
     })

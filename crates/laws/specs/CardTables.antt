@@ -2,7 +2,7 @@
 use Prim.Native.Nat.{ℕ, _+_, _*_, _^_, _≤_, _<_}
 use mathlib.Core.Path.{_≡_, sym, _∙_}
 use mathlib.Core.Bool.{true}
-use mathlib.Core.List.{List, [], _++_, append-nil}
+use mathlib.Core.List.{List, [], _∷_, _++_, append-nil}
 use mathlib.Core.Logic.{_↔_}
 use native.Mathlib.Omega.{arith}
 use lib.ListN.{length, drop, List·getD-append}
@@ -13,8 +13,8 @@ use Rattle.lists.specs.Bytes.{little-same, little-drop, little-take}
 use Rattle.lists.specs.Rows.{little-numbers}
 use Rattle.model.specs.declared.Answer.{Answer}
 use Rattle.model.specs.Instance.{instanceOf, headLength, entryPlace, tableSize, tableFields, tableOf, tableInRange, convex, priceBound, pricesInRange}
-use Rattle.model.specs.Calls.{Accepted, checkCard, answer, requestOf, refusals, cardRefusals, successCost, applies, firstRefusal}
-use Rattle.model.specs.Promises.{otherRefusals, OthersInOrder}
+use Rattle.model.specs.Calls.{Accepted, frontTests, sizeTests, loadTest, cardTests, answer, answerOf, specOf, firstOf}
+use Rattle.model.specs.Promises.{OthersInOrder}
 use Rattle.laws.specs.Acceptance.{up-range, down-range}
 
 module _ (card : List ℕ) where
@@ -36,15 +36,15 @@ module _ (card : List ℕ) where
     -- Where the two prices keep their bound too, refusals 6 and 7 do not apply, and the card's answer is that of the others.
     by-others :
         instanceOf card .powerUp ≤ priceBound → instanceOf card .powerDown ≤ priceBound → (a : Answer) →
-        firstRefusal (applies (requestOf (checkCard card))) cardRefusals a ≡ firstRefusal (applies (requestOf (checkCard card))) otherRefusals a
-    unfolding firstRefusal applies requestOf pricesInRange
+        firstOf (cardTests card) a ≡ firstOf (frontTests card ++ (sizeTests card ++ (loadTest card ∷ []))) a
+    unfolding firstOf cardTests pricesInRange
     by-others up down a =
         let prices = and-both (le-leb (instanceOf card .powerUp) priceBound up) (and-both (le-leb (instanceOf card .powerDown) priceBound down) ranged) in
         rw (prices, convexity)
 
     -- A card with a table in range and convex is accepted exactly if its other fields are in order.
     pub accepted-by-others : OthersInOrder card ↔ Accepted card
-    unfolding answer refusals successCost
+    unfolding answer answerOf specOf
     accepted-by-others = (
       λ o. by-others (o .power-up) (o .power-down) _ ∙ o .others,
       λ e.

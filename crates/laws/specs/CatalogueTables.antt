@@ -9,7 +9,6 @@ use borrow.Author.Tests.{eqb-true, le-leb}
 use Rattle.lists.specs.Tests.{every-at, every-all}
 use Rattle.model.specs.Instance.{instanceOf, tableOf, tableInRange}
 use Rattle.model.specs.Catalogue.{catalogueEntry, catalogueTop, catalogueSize, entryOf, followsRule, TestedTable, catalogueBytes}
-use Rattle.model.specs.Calls.{applies, requestOf}
 use Rattle.model.specs.Promises.{HasCatalogueTable}
 use Rattle.laws.specs.Tables.{Convex, NeverFalls, convex-test, never-falls-test, same-range, same-convex, same-rise}
 use Rattle.laws.specs.CardTables.{table-read, accepted-by-others}
@@ -75,7 +74,7 @@ module _ {table : List ℕ} (tested : TestedTable table) where
   pub catalogue-card :
       (card : List ℕ) → instanceOf card .topStep ≤ catalogueTop → tableOf card ≡ catalogueBytes (instanceOf card .topStep) →
       HasCatalogueTable card
-  unfolding catalogueBytes applies requestOf
+  unfolding catalogueBytes
   catalogue-card card h has =
       let q = instanceOf card .topStep in
       let read = table-read card catalogueEntry (λ k g. catalogue-fits k (omega arith)) has in
@@ -84,7 +83,7 @@ module _ {table : List ℕ} (tested : TestedTable table) where
       record {
         entries = read;
         in-range = ranged;
-        convexity = rw convexity refl;
+        convexity = convexity;
         never-falls = same-rise q read ∙ never-falls-test q catalogueEntry .1 (λ k g. entry-rises k (omega arith));
         accepted = accepted-by-others card ranged convexity;
       }

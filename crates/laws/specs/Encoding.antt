@@ -10,13 +10,13 @@ use lib.Dec.{leb}
 use lib.ListN.{length, take, length-append}
 use lib.Seq.{take-at}
 use borrow.Author.Tests.{leb-true, le-leb, le-ltb, eq-eqb}
-use Rattle.lists.specs.Tests.{allOf, and-left, and-right, and-both, every-at, every-all, every-same}
+use Rattle.lists.specs.Tests.{and-left, and-right, and-both, every-at, every-all, every-same}
 use Rattle.lists.specs.Lists.{sameList}
 use Rattle.lists.specs.Bytes.{littleEndian, bytesOf, little-bytes, little-after}
 use Rattle.lists.specs.Rows.{length-numbers, little-numbers}
 use Rattle.model.specs.Instance.{Instance, instanceOf, headLength, entryPlace, loadPlace, cardMark, cardVersion, markOf, versionOf}
 use Rattle.model.specs.Instance.{cardLength, tableBytes, loadBytes, cardBytes, inOrder, rackNumber, pricesInRange, tableInRange, convex, loadsInRange}
-use Rattle.model.specs.Calls.{Accepted, answer, requestOf, refusals, successCost, applies, firstRefusal}
+use Rattle.model.specs.Calls.{Accepted, answer, answerOf, specOf, cardTests, firstOf}
 use Rattle.model.specs.Promises.{frontCard}
 use Rattle.model.specs.RelatedShows.{Agree}
 use Rattle.laws.specs.Acceptance.{modules-range, top-range, slots-range, up-range, down-range, table-range, table-convex}
@@ -130,7 +130,7 @@ module _ (i : Instance) where
 
   module _ (fit : FieldsFit i) where
     read-accepted : inOrder read ≡ true → Accepted (cardBytes i)
-    unfolding answer requestOf refusals successCost applies firstRefusal allOf inOrder sameList cardLength
+    unfolding answer answerOf specOf cardTests firstOf inOrder sameList cardLength
     read-accepted e =
         let same = card-bytes-show i fit in
         let modules : rackNumber (read .modules) ≡ true = search (and-left, and-right) in

@@ -14,8 +14,7 @@ use Rattle.lists.specs.Tests.{and-both, every-all}
 use Rattle.model.specs.declared.Answer.the-variants.{Cost}
 use Rattle.model.specs.Instance.{cardBytes, cardLength, inOrder, pricesInRange, tableInRange, convex, convexAt, loadsInRange}
 use Rattle.model.specs.Practice.{drawn, practiceDifference, practiceEntry, practiceShow, longestPractice}
-use Rattle.model.specs.HandedIn.{startsAtZero}
-use Rattle.model.specs.Calls.{Accepted, practiceCard, answer, requestOf, refusals, firstRefusal, applies, buffersOf, anyShort, successCost}
+use Rattle.model.specs.Calls.{Accepted, practiceCard, answer, answerOf, specOf, firstOf, anyShort}
 use Rattle.laws.specs.Tables.{NeverFalls}
 use Rattle.laws.specs.Encoding.{in-order-accepted}
 
@@ -88,7 +87,7 @@ module _ (start : ℕ) where
   -- A start other than 0 with an area that is long enough for its card is answered by cost 0.
   pub practice-given :
       (area : List ℕ) → (start ≡ 0 → ⊥) → cardLength (practiceShow start) ≤ length area → answer (practiceCard start area) ≡ Cost 0
-  unfolding answer requestOf refusals firstRefusal applies startsAtZero buffersOf anyShort successCost
+  unfolding answer answerOf specOf firstOf anyShort
   practice-given area some room = rw (ne-eqb start 0 some, le-ltb _ _ room)
 
   -- No practice card is longer than the longest one.

@@ -2,34 +2,33 @@
 -- §4, §5, §7, §8).
 use Prim.Native.Nat.{ℕ, _*_}
 use mathlib.Core.Path.{_≡_}
-use mathlib.Core.Bool.{Bool, true, false, cond, not, _||_}
+use mathlib.Core.Bool.{Bool, false, cond, not, _&&_, _||_}
 use mathlib.Core.List.{List, [], _∷_, _++_, map}
-use mathlib.Core.Option.{Option·getD}
+use mathlib.Core.Option.{Option·getD, Option·elim}
 use lib.ListN.{length, getD, replicate}
-use lib.Dec.{ltb, eqb}
-use Rattle.lists.specs.Tests.{allOf}
+use lib.Dec.{leb, ltb, eqb}
 use Rattle.lists.specs.Lists.{sameList, writtenOver}
 use Rattle.model.specs.declared.Refusal.{Refusal}
 use Rattle.model.specs.declared.Refusal.the-variants.{NotACard, Version, RackSize, SlotCount, CardLength, PriceRange, NotConvex}
-use Rattle.model.specs.declared.Refusal.the-variants.{LoadRange, NotMonotone, BufferTooShort, WrongLength, EntryRange, LoadNotServed}
+use Rattle.model.specs.declared.Refusal.the-variants.{LoadRange, BufferTooShort, WrongLength, EntryRange, LoadNotServed}
 use Rattle.model.specs.declared.Refusal.the-variants.{ZeroStart, NotPermitted, SeatUnavailable, AllowanceSpent, CountList}
 use Rattle.model.specs.declared.Answer.{Answer}
 use Rattle.model.specs.declared.Answer.the-variants.{Cost, Refused}
 use Rattle.model.specs.Answers.{numberOf, costOf}
 use Rattle.model.specs.Instance.{Instance, instanceOf, headLength, markOf, cardMark, versionOf, cardVersion, cardLength, cardBytes}
-use Rattle.model.specs.Instance.{tableSize, rackNumber, convex, neverFalls, pricesInRange, loadsInRange}
-use Rattle.model.specs.Counts.{operatingCost, roundedCount}
-use Rattle.model.specs.Sheets.{sheetCost}
-use Rattle.model.specs.Plans.{planCost, sheetOf}
+use Rattle.model.specs.Instance.{tableSize, rackNumber, convex, pricesInRange, loadsInRange}
+use Rattle.model.specs.Counts.{canServe, operatingCost, roundedCount}
+use Rattle.model.specs.CountRules.{keepsRules}
+use Rattle.model.specs.Sheets.{sheetLength, sheetEntries, sheetLight, sheetCost}
+use Rattle.model.specs.Plans.{planCost, planInRack, planServes, sheetOf}
 use Rattle.model.specs.Planners.{Planner, exact, coarse, listed, workBytes, plannedBy, plannedCost}
-use Rattle.model.specs.HandedIn.{HandedIn, nothing, pair, plan, sheet, inRack, fromStart, countList}
-use Rattle.model.specs.HandedIn.{rightLength, entriesInRange, loadsServed, startsAtZero, countsInRules}
 use Rattle.model.specs.Practice.{practiceShow}
 use Rattle.model.specs.Catalogue.{catalogueBytes}
 use Rattle.model.specs.declared.Seat.{Seat}
 use Rattle.model.specs.declared.Sitting.{Sitting}
 use Rattle.model.specs.Acts.{Act, openSitting, seatCandidate, closeSitting, submitSheet, readLeast, readLowest, readUsed, Facts}
-use Rattle.model.specs.Acts.{notPermitted, seatUnavailable, allowanceSpent}
+use Rattle.model.specs.Acts.{isUnopened, isOpened, isClosed, supervisor, allowanceInRange, noSeat}
+use Rattle.model.specs.Acts.{Event, nothingDone, openingDone, seatingDone, closingDone, submissionMarked, submissionRefused}
 use Rattle.model.specs.SittingState.{factsOf, stateOf}
 
 -- The calls, each with what it is handed: the bytes of card, plan, work, sheet and table at entry, and numbers. An act of a sitting is handed the
@@ -77,236 +76,189 @@ cardBuffer i c = record { entry = c; asked = cardLength i; writes = cardBytes i 
 abbrev pub tableBuffer : (top : ℕ) (table : List ℕ) → Buffer
 tableBuffer q f = record { entry = f; asked = tableSize q; writes = catalogueBytes q }
 
--- The buffers of bytes lent to an act: to opening 'the exact planner's areas'.
-unfoldable pub actBuffers : Act → List Buffer
-actBuffers (openSitting d a c p w) = planBuffer exact (instanceOf c) p ∷ workBuffer exact (instanceOf c) w ∷ []
-actBuffers (seatCandidate d c) = []
-actBuffers (closeSitting d) = []
-actBuffers (submitSheet d c s) = []
-actBuffers (readLeast d) = []
-actBuffers (readLowest d c) = []
-actBuffers (readUsed d) = []
-
--- The buffers of bytes lent to a call, in the order of its parameters.
-unfoldable pub buffersOf : Call → List Buffer
-buffersOf (checkCard c) = []
-buffersOf (runningCost c n l) = []
-buffersOf (planShow k c p w) = planBuffer k (instanceOf c) p ∷ workBuffer k (instanceOf c) w ∷ []
-buffersOf (makeSheet c p s) = sheetBuffer (instanceOf c) p s ∷ []
-buffersOf (markSheet c s) = []
-buffersOf (roundCount n m) = []
-buffersOf (practiceCard s c) = cardBuffer (practiceShow s) c ∷ []
-buffersOf (catalogueTable q f) = tableBuffer q f ∷ []
-buffersOf (explainSheet c s w) = workBuffer exact (instanceOf c) w ∷ []
-buffersOf (actIn z xs a) = actBuffers a
-
 -- One of the buffers is too short. Refusal 10: 'a lent area shorter than asked for'.
 unfoldable pub anyShort : List Buffer → Bool
 anyShort [] = false
 anyShort (b ∷ bs) = ltb (length (b .entry)) (b .asked) || anyShort bs
 
--- When a call comes: outside a sitting, or as an act of one of which the rules know some facts.
-pub data Moment : Type 0 where
-  outside : Moment
-  during : (facts : Facts) (act : Act) → Moment
+-- A test of a call: the refusal that it gives, and whether it applies.
+pub record Test : Type 0 where
+  pub refusal : Refusal
+  pub applies : Bool
 
--- A test on an act of a sitting, which finds nothing outside.
-unfoldable pub onAct : (Facts → Act → Bool) → Moment → Bool
-onAct test outside = false
-onAct test (during f a) = test f a
+infix 70 _when_
+abbrev pub _when_ : Refusal → Bool → Test
+_when_ x b = record { refusal = x; applies = b }
 
--- What the refusals look at: the bytes of a card, the numbers that have to be from 1 to 200, the lent buffers, what is handed in, and the
--- moment.
-pub record Request : Type 0 where
-  pub card : List ℕ
-  pub rack : List ℕ
+-- What a call answers: its tests in the order in which they are made, the cost that it gives where none applies, and its lent buffers, in the
+-- order of its parameters.
+pub record Spec : Type 0 where
+  pub tests : List Test
+  pub cost : ℕ
   pub buffers : List Buffer
-  pub handed : HandedIn
-  pub moment : Moment
 
--- A request on a card, whose m and Q are the numbers of its rack, at a moment.
-abbrev pub onCardAt : List ℕ → List Buffer → HandedIn → Moment → Request
-onCardAt c bs h t =
-    record { card = c; rack = instanceOf c .modules ∷ instanceOf c .topStep ∷ []; buffers = bs; handed = h; moment = t }
+-- 'All calls on a card check 1 to 8': the table's column 'when', a line a number; 1 and 2 look at the mark and the version, 3 to 5 at the head and the
+-- length, 6 to 8 at prices, table and loads.
+abbrev pub frontTests : List ℕ → List Test
+frontTests c =
+    NotACard when (ltb (length c) headLength || not (sameList (markOf c) cardMark)) ∷
+    Version when not (eqb (versionOf c) cardVersion) ∷ []
 
--- A request on a card outside a sitting.
-abbrev pub onCard : List ℕ → List Buffer → HandedIn → Request
-onCard c bs h = onCardAt c bs h outside
+abbrev pub sizeTests : List ℕ → List Test
+sizeTests c =
+    RackSize when not (rackNumber (instanceOf c .modules) && rackNumber (instanceOf c .topStep)) ∷
+    SlotCount when ltb 1024 (instanceOf c .slots) ∷
+    CardLength when not (eqb (length c) (cardLength (instanceOf c))) ∷ []
 
--- A request on a rack alone: 'The rounded count takes n and m only.'
-abbrev pub onRack : (count modules : ℕ) → Request
-onRack n m = record { card = []; rack = m ∷ []; buffers = []; handed = inRack n m; moment = outside }
+abbrev pub loadTest : List ℕ → Test
+loadTest c = LoadRange when not (loadsInRange (instanceOf c))
 
--- A request on a start alone, which has no card to read and no rack to judge.
-abbrev pub onStart : (start : ℕ) → List Buffer → Request
-onStart s bs = record { card = []; rack = []; buffers = bs; handed = fromStart s; moment = outside }
+abbrev pub bodyTests : List ℕ → List Test
+bodyTests c =
+    PriceRange when not (pricesInRange (instanceOf c)) ∷
+    NotConvex when not (convex (instanceOf c .topStep) (instanceOf c .table)) ∷
+    loadTest c ∷ []
 
--- A request on a top step alone, which is a number of the rack.
-abbrev pub onTop : (top : ℕ) → List Buffer → Request
-onTop q bs = record { card = []; rack = q ∷ []; buffers = bs; handed = nothing; moment = outside }
+unfoldable pub cardTests : List ℕ → List Test
+cardTests c = frontTests c ++ (sizeTests c ++ bodyTests c)
 
--- A request on a sitting alone.
-abbrev pub onSitting : Facts → Act → Request
-onSitting f a = record { card = []; rack = []; buffers = []; handed = nothing; moment = during f a }
+-- Marking's 11 to 13: 'sheet not m × T', 'a sheet byte from Q + 1 to 254', and too little light (02 §2).
+abbrev pub sheetTests : Instance → (sheet : List ℕ) → List Test
+sheetTests i s =
+    WrongLength when not (sheetLength i s) ∷ EntryRange when not (sheetEntries i s) ∷ LoadNotServed when not (sheetLight i s) ∷ []
 
--- What the refusals of an act look at: opening and submitting are on a card.
-unfoldable pub actRequest : Facts → Act → Request
-actRequest f (openSitting d a c p w) =
-    onCardAt c (actBuffers (openSitting d a c p w)) nothing (during f (openSitting d a c p w))
-actRequest f (seatCandidate d c) = onSitting f (seatCandidate d c)
-actRequest f (closeSitting d) = onSitting f (closeSitting d)
-actRequest f (submitSheet d c s) = onCardAt c [] (sheet s) (during f (submitSheet d c s))
-actRequest f (readLeast d) = onSitting f (readLeast d)
-actRequest f (readLowest d c) = onSitting f (readLowest d c)
-actRequest f (readUsed d) = onSitting f (readUsed d)
+-- The sheet call's 11 to 13: 'handed-in plan not T bytes', 'a count above m', 'a plan's count .. can't serve its load'.
+abbrev pub planTests : Instance → (plan : List ℕ) → List Test
+planTests i p =
+    WrongLength when not (eqb (length p) (i .slots)) ∷
+    EntryRange when not (planInRack i p) ∷
+    LoadNotServed when not (planServes i p) ∷ []
 
--- What is handed to a planner with the card: a list of allowed counts and its ratio, or nothing.
-abbrev pub handedTo : Planner → HandedIn
-handedTo exact = nothing
-handedTo coarse = nothing
-handedTo (listed l r) = countList l r
+-- The tests of a planner's list: 'A list or r against these rules gets 18, after 8 and before 10' (02 §8).
+abbrev pub listTests : Planner → Instance → List Test
+listTests exact i = []
+listTests coarse i = []
+listTests (listed l r) i = CountList when not (keepsRules l r (i .modules)) ∷ []
 
--- What the refusals of each call look at.
-unfoldable pub requestOf : Call → Request
-requestOf (checkCard c) = onCard c [] nothing
-requestOf (runningCost c n l) = onCard c [] (pair n l)
-requestOf (planShow k c p w) = onCard c (buffersOf (planShow k c p w)) (handedTo k)
-requestOf (makeSheet c p s) = onCard c (buffersOf (makeSheet c p s)) (plan p)
-requestOf (markSheet c s) = onCard c [] (sheet s)
-requestOf (roundCount n m) = onRack n m
-requestOf (practiceCard s c) = onStart s (buffersOf (practiceCard s c))
-requestOf (catalogueTable q f) = onTop q (buffersOf (catalogueTable q f))
-requestOf (explainSheet c s w) = onCard c (buffersOf (explainSheet c s w)) (sheet s)
-requestOf (actIn z xs a) = actRequest (factsOf (stateOf z xs)) a
+-- A submission's 15 to 17, which 'for hand-ins .. are tested in this order before 11 to 13'.
+abbrev pub submissionTests : Facts → (caller : ℕ) → List Test
+submissionTests f d =
+    NotPermitted when (supervisor d || not (isOpened (f .phase))) ∷
+    SeatUnavailable when noSeat f d ∷
+    AllowanceSpent when leb (f .allowance) (f .used) ∷ []
 
--- The show that a request's card says.
-abbrev pub shown : Request → Instance
-shown r = instanceOf (r .card)
+-- What an act answers and does: as a call, whether a success tells a lowest cost, and what has happened after a success and after a refusal.
+pub record ActSpec : Type 0 where
+  pub call : Spec
+  pub marked : ℕ
+  pub done : ℕ → Event
+  pub refused : Refusal → Event
 
--- A refusal applies to a request: the table's column 'when', a line a number.
-unfoldable pub applies : Request → Refusal → Bool
-applies r NotACard = ltb (length (r .card)) headLength || not (sameList (markOf (r .card)) cardMark)
-applies r Version = not (eqb (versionOf (r .card)) cardVersion)
-applies r RackSize = not (allOf rackNumber (r .rack))
-applies r SlotCount = ltb 1024 (shown r .slots)
-applies r CardLength = not (eqb (length (r .card)) (cardLength (shown r)))
-applies r PriceRange = not (pricesInRange (shown r))
-applies r NotConvex = not (convex (shown r .topStep) (shown r .table))
-applies r LoadRange = not (loadsInRange (shown r))
-applies r NotMonotone = not (neverFalls (shown r .topStep) (shown r .table))
-applies r BufferTooShort = anyShort (r .buffers)
-applies r WrongLength = not (rightLength (shown r) (r .handed))
-applies r EntryRange = not (entriesInRange (shown r) (r .handed))
-applies r LoadNotServed = not (loadsServed (shown r) (r .handed))
-applies r ZeroStart = startsAtZero (r .handed)
-applies r NotPermitted = onAct notPermitted (r .moment)
-applies r SeatUnavailable = onAct seatUnavailable (r .moment)
-applies r AllowanceSpent = onAct allowanceSpent (r .moment)
-applies r CountList = not (countsInRules (shown r) (r .handed))
+-- A success that tells no lowest cost, and a refusal that does nothing.
+abbrev pub acts : Spec → (ℕ → Event) → ActSpec
+acts s e = record { call = s; marked = 0; done = e; refused = λ x. nothingDone }
 
--- 'All calls on a card check 1 to 8.'
-abbrev pub cardRefusals : List Refusal
-cardRefusals = NotACard ∷ Version ∷ RackSize ∷ SlotCount ∷ CardLength ∷ PriceRange ∷ NotConvex ∷ LoadRange ∷ []
+-- What a call answers that is lent no buffer.
+abbrev pub told : List Test → ℕ → Spec
+told ts n = record { tests = ts; cost = n; buffers = [] }
 
--- The refusals that a planner adds to those of the card, in the order in which they are tested: 'the two planners add 10'; 'A list or r against
--- these rules gets 18, after 8 and before 10' (02 §8).
-abbrev pub plannerRefusals : Planner → List Refusal
-plannerRefusals exact = BufferTooShort ∷ []
-plannerRefusals coarse = BufferTooShort ∷ []
-plannerRefusals (listed l r) = CountList ∷ BufferTooShort ∷ []
+unfoldable pub actSpec : Facts → Act → ActSpec
+-- 'opening gives the least cost'; 15, and 17 'after 1 to 10'.
+actSpec f (openSitting d a c p w) =
+    let i = instanceOf c in
+    let areas = planBuffer exact i p ∷ workBuffer exact i w ∷ [] in
+    acts (record {
+      tests =
+          cardTests c ++
+          (BufferTooShort when anyShort areas ∷ NotPermitted when not (supervisor d) ∷ AllowanceSpent when not (allowanceInRange a) ∷ []);
+      cost = plannedCost exact i;
+      buffers = areas;
+    })
+    (openingDone a)
+actSpec f (seatCandidate d c) =
+    acts (told (NotPermitted when (not (supervisor d) || not (isOpened (f .phase))) ∷ SeatUnavailable when (eqb c 0 || (f .seated c || f .full)) ∷ []) 0)
+    (λ n. seatingDone c)
+actSpec f (closeSitting d) =
+    acts (told (NotPermitted when (not (supervisor d) || not (isOpened (f .phase))) ∷ []) 0) (λ n. closingDone)
+-- 'each answered as marking does'; 'A sheet refused by 11 to 13 uses up one hand-in too.'
+actSpec f (submitSheet d c s) =
+    record {
+      call = told (cardTests c ++ (submissionTests f d ++ sheetTests (instanceOf c) s)) (sheetCost (instanceOf c) s);
+      marked = 0;
+      done = submissionMarked d;
+      refused = submissionRefused;
+    }
+actSpec f (readLeast d) =
+    acts (told (
+    NotPermitted when (isUnopened (f .phase) || (not (supervisor d) && not (isClosed (f .phase)))) ∷
+    SeatUnavailable when (not (supervisor d) && noSeat f d) ∷ []) (f .least))
+    (λ n. nothingDone)
+-- 'none is told from a cost of 0'
+actSpec f (readLowest d c) =
+    record {
+      call = told (
+          NotPermitted when (isUnopened (f .phase) || (not (supervisor d) && not (eqb d c))) ∷
+          SeatUnavailable when noSeat f c ∷ []) (Option·getD (f .lowest c) 0);
+      marked = Option·elim (f .lowest c) 0 (λ l. 1);
+      done = λ n. nothingDone;
+      refused = λ x. nothingDone;
+    }
+actSpec f (readUsed d) =
+    acts (told (NotPermitted when (not (supervisor d) || isUnopened (f .phase)) ∷ []) (f .used)) (λ n. nothingDone)
 
--- The refusals of each act, in the order in which they are tested: opening is answered as the exact planner and then by 15 and 17 (which comes
--- 'after 1 to 10'); 'each answered as marking does', where 15, 16 and 17 'for hand-ins .. are tested in this order before 11 to 13'.
-unfoldable pub actRefusals : Act → List Refusal
-actRefusals (openSitting d a c p w) = cardRefusals ++ (BufferTooShort ∷ NotPermitted ∷ AllowanceSpent ∷ [])
-actRefusals (seatCandidate d c) = NotPermitted ∷ SeatUnavailable ∷ []
-actRefusals (closeSitting d) = NotPermitted ∷ []
-actRefusals (submitSheet d c s) =
-    cardRefusals ++ (NotPermitted ∷ SeatUnavailable ∷ AllowanceSpent ∷ WrongLength ∷ EntryRange ∷ LoadNotServed ∷ [])
-actRefusals (readLeast d) = NotPermitted ∷ SeatUnavailable ∷ []
-actRefusals (readLowest d c) = NotPermitted ∷ SeatUnavailable ∷ []
-actRefusals (readUsed d) = NotPermitted ∷ []
+-- What each call answers.
+unfoldable pub specOf : Call → Spec
+specOf (checkCard c) = told (cardTests c) 0
+-- 'Running cost (card, count, load) adds 12 and 13'.
+specOf (runningCost c n l) =
+    let i = instanceOf c in
+    told (cardTests c ++ (EntryRange when not (leb n (i .modules)) ∷ LoadNotServed when not (canServe i n l) ∷ [])) (operatingCost i n l)
+-- 'the two planners add 10', and one with a list 18 before it.
+specOf (planShow k c p w) =
+    let i = instanceOf c in
+    let areas = planBuffer k i p ∷ workBuffer k i w ∷ [] in
+    record {
+      tests = cardTests c ++ (listTests k i ++ (BufferTooShort when anyShort areas ∷ []));
+      cost = plannedCost k i;
+      buffers = areas;
+    }
+-- 'the sheet adds 10 to 13'.
+specOf (makeSheet c p s) =
+    let i = instanceOf c in
+    let areas = sheetBuffer i p s ∷ [] in
+    record { tests = cardTests c ++ (BufferTooShort when anyShort areas ∷ planTests i p); cost = planCost i p; buffers = areas }
+-- 'marking adds 11 to 13'.
+specOf (markSheet c s) = told (cardTests c ++ sheetTests (instanceOf c) s) (sheetCost (instanceOf c) s)
+-- 'The rounded count takes n and m only: 3 for m, 12 for n above m.'
+specOf (roundCount n m) = told (RackSize when not (rackNumber m) ∷ EntryRange when not (leb n m) ∷ []) (roundedCount m n)
+-- 'Start 0 .. gets 14, before 10' (02 §1).
+specOf (practiceCard s c) =
+    let areas = cardBuffer (practiceShow s) c ∷ [] in
+    record { tests = ZeroStart when eqb s 0 ∷ BufferTooShort when anyShort areas ∷ []; cost = 0; buffers = areas }
+-- 'Q outside 1 to 200 gets 3, a short area 10' (02 §5).
+specOf (catalogueTable q f) =
+    let areas = tableBuffer q f ∷ [] in
+    record { tests = RackSize when not (rackNumber q) ∷ BufferTooShort when anyShort areas ∷ []; cost = 0; buffers = areas }
+-- 'The call takes the exact planner's work area; one too short gets 10' (02 §7), then marking's.
+specOf (explainSheet c s w) =
+    let areas = workBuffer exact (instanceOf c) w ∷ [] in
+    record { tests = cardTests c ++ (BufferTooShort when anyShort areas ∷ sheetTests (instanceOf c) s); cost = 0; buffers = areas }
+specOf (actIn z xs a) = actSpec (factsOf (stateOf z xs)) a .call
 
--- The refusals of each call, in the order in which they are tested: 'Running cost adds 12 and 13; the sheet adds 10 to 13; marking adds 11
--- to 13'; 'the coarse planner takes every accepted table and 9 is never given' (02 §2); a practice card '14, before 10' (02 §1);
--- of the catalogue module's table 'Q outside 1 to 200 gets 3, a short area 10' (02 §5); the explanation of a sheet adds marking's 11 to 13, and
--- 'takes the exact planner's work area; one too short gets 10' (02 §7).
-unfoldable pub refusals : Call → List Refusal
-refusals (checkCard c) = cardRefusals
-refusals (runningCost c n l) = cardRefusals ++ (EntryRange ∷ LoadNotServed ∷ [])
-refusals (planShow k c p w) = cardRefusals ++ plannerRefusals k
-refusals (makeSheet c p s) = cardRefusals ++ (BufferTooShort ∷ WrongLength ∷ EntryRange ∷ LoadNotServed ∷ [])
-refusals (markSheet c s) = cardRefusals ++ (WrongLength ∷ EntryRange ∷ LoadNotServed ∷ [])
-refusals (roundCount n m) = RackSize ∷ EntryRange ∷ []
-refusals (practiceCard s c) = ZeroStart ∷ BufferTooShort ∷ []
-refusals (catalogueTable q f) = RackSize ∷ BufferTooShort ∷ []
-refusals (explainSheet c s w) = cardRefusals ++ (BufferTooShort ∷ WrongLength ∷ EntryRange ∷ LoadNotServed ∷ [])
-refusals (actIn z xs a) = actRefusals a
+-- The first refusal that applies, or else the cost. In an ascending list it is the lowest one: 'Of several, the lowest number is given.'
+unfoldable pub firstOf : List Test → Answer → Answer
+firstOf [] success = success
+firstOf (t ∷ ts) success = cond (t .applies) (Refused (t .refusal)) (firstOf ts success)
 
--- A submission has an order of its own: 17 stands before 11.
-unfoldable pub actOwnOrder : Act → Bool
-actOwnOrder (openSitting d a c p w) = false
-actOwnOrder (seatCandidate d c) = false
-actOwnOrder (closeSitting d) = false
-actOwnOrder (submitSheet d c s) = true
-actOwnOrder (readLeast d) = false
-actOwnOrder (readLowest d c) = false
-actOwnOrder (readUsed d) = false
+-- The answer of a specification, and of a call.
+unfoldable pub answerOf : Spec → Answer
+answerOf s = firstOf (s .tests) (Cost (s .cost))
 
--- A planner with a list has an order of its own: 18 stands before 10.
-abbrev pub plannerOwnOrder : Planner → Bool
-plannerOwnOrder exact = false
-plannerOwnOrder coarse = false
-plannerOwnOrder (listed l r) = true
-
--- The calls for which a paragraph of document 02 sets an order among refusals that is not that of their numbers: 'that order holds
--- instead of the lowest number, in condition 1 too' (02 §1). The list of every other call ascends.
-unfoldable pub ownOrder : Call → Bool
-ownOrder (checkCard c) = false
-ownOrder (runningCost c n l) = false
-ownOrder (planShow k c p w) = plannerOwnOrder k
-ownOrder (makeSheet c p s) = false
-ownOrder (markSheet c s) = false
-ownOrder (roundCount n m) = false
-ownOrder (practiceCard s c) = true
-ownOrder (catalogueTable q f) = false
-ownOrder (explainSheet c s w) = false
-ownOrder (actIn z xs a) = actOwnOrder a
-
--- The first refusal of a list that applies, or else the given answer. In an ascending list it is the lowest one: 'Of several, the lowest
--- number is given.'
-unfoldable pub firstRefusal : (Refusal → Bool) → List Refusal → Answer → Answer
-firstRefusal test [] success = success
-firstRefusal test (x ∷ xs) success = cond (test x) (Refused x) (firstRefusal test xs success)
-
--- The cost that an act gives with a success: 'opening gives the least cost', a submission is 'answered as marking does', and what is read;
--- where there is no lowest cost, the cost is 0.
-unfoldable pub actCost : Facts → Act → ℕ
-actCost f (openSitting d a c p w) = plannedCost exact (instanceOf c)
-actCost f (seatCandidate d c) = 0
-actCost f (closeSitting d) = 0
-actCost f (submitSheet d c s) = sheetCost (instanceOf c) s
-actCost f (readLeast d) = f .least
-actCost f (readLowest d c) = Option·getD (f .lowest c) 0
-actCost f (readUsed d) = f .used
-
--- The cost that a success gives: 'the plan's from a planner or the sheet call, the sheet's from marking, the pair's from running cost.
--- The rounded count gives its count in that place; a call without a cost gives 0.'
-unfoldable pub successCost : Call → ℕ
-successCost (checkCard c) = 0
-successCost (runningCost c n l) = operatingCost (instanceOf c) n l
-successCost (planShow k c p w) = plannedCost k (instanceOf c)
-successCost (makeSheet c p s) = planCost (instanceOf c) p
-successCost (markSheet c s) = sheetCost (instanceOf c) s
-successCost (roundCount n m) = roundedCount m n
-successCost (practiceCard s c) = 0
-successCost (catalogueTable q f) = 0
-successCost (explainSheet c s w) = 0
-successCost (actIn z xs a) = actCost (factsOf (stateOf z xs)) a
-
--- The answer of a call.
 unfoldable pub answer : Call → Answer
-answer c = firstRefusal (applies (requestOf c)) (refusals c) (Cost (successCost c))
+answer c = answerOf (specOf c)
+
+abbrev pub buffersOf : Call → List Buffer
+buffersOf c = specOf c .buffers
 
 -- 'A show is accepted if none of refusals 1 to 8 applies to its card.'
 abbrev pub Accepted : List ℕ → Type 0

@@ -7,9 +7,8 @@ use lib.ListN.{length, take, replicate}
 use native.Mathlib.Omega.{arith}
 use Rattle.model.specs.Counts.{allCounts, coarseCounts}
 use Rattle.model.specs.Instance.{instanceOf}
-use Rattle.model.specs.Planners.{exact, coarse, listed, ratioOf}
-use Rattle.model.specs.HandedIn.{countsInRules}
-use Rattle.model.specs.Calls.{planShow, planAtExit, workAtExit, handedTo}
+use Rattle.model.specs.Planners.{exact, coarse, listed, keepsList, ratioOf}
+use Rattle.model.specs.Calls.{planShow, planAtExit, workAtExit}
 use Rattle.model.specs.Examples.{cardOf, cardE, cardG, cardI, cardUp, sevens, over, Example, row, one, numbers, costs}
 use Rattle.model.specs.Examples.{agrees, AllHold, NoneHold}
 
@@ -47,8 +46,8 @@ listRows =
     plans "E with a gap of just twice the gap before it" cardE (0 ∷ 2 ∷ 6 ∷ 8 ∷ []) 2 6 (6 ∷ 6 ∷ 6 ∷ []) ∷
     plans "E with the first entry just the ratio" cardE (0 ∷ 3 ∷ 6 ∷ 8 ∷ []) 3 6 (6 ∷ 6 ∷ 6 ∷ []) ∷
     plans "E with ratio 3 and a gap of three times the gap before it" cardE (0 ∷ 1 ∷ 4 ∷ 8 ∷ []) 3 8 (8 ∷ 8 ∷ 8 ∷ []) ∷
-    one "the exact planner has no list to be judged" (cond (countsInRules (instanceOf cardE) (handedTo exact)) 1 0 ∷ []) (1 ∷ []) ∷
-    one "the coarse planner has no list to be judged" (cond (countsInRules (instanceOf cardE) (handedTo coarse)) 1 0 ∷ []) (1 ∷ []) ∷
+    one "the exact planner has no list to be judged" (cond (keepsList exact (instanceOf cardE)) 1 0 ∷ []) (1 ∷ []) ∷
+    one "the coarse planner has no list to be judged" (cond (keepsList coarse (instanceOf cardE)) 1 0 ∷ []) (1 ∷ []) ∷
     one "the ratio of a list is the one handed in" (ratioOf (listed listE 2) ∷ []) (2 ∷ []) ∷
     plans "E with all counts and ratio 1, as the exact planner" cardE (allCounts 8) 1 5 (5 ∷ 5 ∷ 5 ∷ []) ∷
     plans "E with the powers of two and ratio 2, as the coarse planner" cardE (coarseCounts 8) 2 8 (8 ∷ 8 ∷ 8 ∷ []) ∷

@@ -22,16 +22,15 @@ use Rattle.model.specs.Counts.{canServe, operatingCost, allCounts, power
 use Rattle.model.specs.Counts.{Case, _to_, roundedByCases}
 use Rattle.model.specs.Sheets.{stateAt, sheetLength, sheetEntries, lightAt, sheetLight, stepCost, changeCost}
 use Rattle.model.specs.Sheets.{sheetOperatingCost, sheetSwitchingCost, sheetCost}
-use Rattle.model.specs.Plans.{moduleByte, slotRow, sheetOf, planCost, planServes, plansInOrder, cheapest, cheapestOf, leastPlan}
+use Rattle.model.specs.Plans.{moduleByte, slotRow, sheetOf, planCost, planInRack, planServes, plansInOrder, cheapest, cheapestOf, leastPlan}
 use Rattle.model.specs.Planners.{exact, coarse, allowedCounts, workBytes, plannedBy}
 use Rattle.model.specs.Listing.{digits, decimal, costLine, planLine, stepText, slotLine, listing, refusedLine, printedFor, printed}
 use Rattle.model.specs.Listing.{catalogueLines}
 use Rattle.model.specs.Practice.{xorLeft, xorRight, draw, drawn, practiceDifference, practiceEntry, practiceShow, longestPractice}
 use Rattle.model.specs.Catalogue.{catalogueEntry, followsRule, catalogueBytes}
 use Rattle.model.specs.Calls.{Call, checkCard, runningCost, planShow, makeSheet, markSheet, roundCount, practiceCard}
-use Rattle.model.specs.HandedIn.{rightLength, entriesInRange, loadsServed, startsAtZero}
-use Rattle.model.specs.Calls.{buffersOf, anyShort, requestOf, applies, refusals, firstRefusal}
-use Rattle.model.specs.Calls.{successCost, answer, atExit, buffersAtExit, planAtExit, workAtExit, cardAtExit, tableAtExit, outcome}
+use Rattle.model.specs.Calls.{anyShort, cardTests, specOf, firstOf, answerOf}
+use Rattle.model.specs.Calls.{answer, atExit, buffersAtExit, planAtExit, workAtExit, cardAtExit, tableAtExit, outcome}
 
 -- A show: modules, top step, prices, table, loads.
 abbrev pub showOf : (m q up down : ℕ) → (table loads : List ℕ) → Instance
@@ -284,10 +283,10 @@ unfolding sameLists sameList every allOf sum tabulate rows keep littleEndian byt
     neverFalls tableInRange pricesInRange loadsInRange canServe operatingCost allCounts powerOfTwo coarseCounts roundedCount
     printedCases caseValue roundedByCases stateAt
     sheetLength sheetEntries lightAt sheetLight stepCost changeCost sheetOperatingCost sheetSwitchingCost sheetCost leastOver firstOver
-    leastFrom activeStep moduleByte slotRow sheetOf planCost planServes plansInOrder cheapest cheapestOf leastPlan allowedCounts
-    workBytes plannedBy xorLeft xorRight draw drawn practiceDifference practiceEntry practiceShow rightLength entriesInRange loadsServed
-    startsAtZero strictlyAscends gapsGrowBy keepsRules buffersOf anyShort requestOf applies refusals firstRefusal
-    successCost answer atExit buffersAtExit planAtExit workAtExit cardAtExit tableAtExit outcome flatMap headD
+    leastFrom activeStep moduleByte slotRow sheetOf planCost planInRack planServes plansInOrder cheapest cheapestOf leastPlan allowedCounts
+    workBytes plannedBy xorLeft xorRight draw drawn practiceDifference practiceEntry practiceShow strictlyAscends
+    gapsGrowBy keepsRules anyShort cardTests specOf firstOf answerOf answer atExit buffersAtExit planAtExit workAtExit cardAtExit tableAtExit
+    outcome flatMap headD
     digits decimal costLine planLine stepText slotLine listing refusedLine printedFor printed catalogueEntry followsRule catalogueBytes catalogueLines
 agrees e = sameLists (e .found) (e .expected)
 

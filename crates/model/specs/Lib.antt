@@ -14,7 +14,6 @@ pub mod Practice
 pub mod Catalogue
 pub mod Acts
 pub mod SittingState
-pub mod HandedIn
 pub mod Calls
 pub mod ExplainedPoints
 pub mod Sittings

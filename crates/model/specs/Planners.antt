@@ -1,9 +1,11 @@
 -- The planners as data: what they differ in stands in tables (document 01, 'The plans'; 02 §8).
 use Prim.Native.Nat.{ℕ, _+_, _*_}
+use mathlib.Core.Bool.{Bool, true}
 use mathlib.Core.List.{List}
 use lib.ListN.{length}
 use Rattle.model.specs.Instance.{Instance}
 use Rattle.model.specs.Counts.{allCounts, coarseCounts}
+use Rattle.model.specs.CountRules.{keepsRules}
 use Rattle.model.specs.Plans.{leastPlan, leastCost}
 
 -- The planners: the exact and the coarse one, and one over a list of counts that is handed in with a ratio (02 §8: 'A rack that switches in
@@ -25,6 +27,12 @@ unfoldable pub workBytes : Planner → Instance → ℕ
 workBytes exact i = (i .modules + 1) * i .slots
 workBytes coarse i = 10 * i .slots
 workBytes (listed l r) i = length l * i .slots
+
+-- A planner's list and ratio keep the rules (02 §8); the exact and the coarse planner have none to be judged.
+abbrev pub keepsList : Planner → Instance → Bool
+keepsList exact i = true
+keepsList coarse i = true
+keepsList (listed l r) i = keepsRules l r (i .modules)
 
 -- How many times the least cost of a sheet a planner's cost may be (document 00, condition 3): the exact planner's is the least, the
 -- coarse one's 'at most twice the least', that of a list with the ratio r 'at most r times the least over all sheets'.

@@ -4,7 +4,7 @@ use mathlib.Core.Path.{_≡_}
 use mathlib.Core.Bool.{Bool, true, cond}
 use mathlib.Core.List.{List, [], _∷_, _++_, map, flatMap}
 use lib.ListN.{length, getD}
-use lib.Dec.{ltb}
+use lib.Dec.{leb, ltb}
 use Rattle.lists.specs.Tests.{every}
 use Rattle.lists.specs.Lists.{tabulate, rows, keep}
 use Rattle.model.specs.Instance.{Instance}
@@ -32,6 +32,10 @@ sheetOf i p = rows (i .slots) (λ t. slotRow i (getD p t 0) (i .load t))
 -- 'A plan costs what its sheet costs.'
 unfoldable pub planCost : Instance → List ℕ → ℕ
 planCost i p = sheetCost i (sheetOf i p)
+
+-- No count of a plan is above the modules of the rack.
+unfoldable pub planInRack : Instance → List ℕ → Bool
+planInRack i p = every (i .slots) (λ t. leb (getD p t 0) (i .modules))
 
 -- Each count of a plan can serve its slot's load.
 unfoldable pub planServes : Instance → List ℕ → Bool

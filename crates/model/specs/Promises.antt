@@ -4,27 +4,24 @@
 -- and of the explanation of a sheet what §7 says of its three numbers.
 use Prim.Native.Nat.{ℕ, _+_, _*_, _≤_, _<_}
 use mathlib.Core.Path.{_≡_}
-use mathlib.Core.Bool.{true, false}
+use mathlib.Core.Bool.{true}
 use mathlib.Core.List.{List, [], _∷_, _++_}
 use mathlib.Core.Logic.{_↔_}
 use lib.ListN.{length, getD, take}
-use Rattle.model.specs.declared.Refusal.{Refusal}
-use Rattle.model.specs.declared.Refusal.the-variants.{NotACard, Version, RackSize, SlotCount, CardLength, NotConvex, LoadRange}
 use Rattle.model.specs.declared.Answer.the-variants.{Cost}
 use Rattle.model.specs.declared.Sitting.{Sitting}
 use Rattle.model.specs.declared.Reply.{Reply}
 use Rattle.model.specs.declared.Points.{Points}
 use Rattle.model.specs.Answers.{numberOf, costOf}
-use Rattle.model.specs.Instance.{Instance, instanceOf, headLength, cardLength, tableSize, tableOf, tableInRange, neverFalls, priceBound}
+use Rattle.model.specs.Instance.{Instance, instanceOf, headLength, cardLength, tableSize, tableOf, tableInRange, convex, neverFalls, priceBound}
 use Rattle.model.specs.Sheets.{serves, sheetOperatingCost, sheetSwitchingCost, sheetCost, countsOf}
 use Rattle.model.specs.Plans.{Member, sheetOf, planCost}
-use Rattle.model.specs.Planners.{Planner, exact, workBytes, plannedCost}
+use Rattle.model.specs.Planners.{Planner, exact, workBytes, keepsList, plannedCost}
 use Rattle.model.specs.Explanation.{countsOperatingCost, countsSwitchingCost, NoBetterSpread, NoBetterChoice, NoBetterOrder}
 use Rattle.model.specs.Explanation.{NoBetterPlan, NoBetterSheet}
 use Rattle.model.specs.Practice.{longestPractice}
 use Rattle.model.specs.Catalogue.{catalogueEntry}
-use Rattle.model.specs.HandedIn.{countsInRules}
-use Rattle.model.specs.Calls.{answer, Accepted, checkCard, planShow, markSheet, sheetBytes, handedTo, requestOf, applies, firstRefusal}
+use Rattle.model.specs.Calls.{answer, Accepted, planShow, markSheet, sheetBytes, frontTests, sizeTests, loadTest, firstOf}
 
 -- The sheet that the first T bytes of a plan buffer make.
 abbrev pub madeSheet : List ℕ → List ℕ → List ℕ
@@ -70,7 +67,7 @@ frontCard area = take (cardLength (instanceOf area)) area
 
 -- A planner's list of counts and its ratio keep the rules for a show's rack (02 §8). The exact and the coarse planner have no list to be judged.
 abbrev pub KeepsRules : Planner → Instance → Type 0
-KeepsRules k i = countsInRules i (handedTo k) ≡ true
+KeepsRules k i = keepsList k i ≡ true
 
 -- Something holds with every plan and work buffer that is long enough for a planner and a card.
 abbrev pub WithRoom : Planner → (card : List ℕ) → ((plan work : List ℕ) → Type 0) → Type 0
@@ -99,13 +96,9 @@ pub record HiddenTillClosed (sitting : Sitting) (caller : ℕ) (reply : Reply) :
   pub no-cost : (sitting .state ≡ 2 → ⊥) → (caller ≡ 0 → ⊥) → reply .cost ≡ 0
   pub none-marked : (sitting .state ≡ 2 → ⊥) → (caller ≡ 0 → ⊥) → reply .marked ≡ 0
 
--- Refusals 1 to 5 and 8, which look at no entry of a card's table.
-abbrev pub otherRefusals : List Refusal
-otherRefusals = NotACard ∷ Version ∷ RackSize ∷ SlotCount ∷ CardLength ∷ LoadRange ∷ []
-
 -- The fields of a card other than its table are in order: none of refusals 1 to 5 and 8 applies, and the two prices keep their bound.
 pub record OthersInOrder (card : List ℕ) : Type 0 where
-  pub others : firstRefusal (applies (requestOf (checkCard card))) otherRefusals (Cost 0) ≡ Cost 0
+  pub others : firstOf (frontTests card ++ (sizeTests card ++ (loadTest card ∷ []))) (Cost 0) ≡ Cost 0
   pub power-up : instanceOf card .powerUp ≤ priceBound
   pub power-down : instanceOf card .powerDown ≤ priceBound
 
@@ -114,7 +107,7 @@ pub record OthersInOrder (card : List ℕ) : Type 0 where
 pub record HasCatalogueTable (card : List ℕ) : Type 0 where
   pub entries : (k : ℕ) → k ≤ instanceOf card .topStep → instanceOf card .table k ≡ catalogueEntry k
   pub in-range : tableInRange (instanceOf card .topStep) (instanceOf card .table) ≡ true
-  pub convexity : applies (requestOf (checkCard card)) NotConvex ≡ false
+  pub convexity : convex (instanceOf card .topStep) (instanceOf card .table) ≡ true
   pub never-falls : neverFalls (instanceOf card .topStep) (instanceOf card .table) ≡ true
   pub accepted : OthersInOrder card ↔ Accepted card
 

@@ -10,12 +10,11 @@ use Rattle.lists.specs.FirstPlace.{occurs, countOf, firstPlace, changeFirst}
 use Rattle.model.specs.declared.Seat.{Seat}
 use Rattle.model.specs.declared.Sitting.{Sitting}
 use Rattle.model.specs.Acts.{Act, openSitting, seatCandidate, closeSitting, submitSheet, readLeast, readLowest, readUsed}
-use Rattle.model.specs.Acts.{isUnopened, isOpened, isClosed, notPermitted, seatUnavailable, allowanceSpent}
-use Rattle.model.specs.Acts.{submissionRefused, actDone, actRefused, eventOf}
+use Rattle.model.specs.Acts.{isUnopened, isOpened, isClosed, submissionRefused}
 use Rattle.model.specs.SittingState.{lowerOf, phaseOf, lowestOf, sittingAfter, seatsAfter}
-use Rattle.model.specs.Calls.{actIn, onAct, actBuffers, actRequest, actRefusals, actCost, outcome}
-use Rattle.model.specs.Sittings.{answerTo, markedBy, markedWith, Told, told, toldBy, replyWith, replyOf, seatsAtExit, toldInTurn}
-use Rattle.model.specs.Sittings.{isOpening, isClosing, isSubmission, seatedBy, costsOf, allowanceOf, leastOf, sinceOpening, smallestOf, lowestAmong}
+use Rattle.model.specs.Calls.{actIn, actSpec, cardTests, firstOf, answerOf, outcome}
+use Rattle.model.specs.Sittings.{answerTo, markedWith, eventWith, eventOf, Told, told, toldBy, replyWith, replyOf, seatsAtExit, toldInTurn}
+use Rattle.model.specs.Sittings.{effectOf, sinceOpening, smallestOf, lowestAmong}
 use Rattle.model.specs.Sittings.{phaseIn, toldFrom}
 use Rattle.model.specs.Examples.{cardA, cardE, cardG, cardI, sheetD, sevens, over, Example, agrees, AllHold, NoneHold}
 
@@ -56,8 +55,8 @@ shownAs number cost marked z xs = (number ∷ cost ∷ marked ∷ []) ∷ sittin
 
 -- What an act leaves, computed through every definition.
 actShown : Sitting → List Seat → Act → List (List ℕ)
-unfolding occurs firstPlace changeFirst isUnopened isOpened isClosed notPermitted seatUnavailable allowanceSpent submissionRefused actDone actRefused
-    eventOf lowerOf phaseOf lowestOf sittingAfter seatsAfter onAct actBuffers actRequest actRefusals actCost answerTo markedBy markedWith told
+unfolding occurs firstPlace changeFirst isUnopened isOpened isClosed submissionRefused eventWith eventOf lowerOf phaseOf lowestOf
+    sittingAfter seatsAfter actSpec cardTests firstOf answerOf answerTo markedWith told
     toldBy replyWith replyOf seatsAtExit Option·elim agrees
 actShown z xs a =
     let r = replyOf z xs a in shownAs (r .number) (r .cost) (r .marked) (r .sitting) (seatsAtExit z xs a)
@@ -183,7 +182,7 @@ unfolding actShown toldInTurn
 inTurnShown z xs acts = map toldNumbers (toldInTurn z xs acts)
 
 historyShown : ℕ → List Act → List (List ℕ)
-unfolding actShown isOpening isClosing isSubmission seatedBy costsOf allowanceOf leastOf sinceOpening smallestOf lowestAmong phaseIn countOf toldFrom
+unfolding actShown effectOf sinceOpening smallestOf lowestAmong phaseIn countOf toldFrom
 historyShown seats acts = map toldNumbers (toldFrom seats [] acts)
 
 -- A sitting with an allowance of four on a list of two seats, and a second one with an allowance of one.

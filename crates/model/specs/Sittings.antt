@@ -4,11 +4,12 @@ use Prim.Native.Nat.{ℕ, min}
 use mathlib.Core.Path.{_≡_}
 use mathlib.Core.Bool.{Bool, true, false, cond}
 use mathlib.Core.List.{List, [], _∷_, headD, flatMap}
-use mathlib.Core.Option.{Option, none, some, Option·elim}
+use mathlib.Core.Option.{Option, none, some}
 use lib.ListN.{length}
 use lib.Dec.{leb, eqb}
 use Rattle.lists.specs.Lists.{keep}
 use Rattle.lists.specs.FirstPlace.{occurs, countOf}
+use Rattle.model.specs.declared.Refusal.{Refusal}
 use Rattle.model.specs.declared.Answer.{Answer}
 use Rattle.model.specs.declared.Answer.the-variants.{Cost, Refused}
 use Rattle.model.specs.declared.Seat.{Seat}
@@ -16,29 +17,27 @@ use Rattle.model.specs.declared.Sitting.{Sitting}
 use Rattle.model.specs.declared.Reply.{Reply}
 use Rattle.model.specs.Answers.{numberOf, costOf}
 use Rattle.model.specs.Acts.{Act, openSitting, seatCandidate, closeSitting, submitSheet, readLeast, readLowest, readUsed}
-use Rattle.model.specs.Acts.{Phase, unopened, opened, closed, Facts, eventOf}
+use Rattle.model.specs.Acts.{Phase, unopened, opened, closed, Facts}
 use Rattle.model.specs.Acts.{Event, nothingDone, openingDone, seatingDone, closingDone, submissionCounted, submissionMarked}
 use Rattle.model.specs.SittingState.{State, factsOf, after, phaseOf, stateOf, sittingAfter, seatsAfter}
-use Rattle.model.specs.Calls.{applies, actRequest, actRefusals, actCost, firstRefusal}
+use Rattle.model.specs.Calls.{ActSpec, actSpec, answerOf}
 
 -- The answer that the facts of a sitting give to an act.
 unfoldable pub answerTo : Facts → Act → Answer
-answerTo f a = firstRefusal (applies (actRequest f a)) (actRefusals a) (Cost (actCost f a))
+answerTo f a = answerOf (actSpec f a .call)
 
--- Whether a success tells a lowest cost: '(none is told from a cost of 0)'. It is 1 where a lowest cost is read and there is one, else 0.
-unfoldable pub markedBy : Facts → Act → ℕ
-markedBy f (openSitting d a c p w) = 0
-markedBy f (seatCandidate d c) = 0
-markedBy f (closeSitting d) = 0
-markedBy f (submitSheet d c s) = 0
-markedBy f (readLeast d) = 0
-markedBy f (readLowest d c) = Option·elim (f .lowest c) 0 (λ l. 1)
-markedBy f (readUsed d) = 0
+-- Whether the answer tells a lowest cost: '(none is told from a cost of 0)'. A refusal tells none.
+unfoldable pub markedWith : ActSpec → Answer → ℕ
+markedWith s (Cost n) = s .marked
+markedWith s (Refused x) = 0
 
--- The same for any answer: a refusal tells none.
-unfoldable pub markedWith : Facts → Act → Answer → ℕ
-markedWith f a (Cost n) = markedBy f a
-markedWith f a (Refused x) = 0
+-- What has happened once an act has been answered.
+unfoldable pub eventWith : (done : ℕ → Event) (refused : Refusal → Event) → Answer → Event
+eventWith done refused (Cost n) = done n
+eventWith done refused (Refused x) = refused x
+
+unfoldable pub eventOf : Facts → Act → Event
+eventOf f a = eventWith (actSpec f a .done) (actSpec f a .refused) (answerTo f a)
 
 -- What the caller of an act is told: the number and the cost, and whether the cost is a lowest cost.
 pub record Told : Type 0 where
@@ -52,19 +51,19 @@ told f a =
     record {
       number = numberOf (answerTo f a);
       cost = costOf (answerTo f a);
-      marked = markedWith f a (answerTo f a);
+      marked = markedWith (actSpec f a) (answerTo f a);
     }
 
 -- The transition: what an act makes of the state, and what it is told there.
 unfoldable pub next : State → Act → State
-next s a = after (eventOf a (answerTo (factsOf s) a)) s
+next s a = after (eventOf (factsOf s) a) s
 
 unfoldable pub toldBy : State → Act → Told
 toldBy s a = told (factsOf s) a
 
 -- What has happened by an act that is handed a sitting and a list of seats.
 abbrev pub eventIn : Sitting → List Seat → Act → Event
-eventIn z xs a = eventOf a (answerTo (factsOf (stateOf z xs)) a)
+eventIn z xs a = eventOf (factsOf (stateOf z xs)) a
 
 -- The reply of a call: what the caller is told, and the sitting, 'a value that each act gives back'.
 unfoldable pub replyWith : Told → Sitting → Reply
@@ -111,65 +110,44 @@ unfoldable pub EachAct : (Act → Type 0) → List Act → Type 0
 EachAct P [] = Unit {0}
 EachAct P (a ∷ more) = P a × EachAct P more
 
--- Events by kind.
-unfoldable pub isOpening : Event → Bool
-isOpening nothingDone = false
-isOpening (openingDone a n) = true
-isOpening (seatingDone c) = false
-isOpening closingDone = false
-isOpening submissionCounted = false
-isOpening (submissionMarked c n) = false
+-- What an event is to the history: whether it opens or closes the sitting or counts as a submission, the candidates that it seats and the costs
+-- with which it marks a candidate's sheet, each one or none, and the allowance and the least cost of an opening.
+pub record Effect : Type 0 where
+  pub opening : Bool
+  pub closing : Bool
+  pub submission : Bool
+  pub seats : List ℕ
+  pub costs : ℕ → List ℕ
+  pub allowance : ℕ
+  pub least : ℕ
 
-unfoldable pub isClosing : Event → Bool
-isClosing nothingDone = false
-isClosing (openingDone a n) = false
-isClosing (seatingDone c) = false
-isClosing closingDone = true
-isClosing submissionCounted = false
-isClosing (submissionMarked c n) = false
+-- The effect of an event that is no opening.
+abbrev pub other : (closing submission : Bool) → (seats : List ℕ) → (costs : ℕ → List ℕ) → Effect
+other q k xs ns = record { opening = false; closing = q; submission = k; seats = xs; costs = ns; allowance = 0; least = 0 }
 
-unfoldable pub isSubmission : Event → Bool
-isSubmission nothingDone = false
-isSubmission (openingDone a n) = false
-isSubmission (seatingDone c) = false
-isSubmission closingDone = false
-isSubmission submissionCounted = true
-isSubmission (submissionMarked c n) = true
+unfoldable pub effectOf : Event → Effect
+effectOf nothingDone = other false false [] (λ c. [])
+effectOf (openingDone a n) =
+    record { opening = true; closing = false; submission = false; seats = []; costs = λ c. []; allowance = a; least = n }
+effectOf (seatingDone d) = other false false (d ∷ []) (λ c. [])
+effectOf closingDone = other true false [] (λ c. [])
+effectOf submissionCounted = other false true [] (λ c. [])
+effectOf (submissionMarked d n) = other false true [] (λ c. cond (eqb d c) (n ∷ []) [])
 
--- The candidates that an event seats: one or none.
-unfoldable pub seatedBy : Event → List ℕ
-seatedBy nothingDone = []
-seatedBy (openingDone a n) = []
-seatedBy (seatingDone c) = c ∷ []
-seatedBy closingDone = []
-seatedBy submissionCounted = []
-seatedBy (submissionMarked d n) = []
+abbrev pub isOpening : Event → Bool
+isOpening e = effectOf e .opening
 
--- The costs with which an event marks a candidate's sheet: one or none.
-unfoldable pub costsOf : ℕ → Event → List ℕ
-costsOf c nothingDone = []
-costsOf c (openingDone a n) = []
-costsOf c (seatingDone d) = []
-costsOf c closingDone = []
-costsOf c submissionCounted = []
-costsOf c (submissionMarked d n) = cond (eqb d c) (n ∷ []) []
+abbrev pub isClosing : Event → Bool
+isClosing e = effectOf e .closing
 
--- The allowance and the least cost of an opening.
-unfoldable pub allowanceOf : Event → ℕ
-allowanceOf nothingDone = 0
-allowanceOf (openingDone a n) = a
-allowanceOf (seatingDone d) = 0
-allowanceOf closingDone = 0
-allowanceOf submissionCounted = 0
-allowanceOf (submissionMarked d n) = 0
+abbrev pub isSubmission : Event → Bool
+isSubmission e = effectOf e .submission
 
-unfoldable pub leastOf : Event → ℕ
-leastOf nothingDone = 0
-leastOf (openingDone a n) = n
-leastOf (seatingDone d) = 0
-leastOf closingDone = 0
-leastOf submissionCounted = 0
-leastOf (submissionMarked d n) = 0
+abbrev pub seatedBy : Event → List ℕ
+seatedBy e = effectOf e .seats
+
+abbrev pub costsOf : ℕ → Event → List ℕ
+costsOf c e = effectOf e .costs c
 
 -- A history is the list of events so far, the last one first. What has happened since the last accepted opening: the sitting 'lasts until the
 -- next accepted opening'.
@@ -201,9 +179,9 @@ abbrev pub factsIn : (seats : ℕ) → List Event → Facts
 factsIn seats h =
     record {
       phase = phaseIn h;
-      allowance = allowanceOf (lastOpening h);
+      allowance = effectOf (lastOpening h) .allowance;
       used = countOf isSubmission (sinceOpening h);
-      least = leastOf (lastOpening h);
+      least = effectOf (lastOpening h) .least;
       seated = λ c. occurs (λ d. eqb d c) (flatMap seatedBy (sinceOpening h));
       full = leb seats (length (flatMap seatedBy (sinceOpening h)));
       lowest = λ c. lowestAmong (flatMap (costsOf c) (sinceOpening h));
@@ -213,4 +191,4 @@ factsIn seats h =
 unfoldable pub toldFrom : (seats : ℕ) → List Event → List Act → List Told
 toldFrom seats h [] = []
 toldFrom seats h (a ∷ more) =
-    told (factsIn seats h) a ∷ toldFrom seats (eventOf a (answerTo (factsIn seats h) a) ∷ h) more
+    told (factsIn seats h) a ∷ toldFrom seats (eventOf (factsIn seats h) a ∷ h) more

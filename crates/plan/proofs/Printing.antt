@@ -12,8 +12,8 @@ use Rattle.model.specs.Instance.{Instance, instanceOf}
 use Rattle.model.specs.Plans.{sheetOf}
 use Rattle.model.specs.Planners.{exact, workBytes, plannedBy}
 use Rattle.model.specs.Listing.{listing, refusedLine, exactListing, printed, printedFor}
-use Rattle.model.specs.Calls.{planShow, makeSheet, answer, requestOf, refusals, successCost, buffersOf, sheetBytes, sheetBuffer, planBuffer}
-use Rattle.model.specs.Calls.{firstRefusal, applies, anyShort, planAtExit, sheetAtExit}
+use Rattle.model.specs.Calls.{planShow, makeSheet, specOf, firstOf, answerOf, answer, sheetBytes, sheetBuffer, planBuffer}
+use Rattle.model.specs.Calls.{anyShort, planAtExit, sheetAtExit}
 use Rattle.laws.specs.Acceptance.{slots-range}
 use Rattle.theory.specs.SheetLaws.{sheet-length}
 use Rattle.theory.specs.Outcomes.{written-taken, best-fits, sheet-accepted, sheet-at-exit, plan-at-exit, planner-refused, planner-room}
@@ -38,7 +38,7 @@ accepted-text s is e room = record { ready = ready s is e; text = room }
 -- The planner's answer depends on the lengths of its buffers alone.
 same-lengths :
     (s p w q v : List ℕ) → length p ≡ length q → length w ≡ length v → answer (planShow exact s p w) ≡ answer (planShow exact s q v)
-unfolding answer requestOf refusals successCost buffersOf firstRefusal applies anyShort
+unfolding answer answerOf specOf firstOf anyShort
 same-lengths s p w q v e d = rw (e, d)
 
 -- The program's areas, and the planner's answer.

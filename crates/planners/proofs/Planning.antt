@@ -14,9 +14,8 @@ use Rattle.model.specs.declared.Refusal.the-variants.{BufferTooShort, CountList
 use Rattle.model.specs.declared.Answer.{Answer}
 use Rattle.model.specs.declared.Answer.the-variants.{Cost, Refused}
 use Rattle.model.specs.Instance.{instanceOf}
-use Rattle.model.specs.Planners.{Planner, workBytes, plannedBy, plannedCost}
-use Rattle.model.specs.HandedIn.{countsInRules}
-use Rattle.model.specs.Calls.{planShow, handedTo, answer, buffersOf, anyShort, planAtExit, workAtExit, atExit}
+use Rattle.model.specs.Planners.{Planner, workBytes, keepsList, plannedBy, plannedCost}
+use Rattle.model.specs.Calls.{planShow, specOf, answer, buffersOf, anyShort, planAtExit, workAtExit, atExit}
 use Rattle.model.specs.Promises.{KeepsRules}
 use Rattle.theory.specs.Outcomes.{planner-refused, planner-unlisted, planner-short, planner-cost, best-fits, plan-at-exit, work-at-exit}
 use Rattle.card.specs.declared.Header.{Header}
@@ -60,7 +59,7 @@ module _ (k : Planner) (s p w : List ℕ) where
 
   -- The test on the lengths of the buffers finds one that is too short where there is one.
   pub room-short : anyShort (buffersOf (planShow k s p w)) ≡ not (roomFor k (instanceOf s) (length p) (length w))
-  unfolding buffersOf anyShort hasRoom
+  unfolding specOf anyShort hasRoom
   room-short = either (ltb (length p) (instanceOf s .slots)) (ltb (length w) (workBytes k (instanceOf s)))
     where
       either : (a b : Bool) → (a || (b || false)) ≡ not (not a && not b)
@@ -70,7 +69,7 @@ module _ (k : Planner) (s p w : List ℕ) where
 
   module _ {h : Header} (r : Ready s h) where
     -- Where the rules for a list are not kept, the planner is refused.
-    pub plan-unlisted : countsInRules (instanceOf s) (handedTo k) ≡ false → Planned k s p w (Refused CountList) p w
+    pub plan-unlisted : keepsList k (instanceOf s) ≡ false → Planned k s p w (Refused CountList) p w
     plan-unlisted broken = planned-kept (planner-unlisted k s p w (r .accepted) broken)
 
     -- Where a buffer is too short, the planner is refused.

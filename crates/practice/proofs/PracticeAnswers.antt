@@ -11,8 +11,7 @@ use Rattle.model.specs.declared.Answer.{Answer}
 use Rattle.model.specs.declared.Answer.the-variants.{Cost, Refused}
 use Rattle.model.specs.Instance.{cardBytes, cardLength, loadPlace}
 use Rattle.model.specs.Practice.{practiceShow}
-use Rattle.model.specs.HandedIn.{startsAtZero}
-use Rattle.model.specs.Calls.{practiceCard, buffersOf, anyShort, requestOf, applies, refusals, firstRefusal, answer}
+use Rattle.model.specs.Calls.{practiceCard, anyShort, specOf, firstOf, answerOf, answer}
 use Rattle.model.specs.Calls.{cardBuffer, atExit, buffersAtExit, cardAtExit}
 use Rattle.laws.specs.Encoding.{card-bytes-length}
 use Rattle.laws.specs.PracticeAccepted.{practice-given}
@@ -22,12 +21,12 @@ use Rattle.practice.specs.Drawing.{OfStart, DrawnRoom}
 module _ (start : ℕ) (card : List ℕ) where
   -- The area at exit, by the answer.
   exit-by : {a : Answer} → answer (practiceCard start card) ≡ a → atExit a (cardBuffer (practiceShow start) card) ≡ cardAtExit (practiceCard start card)
-  unfolding cardAtExit buffersAtExit buffersOf
+  unfolding cardAtExit buffersAtExit specOf
   exit-by e = rw e
 
   -- Start 0 is refused, and the area is as it was.
   pub zero-refused : start ≡ 0 → (Refused ZeroStart ≡ answer (practiceCard start card)) × (card ≡ cardAtExit (practiceCard start card))
-  unfolding answer refusals firstRefusal applies requestOf startsAtZero atExit
+  unfolding answer answerOf specOf firstOf atExit
   zero-refused e =
       let given : answer (practiceCard start card) ≡ Refused ZeroStart = rw (eq-eqb start 0 e) in
       (sym given, exit-by given)
@@ -37,7 +36,7 @@ module _ (start : ℕ) (card : List ℕ) where
     pub short-refused :
         length card < cardLength (practiceShow start) →
         (Refused BufferTooShort ≡ answer (practiceCard start card)) × (card ≡ cardAtExit (practiceCard start card))
-    unfolding answer refusals firstRefusal applies requestOf startsAtZero buffersOf anyShort atExit
+    unfolding answer answerOf specOf firstOf anyShort atExit
     short-refused h =
         let given : answer (practiceCard start card) ≡ Refused BufferTooShort = rw (ne-eqb start 0 some, lt-ltb _ _ h) in
         (sym given, exit-by given)

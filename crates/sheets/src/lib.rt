@@ -5,9 +5,8 @@ ghost use lib.ListN.{length};
 ghost use Rattle.lists.specs.Lists.{tabulate, writtenOver};
 ghost use Rattle.model.specs.Instance.{instanceOf};
 ghost use Rattle.model.specs.Sheets.{isEntry, stepOf, sheetEntries, sheetLight, sheetCost};
-ghost use Rattle.model.specs.Plans.{moduleByte, sheetOf, planServes};
+ghost use Rattle.model.specs.Plans.{moduleByte, sheetOf, planInRack, planServes};
 ghost use Rattle.model.specs.Thesis.{slotCost, countsCost};
-ghost use Rattle.model.specs.HandedIn.{entriesInRange, plan as handedPlan};
 ghost use Rattle.card.specs.Checking.{Ready};
 ghost use Rattle.counts.specs.Serving.{Served};
 ghost use Rattle.sheets.specs.Marks.{rowLight, byteCost, bytesCost, allOff, byteAt, stopCost, rowStopCost};
@@ -85,7 +84,7 @@ pub fn plan_cost(card: &[u8], h: Header, plan: &[u8]) -> u64
 // Each count of the plan is at most m.
 pub fn plan_in_rack(card: &[u8], h: Header, plan: &[u8]) -> bool
     requires { ⌜ PlanSized (now card) h (now plan) ⌝ }
-    ensures { λ r. ⌜ r ≡ entriesInRange (instanceOf (now (card .entry))) (handedPlan (now (plan .entry))) ⌝ }
+    ensures { λ r. ⌜ r ≡ planInRack (instanceOf (now (card .entry))) (now (plan .entry)) ⌝ }
 {
     let modules = h.modules;
     let mut t = 0;

@@ -9,9 +9,10 @@ use Rattle.model.specs.declared.Answer.the-variants.{Cost, Refused}
 use Rattle.model.specs.declared.Seat.{Seat}
 use Rattle.model.specs.declared.Sitting.{Sitting}
 use Rattle.model.specs.declared.Reply.{Reply}
-use Rattle.model.specs.Acts.{readLowest, eventOf, actDone, actRefused}
+use Rattle.model.specs.Acts.{readLowest}
 use Rattle.model.specs.SittingState.{lowestOf, lowerOf, markedRecord, sittingAfter}
-use Rattle.model.specs.Sittings.{answerTo, markedBy, markedWith, told, replyWith}
+use Rattle.model.specs.Calls.{actSpec}
+use Rattle.model.specs.Sittings.{answerTo, markedWith, eventWith, eventOf, told, replyWith}
 use Rattle.seats.specs.declared.View.{View}
 use Rattle.sitting.specs.Seen.{seen, eventSeen, replySeen, replyGiving}
 
@@ -41,16 +42,16 @@ module _ (z : Sitting) (v : View) (d c : ℕ) {r : Reply} where
   pub lowest-refused :
       {x : Refusal} → r ≡ replyGiving (Refused x) 0 z →
       answerTo (seen z v) (readLowest d c) ≡ Refused x → r ≡ replySeen z v (readLowest d c)
-  unfolding replyGiving replySeen eventSeen told replyWith markedWith eventOf actRefused sittingAfter
+  unfolding replyGiving replySeen eventSeen told replyWith markedWith eventOf eventWith actSpec sittingAfter
   lowest-refused e given = e ∙ rw given
 
   module _ (given : answerTo (seen z v) (readLowest d c) ≡ Cost (Option·getD (lowestOf (v .seat)) 0)) where
     -- Reading it where nothing is marked.
     pub lowest-none : v .seat .marked ≡ 0 → r ≡ replyGiving (Cost 0) 0 z → r ≡ replySeen z v (readLowest d c)
-    unfolding replyGiving replySeen eventSeen told replyWith markedWith markedBy eventOf actDone sittingAfter seen lowestOf Option·elim
+    unfolding replyGiving replySeen eventSeen told replyWith markedWith eventOf eventWith actSpec sittingAfter seen lowestOf Option·elim
     lowest-none h e = e ∙ rw (given, eq-eqb (v .seat .marked) 0 h)
 
     -- Reading it where a sheet is marked.
     pub lowest-some : (v .seat .marked ≡ 0 → ⊥) → r ≡ replyGiving (Cost (v .seat .lowest)) 1 z → r ≡ replySeen z v (readLowest d c)
-    unfolding replyGiving replySeen eventSeen told replyWith markedWith markedBy eventOf actDone sittingAfter seen lowestOf Option·elim
+    unfolding replyGiving replySeen eventSeen told replyWith markedWith eventOf eventWith actSpec sittingAfter seen lowestOf Option·elim
     lowest-some h e = e ∙ rw (given, ne-eqb (v .seat .marked) 0 h)

@@ -1,10 +1,9 @@
 -- Opening: its answer, by its tests, its buffers at exit, and its reply.
 use Prim.Native.Nat.{ℕ}
 use mathlib.Core.Path.{_≡_, refl, sym, ap, _∙_}
-use mathlib.Core.Bool.{true, false, cond, not}
-use mathlib.Core.List.{List, [], _∷_}
+use mathlib.Core.Bool.{true, false, not}
+use mathlib.Core.List.{List, []}
 use lib.ListN.{length}
-use lib.Dec.{eqb}
 use borrow.Author.Tests.{eq-eqb, ne-eqb}
 use Rattle.model.specs.declared.Refusal.{Refusal}
 use Rattle.model.specs.declared.Refusal.the-variants.{BufferTooShort, NotPermitted, AllowanceSpent}
@@ -14,11 +13,11 @@ use Rattle.model.specs.declared.Sitting.{Sitting}
 use Rattle.model.specs.declared.Reply.{Reply}
 use Rattle.model.specs.Instance.{instanceOf}
 use Rattle.model.specs.Planners.{exact, plannedCost}
-use Rattle.model.specs.Acts.{openSitting, allowanceInRange, notPermitted, allowanceSpent, eventOf, actDone, actRefused}
+use Rattle.model.specs.Acts.{openSitting, allowanceInRange}
 use Rattle.model.specs.SittingState.{factsOf, stateOf, sittingAfter}
-use Rattle.model.specs.Calls.{Call, planShow, actIn, applies, onAct, requestOf, refusals, firstRefusal, successCost}
-use Rattle.model.specs.Calls.{actRequest, actRefusals, actCost, answer, Accepted, buffersOf, actBuffers, atExit, buffersAtExit, planAtExit, workAtExit}
-use Rattle.model.specs.Sittings.{answerTo, markedBy, markedWith, told, toldBy, replyWith, replyOf}
+use Rattle.model.specs.Calls.{Call, planShow, actIn, actSpec, specOf, firstOf, answerOf, answer, Accepted}
+use Rattle.model.specs.Calls.{atExit, buffersAtExit, planAtExit, workAtExit}
+use Rattle.model.specs.Sittings.{answerTo, markedWith, eventWith, eventOf, told, toldBy, replyWith, replyOf}
 use Rattle.laws.specs.OnCard.{on-card-refused, on-card-passed}
 use Rattle.theory.specs.Outcomes.{planner-cost}
 use Rattle.card.specs.declared.Checked.{Checked}
@@ -41,60 +40,50 @@ Opened o a plan work = (a ≡ answer o) × ((plan ≡ planAtExit o) × (work ≡
 module _ (z : Sitting) (d l : ℕ) (s p w : List ℕ) where
   -- A refusal leaves the buffers as they were.
   opening-kept : {x : Refusal} → answer (opens z d l s p w) ≡ Refused x → Opened (opens z d l s p w) (Refused x) p w
-  unfolding planAtExit workAtExit buffersAtExit buffersOf actBuffers atExit
+  unfolding planAtExit workAtExit buffersAtExit specOf actSpec atExit
   opening-kept e = (sym e, (rw e, rw e))
 
   -- An opening on a card that is refused is refused with the same number.
   pub opening-on : {c : Checked} {x : Refusal} → c ≡ checkedOf s → c ≡ Invalid x → Opened (opens z d l s p w) (Refused x) p w
-  unfolding answer requestOf refusals actRequest actRefusals
-  opening-on is e = opening-kept (on-card-refused s _ _ _ _ _ (refused-answer s is e))
+  unfolding answer answerOf specOf actSpec
+  opening-on is e = opening-kept (on-card-refused s _ _ (refused-answer s is e))
 
   module _ (given : Accepted s) where
-    -- On an accepted card the further refusals decide.
-    passed :
-        answer (opens z d l s p w) ≡
-        firstRefusal (applies (requestOf (opens z d l s p w))) (BufferTooShort ∷ NotPermitted ∷ AllowanceSpent ∷ [])
-        (Cost (plannedCost exact (instanceOf s)))
-    unfolding answer requestOf refusals successCost actRequest actRefusals actCost
-    passed = on-card-passed s _ _ _ _ _ given
-
-    -- These are that of the exact planner, and then the opening's own.
-    opening-tests :
-        answer (opens z d l s p w) ≡
-        cond (not (roomFor exact (instanceOf s) (length p) (length w))) (Refused BufferTooShort)
-        (cond (not (eqb d 0)) (Refused NotPermitted)
-        (cond (not (allowanceInRange l)) (Refused AllowanceSpent) (Cost (plannedCost exact (instanceOf s)))))
-    unfolding requestOf actRequest applies onAct notPermitted allowanceSpent firstRefusal buffersOf actBuffers
-    opening-tests = passed ∙ rw (← room-short exact s p w)
-
     -- A buffer is too short.
     pub opening-short :
         roomFor exact (instanceOf s) (length p) (length w) ≡ false → Opened (opens z d l s p w) (Refused BufferTooShort) p w
-    opening-short less = opening-kept (opening-tests ∙ rw less)
+    unfolding answer answerOf specOf actSpec firstOf
+    opening-short less = opening-kept (on-card-passed s _ _ given ∙ rw (room-short exact s p w, less))
 
     module _ (room : roomFor exact (instanceOf s) (length p) (length w) ≡ true) where
       -- The caller is not the supervisor.
       pub opening-barred : (d ≡ 0 → ⊥) → Opened (opens z d l s p w) (Refused NotPermitted) p w
-      opening-barred by = opening-kept (opening-tests ∙ rw (room, ne-eqb d 0 by))
+      unfolding answer answerOf specOf actSpec firstOf
+      opening-barred by = opening-kept (on-card-passed s _ _ given ∙ rw (room-short exact s p w, room, ne-eqb d 0 by))
 
       module _ (by : d ≡ 0) where
         -- The allowance is out of range.
         pub opening-spent : allowanceInRange l ≡ false → Opened (opens z d l s p w) (Refused AllowanceSpent) p w
-        opening-spent range = opening-kept (opening-tests ∙ rw (room, eq-eqb d 0 by, range))
+        unfolding answer answerOf specOf actSpec firstOf
+        opening-spent range = opening-kept (on-card-passed s _ _ given ∙ rw (room-short exact s p w, room, eq-eqb d 0 by, range))
 
-        -- Where none of them applies, an opening answers and leaves what the exact planner does.
+        -- Where none of them applies, an opening answers the least cost, and leaves what the exact planner does.
+        opening-cost : allowanceInRange l ≡ true → answer (opens z d l s p w) ≡ Cost (plannedCost exact (instanceOf s))
+        unfolding answer answerOf specOf actSpec firstOf
+        opening-cost range = on-card-passed s _ _ given ∙ rw (room-short exact s p w, room, eq-eqb d 0 by, range)
+
         pub opening-planned :
             allowanceInRange l ≡ true → {a : Answer} {plan work : List ℕ} →
             Planned exact s p w a plan work → Opened (opens z d l s p w) a plan work
-        unfolding planAtExit workAtExit buffersAtExit buffersOf actBuffers
+        unfolding planAtExit workAtExit buffersAtExit specOf actSpec
         opening-planned range (a-is, (plan-is, work-is)) =
             let same : answer (opens z d l s p w) ≡ answer (planShow exact s p w) =
-            opening-tests ∙ rw (room, eq-eqb d 0 by, range) (sym (planner-cost exact s p w given refl (room-short exact s p w ∙ ap not room))) in
+            opening-cost range ∙ sym (planner-cost exact s p w given refl (room-short exact s p w ∙ ap not room)) in
             (a-is ∙ sym same, (plan-is ∙ rw same, work-is ∙ rw same))
 
   -- The answer of the call is that of the facts.
   same-answer : answer (opens z d l s p w) ≡ answerTo (factsOf (stateOf z [])) (openSitting d l s p w)
-  unfolding answer requestOf refusals successCost answerTo
+  unfolding answer specOf answerTo
   same-answer = refl
 
   module _ {a : Answer} {plan work : List ℕ} (opened : Opened (opens z d l s p w) a plan work) {r : Reply} where
@@ -103,7 +92,7 @@ module _ (z : Sitting) (d l : ℕ) (s p w : List ℕ) where
         {x : Refusal} → a ≡ Refused x → r ≡ replyGiving (Refused x) 0 z →
         (_≡_ {A = OpenOutcome} (record { emptied = 0; reply = r }) (openingOf z (openSitting d l s p w))) ×
         ((plan ≡ planAtExit (opens z d l s p w)) × (work ≡ workAtExit (opens z d l s p w)))
-    unfolding openingOf recordsEmptied replyOf toldBy told replyWith replyGiving markedWith eventOf actRefused sittingAfter
+    unfolding openingOf recordsEmptied replyOf toldBy told replyWith replyGiving markedWith eventOf eventWith actSpec sittingAfter
     opening-refused given e =
         let told = sym (opened .0) ∙ given in
         (rw (e, told, sym same-answer ∙ told), opened .1)
@@ -113,7 +102,7 @@ module _ (z : Sitting) (d l : ℕ) (s p w : List ℕ) where
         {n : ℕ} → a ≡ Cost n → r ≡ replyGiving (Cost n) 0 (record { state = 1; allowance = l; submissions = 0; least = n }) →
         (_≡_ {A = OpenOutcome} (record { emptied = 32; reply = r }) (openingOf z (openSitting d l s p w))) ×
         ((plan ≡ planAtExit (opens z d l s p w)) × (work ≡ workAtExit (opens z d l s p w)))
-    unfolding openingOf recordsEmptied replyOf toldBy told replyWith replyGiving markedWith markedBy eventOf actDone sittingAfter
+    unfolding openingOf recordsEmptied replyOf toldBy told replyWith replyGiving markedWith eventOf eventWith actSpec sittingAfter
     opening-done given e =
         let told = sym (opened .0) ∙ given in
         (rw (e, told, sym same-answer ∙ told), opened .1)

@@ -8,9 +8,10 @@ use Rattle.model.specs.declared.Answer.the-variants.{Cost, Refused}
 use Rattle.model.specs.declared.Sitting.{Sitting}
 use Rattle.model.specs.declared.Reply.{Reply}
 use Rattle.model.specs.Answers.{refusalNumber}
-use Rattle.model.specs.Acts.{seatCandidate, closeSitting, readLeast, readUsed, eventOf, actDone, actRefused}
+use Rattle.model.specs.Acts.{seatCandidate, closeSitting, readLeast, readUsed}
 use Rattle.model.specs.SittingState.{emptySeat, seatedRecord, factsOf, stateOf, sittingAfter}
-use Rattle.model.specs.Sittings.{answerTo, markedBy, markedWith, told, toldBy, replyWith, replyOf}
+use Rattle.model.specs.Calls.{actSpec}
+use Rattle.model.specs.Sittings.{answerTo, markedWith, eventWith, eventOf, told, toldBy, replyWith, replyOf}
 use Rattle.seats.specs.declared.View.{View}
 use Rattle.sitting.specs.declared.Outcome.{Outcome}
 use Rattle.sitting.specs.Seen.{seen, eventSeen, placeFor, recordFor, replySeen, outcomeOf, replyGiving, unchangedOf}
@@ -39,7 +40,7 @@ none-changed len x z e = rw e
 pub used-reply :
     (z : Sitting) (d : ℕ) {a : Answer} {r : Reply} → a ≡ answerTo (factsOf (stateOf z [])) (readUsed d) → r ≡ replyGiving a 0 z →
     r ≡ replyOf z [] (readUsed d)
-unfolding replyGiving replyOf toldBy told replyWith markedWith markedBy eventOf actDone actRefused sittingAfter
+unfolding replyGiving replyOf toldBy told replyWith markedWith eventOf eventWith actSpec sittingAfter
 used-reply z d {a = Cost n} is e = e ∙ rw (← is)
 used-reply z d {a = Refused x} is e = e ∙ rw (← is)
 
@@ -47,14 +48,14 @@ used-reply z d {a = Refused x} is e = e ∙ rw (← is)
 pub least-reply :
     (z : Sitting) (v : View) (d : ℕ) {a : Answer} {r : Reply} → a ≡ answerTo (seen z v) (readLeast d) → r ≡ replyGiving a 0 z →
     r ≡ replySeen z v (readLeast d)
-unfolding replyGiving replySeen eventSeen told replyWith markedWith markedBy eventOf actDone actRefused sittingAfter
+unfolding replyGiving replySeen eventSeen told replyWith markedWith eventOf eventWith actSpec sittingAfter
 least-reply z v d {a = Cost n} is e = e ∙ rw (← is)
 least-reply z v d {a = Refused x} is e = e ∙ rw (← is)
 
 module _ (z : Sitting) (d : ℕ) {a : Answer} (is : a ≡ answerTo (factsOf (stateOf z [])) (closeSitting d)) {r : Reply} where
   -- A closing that is refused.
   pub closing-refused : {x : Refusal} → a ≡ Refused x → r ≡ replyGiving (Refused x) 0 z → r ≡ replyOf z [] (closeSitting d)
-  unfolding replyGiving replyOf toldBy told replyWith markedWith eventOf actRefused sittingAfter
+  unfolding replyGiving replyOf toldBy told replyWith markedWith eventOf eventWith actSpec sittingAfter
   closing-refused given e = e ∙ rw (sym is ∙ given)
 
   -- A closing.
@@ -63,19 +64,19 @@ module _ (z : Sitting) (d : ℕ) {a : Answer} (is : a ≡ answerTo (factsOf (sta
       r ≡
       replyGiving (Cost n) 0 (record { state = 2; allowance = z .allowance; submissions = z .submissions; least = z .least }) →
       r ≡ replyOf z [] (closeSitting d)
-  unfolding replyGiving replyOf toldBy told replyWith markedWith markedBy eventOf actDone sittingAfter
+  unfolding replyGiving replyOf toldBy told replyWith markedWith eventOf eventWith actSpec sittingAfter
   closing-done given e = e ∙ rw (sym is ∙ given)
 
 module _ (z : Sitting) (v : View) (d c : ℕ) {a : Answer} (is : a ≡ answerTo (seen z v) (seatCandidate d c)) where
   -- A seating that is refused.
   pub seating-refused :
       {x : Refusal} {r : Outcome} → a ≡ Refused x → r ≡ unchangedOf (v .len) x z → r ≡ outcomeOf z v (seatCandidate d c)
-  unfolding unchangedOf outcomeOf placeFor recordFor replyGiving replySeen eventSeen told replyWith markedWith eventOf actRefused sittingAfter
+  unfolding unchangedOf outcomeOf placeFor recordFor replyGiving replySeen eventSeen told replyWith markedWith eventOf eventWith actSpec sittingAfter
   seating-refused given e = e ∙ rw (sym is ∙ given)
 
   -- A seating: the first empty record becomes the candidate's.
   pub seating-done :
       {n : ℕ} {r : Reply} → a ≡ Cost n → r ≡ replyGiving (Cost n) 0 z →
       _≡_ {A = Outcome} (record { at = v .free; seat = seatedRecord c emptySeat; reply = r }) (outcomeOf z v (seatCandidate d c))
-  unfolding outcomeOf placeFor recordFor replyGiving replySeen eventSeen told replyWith markedWith markedBy eventOf actDone sittingAfter
+  unfolding outcomeOf placeFor recordFor replyGiving replySeen eventSeen told replyWith markedWith eventOf eventWith actSpec sittingAfter
   seating-done given e = rw (e, sym is ∙ given)

@@ -1,29 +1,26 @@
 -- What an act makes of a view of the list is what it makes of the list.
 use Prim.Native.Nat.{ℕ}
 use mathlib.Core.Path.{_≡_, refl, sym, ap, _∙_}
-use mathlib.Core.Bool.{Bool, true, false, cond, not, _&&_}
-use mathlib.Core.List.{List, [], _∷_, _++_, map}
+use mathlib.Core.Bool.{Bool, true, not}
+use mathlib.Core.List.{List, _++_, map}
 use lib.ListN.{length, getD, set, take-append-drop, List·getD-map}
 use native.Mathlib.Nat.{le-refl}
 use lib.Seq.{set-append-left, set-out}
-use lib.Dec.{leb, eqb}
+use lib.Dec.{eqb}
 use borrow.Author.Tests.{not-false}
 use Rattle.lists.specs.Tests.{or-right}
 use Rattle.lists.specs.FirstPlace.{occurs, firstPlace, changeFirst, occurs-place, place-inside, change-sets, occurs-map, place-map}
-use Rattle.model.specs.declared.Refusal.the-variants.{SeatUnavailable}
 use Rattle.model.specs.declared.Answer.{Answer}
 use Rattle.model.specs.declared.Answer.the-variants.{Cost, Refused}
 use Rattle.model.specs.declared.Seat.{Seat}
 use Rattle.model.specs.declared.Sitting.{Sitting}
-use Rattle.model.specs.Answers.{refusalNumber}
-use Rattle.model.specs.Acts.{Act, seatCandidate, submitSheet, seatUnavailable}
-use Rattle.model.specs.Acts.{nothingDone, submissionCounted, submissionRefused, eventOf, actDone, actRefused}
-use Rattle.model.specs.Calls.{applies, onAct, actRequest, actRefusals}
+use Rattle.model.specs.Acts.{Act, seatCandidate, submitSheet, Event, nothingDone, seatingDone, submissionMarked, submissionRefused}
+use Rattle.model.specs.Calls.{actSpec, answerOf}
 use Rattle.model.specs.SittingState.{Place, isFor, emptyPlace, factsOf, seatsOf, beyondSeats, isOf, lowestOf, placeOf, stateOf}
 use Rattle.model.specs.SittingState.{emptySeat, seatedRecord, markedRecord, seatsAfter}
-use Rattle.model.specs.Sittings.{answerTo, toldBy, replyOf, seatsAtExit}
+use Rattle.model.specs.Sittings.{answerTo, eventWith, eventOf, eventIn, toldBy, replyOf, seatsAtExit}
 use Rattle.laws.specs.FirstRefusal.{first-passed}
-use Rattle.laws.specs.SittingLaws.{submitted-seated, concerned, AgreeAt, answers-agree, told-agree}
+use Rattle.laws.specs.SittingLaws.{submitted-seated, concerned, AgreeAt, events-agree, told-agree, refused-does}
 use Rattle.seats.specs.declared.View.{View}
 use Rattle.seats.specs.Scanned.{scanned}
 use Rattle.sitting.specs.Seen.{seen, placeFor, recordFor, eventSeen, replySeen, outcomeOf}
@@ -49,14 +46,15 @@ seen-agrees z xs c =
       };
     }
 
--- What is answered to an act about a candidate is the same by the view for the candidate and by the list.
-answer-seen : (z : Sitting) (xs : List Seat) (a : Act) → answerTo (seen z (scanned (concerned a) xs)) a ≡ answerTo (factsOf (stateOf z xs)) a
-answer-seen z xs a = answers-agree a _ _ (seen-agrees z xs (concerned a))
+-- What an act about a candidate does is the same by the view for the candidate and by the list.
+event-seen : (z : Sitting) (xs : List Seat) (a : Act) → eventSeen z (scanned (concerned a) xs) a ≡ eventIn z xs a
+unfolding eventSeen
+event-seen z xs a = events-agree a _ _ (seen-agrees z xs (concerned a))
 
 -- The reply to an act is the same by the view for the candidate that it is about and by the list.
 pub reply-seen : (z : Sitting) (xs : List Seat) (a : Act) → replySeen z (scanned (concerned a) xs) a ≡ replyOf z xs a
-unfolding replySeen replyOf toldBy eventSeen
-reply-seen z xs a = rw (told-agree a _ _ (seen-agrees z xs (concerned a)), answer-seen z xs a)
+unfolding replySeen replyOf toldBy
+reply-seen z xs a = rw (told-agree a _ _ (seen-agrees z xs (concerned a)), event-seen z xs a)
 
 -- A list in which the first seat that passes a test is changed is set at its place.
 changed-set :
@@ -69,52 +67,47 @@ changed-set f g xs found =
     ∙ set-append-left (seatsOf xs) (beyondSeats xs) k s (place-inside f (seatsOf xs) found)
     ∙ ap (λ (l : List Seat). l ++ beyondSeats xs) (sym (change-sets f g emptySeat (seatsOf xs) found))
 
--- The event that an answer makes of an act, and what it does to the list by the view.
-abbrev putBy : View → List Seat → Act → Answer → List Seat
-putBy v xs a r = set xs (placeFor v (eventOf a r)) (recordFor v (eventOf a r))
+-- By a view an event sets in a list what it makes of the list.
+abbrev Puts : View → List Seat → Event → Type 0
+Puts v xs e = set xs (placeFor v e) (recordFor v e) ≡ seatsAfter e xs
 
 -- Seating sets the first empty record, or nothing where it is refused.
 seating-put : (z : Sitting) (xs : List Seat) (d c : ℕ) (r : Answer) → answerTo (factsOf (stateOf z xs)) (seatCandidate d c) ≡ r →
-    putBy (scanned c xs) xs (seatCandidate d c) r ≡ seatsAfter (eventOf (seatCandidate d c) r) xs
-unfolding eventOf actDone actRefused placeFor recordFor seatsAfter scanned answerTo actRequest actRefusals applies onAct seatUnavailable
+    Puts (scanned c xs) xs (eventWith (λ n. seatingDone c) (λ x. nothingDone) r)
+unfolding eventWith placeFor recordFor seatsAfter scanned answerTo answerOf actSpec
 seating-put z xs d c (Refused x) e = set-out xs (length xs) emptySeat (le-refl (length xs))
 seating-put z xs d c (Cost n) e =
-    let test = applies (actRequest (factsOf (stateOf z xs)) (seatCandidate d c)) in
-    let (known, last) = first-passed test [] _ (first-passed test (SeatUnavailable ∷ []) _ e .1) in
+    let known = first-passed _ _ _ (first-passed _ _ _ e .1) .0 in
     let free = not-false _ (or-right (occurs (isFor c) (map placeOf (seatsOf xs))) _ (or-right (eqb c 0) _ known)) in
     changed-set (isOf 0) (seatedRecord c) xs (sym (occurs-map placeOf (isOf 0) (isFor 0) (λ s. refl) (seatsOf xs)) ∙ free)
 
 -- A submission sets the record of its candidate, or nothing where it is refused.
 submission-put : (z : Sitting) (xs : List Seat) (d : ℕ) (card sheet : List ℕ) (r : Answer) →
-    answerTo (factsOf (stateOf z xs)) (submitSheet d card sheet) ≡ r →
-    putBy (scanned d xs) xs (submitSheet d card sheet) r ≡ seatsAfter (eventOf (submitSheet d card sheet) r) xs
-unfolding eventOf actDone actRefused submissionRefused placeFor recordFor seatsAfter scanned
+    answerTo (factsOf (stateOf z xs)) (submitSheet d card sheet) ≡ r → Puts (scanned d xs) xs (eventWith (submissionMarked d) submissionRefused r)
+unfolding eventWith actSpec placeFor recordFor seatsAfter scanned
 submission-put z xs d card sheet (Refused x) e =
-    either (leb 11 (refusalNumber x) && leb (refusalNumber x) 13)
-  where
-    either : (b : Bool) → let f = cond b submissionCounted nothingDone in
-        set xs (placeFor (scanned d xs) f) (recordFor (scanned d xs) f) ≡ seatsAfter f xs
-    either true = set-out xs (length xs) emptySeat (le-refl (length xs))
-    either false = set-out xs (length xs) emptySeat (le-refl (length xs))
+    let none = set-out xs (length xs) emptySeat (le-refl (length xs)) in
+    refused-does (Puts (scanned d xs) xs) (factsOf (stateOf z xs)) (submitSheet d card sheet) x none (λ f c s same counted. none)
 submission-put z xs d card sheet (Cost n) e =
     changed-set (isOf d) (markedRecord n) xs
     (sym (occurs-map placeOf (isOf d) (isFor d) (λ s. refl) (seatsOf xs)) ∙ not-false _ (or-right (eqb d 0) _ (submitted-seated _ d card sheet e)))
 
 module _ (z : Sitting) (xs : List Seat) where
   -- The list that an act about a seat leaves is the list in which the record that it names is put.
-  seats-put : (a : Act) → (r : Answer) → answerTo (factsOf (stateOf z xs)) a ≡ r →
-      putBy (scanned (concerned a) xs) xs a r ≡ seatsAfter (eventOf a r) xs →
+  seats-put : (a : Act) → Puts (scanned (concerned a) xs) xs (eventIn z xs a) →
       set xs (outcomeOf z (scanned (concerned a) xs) a .at) (outcomeOf z (scanned (concerned a) xs) a .seat) ≡ seatsAtExit z xs a
-  unfolding outcomeOf eventSeen seatsAtExit
-  seats-put a r e put = rw (answer-seen z xs a, e) put
+  unfolding outcomeOf seatsAtExit
+  seats-put a put = rw (event-seen z xs a) put
 
   -- The list of seats after seating.
   pub seated-list :
       (d c : ℕ) → let o = outcomeOf z (scanned c xs) (seatCandidate d c) in set xs (o .at) (o .seat) ≡ seatsAtExit z xs (seatCandidate d c)
-  seated-list d c = seats-put (seatCandidate d c) _ refl (seating-put z xs d c _ refl)
+  unfolding eventOf actSpec
+  seated-list d c = seats-put (seatCandidate d c) (seating-put z xs d c _ refl)
 
   -- The list of seats after a submission.
   pub submitted-list :
       (d : ℕ) (card sheet : List ℕ) →
       let o = outcomeOf z (scanned d xs) (submitSheet d card sheet) in set xs (o .at) (o .seat) ≡ seatsAtExit z xs (submitSheet d card sheet)
-  submitted-list d card sheet = seats-put (submitSheet d card sheet) _ refl (submission-put z xs d card sheet _ refl)
+  unfolding eventOf actSpec
+  submitted-list d card sheet = seats-put (submitSheet d card sheet) (submission-put z xs d card sheet _ refl)

@@ -7,11 +7,10 @@ use Rattle.model.specs.declared.Answer.{Answer}
 use Rattle.model.specs.declared.Answer.the-variants.{Cost, Refused}
 use Rattle.model.specs.declared.Seat.{Seat}
 use Rattle.model.specs.declared.Sitting.{Sitting}
-use Rattle.model.specs.Acts.{Act, openSitting, eventOf, actDone, actRefused}
-use Rattle.model.specs.SittingState.{factsOf, stateOf, seatsOf, beyondSeats, emptySeat, seatsAfter}
-use Rattle.model.specs.Calls.{actIn, answer, requestOf, refusals, successCost, buffersOf, buffersAtExit, planAtExit, workAtExit}
-use Rattle.model.specs.Sittings.{answerTo, toldBy, replyOf, seatsAtExit}
-use Rattle.laws.specs.SittingLaws.{opening-answer, opening-told}
+use Rattle.model.specs.Acts.{Act, openSitting, nothingDone, openingDone}
+use Rattle.model.specs.SittingState.{seatsOf, beyondSeats, emptySeat, seatsAfter}
+use Rattle.model.specs.Calls.{actIn, actSpec, specOf, answer, buffersAtExit, planAtExit, workAtExit}
+use Rattle.model.specs.Sittings.{answerTo, eventWith, eventOf, told, toldBy, replyOf, seatsAtExit}
 use Rattle.seats.specs.Scanned.{emptied}
 use Rattle.sitting.specs.Seen.{recordsEmptied, openingOf}
 
@@ -25,37 +24,28 @@ module _ (z : Sitting) (xs : List Seat) (d al : ℕ) (c p w : List ℕ) where
   abbrev act : Act
   act = openSitting d al c p w
 
-  -- The call is answered as the act, whatever the list is.
-  call-answer : (ys : List Seat) → answer (actIn z ys act) ≡ answerTo (factsOf (stateOf z xs)) act
-  unfolding answer requestOf refusals successCost answerTo
-  call-answer ys = opening-answer (factsOf (stateOf z ys)) (factsOf (stateOf z xs)) d al c p w
-
   -- The buffer for the plan at exit.
   pub opening-plan : planAtExit (actIn z [] act) ≡ planAtExit (actIn z xs act)
-  unfolding planAtExit buffersAtExit buffersOf
-  opening-plan = rw (call-answer [], call-answer xs)
+  unfolding planAtExit buffersAtExit answer specOf actSpec
+  opening-plan = refl
 
   -- The buffer for the work at exit.
   pub opening-work : workAtExit (actIn z [] act) ≡ workAtExit (actIn z xs act)
-  unfolding workAtExit buffersAtExit buffersOf
-  opening-work = rw (call-answer [], call-answer xs)
+  unfolding workAtExit buffersAtExit answer specOf actSpec
+  opening-work = refl
 
   -- The reply.
   pub opening-reply : openingOf z act .reply ≡ replyOf z xs act
-  unfolding openingOf replyOf toldBy
-  opening-reply =
-      rw (
-        opening-told (factsOf (stateOf z [])) (factsOf (stateOf z xs)) d al c p w,
-        opening-answer (factsOf (stateOf z [])) (factsOf (stateOf z xs)) d al c p w,
-      )
+  unfolding openingOf replyOf toldBy told answerTo eventOf actSpec
+  opening-reply = refl
 
   -- The list of seats after an answer.
-  emptied-by : (r : Answer) → emptied (recordsEmptied r) xs ≡ seatsAfter (eventOf act r) xs
-  unfolding recordsEmptied emptied seatsAfter eventOf actDone actRefused
+  emptied-by : (r : Answer) → emptied (recordsEmptied r) xs ≡ seatsAfter (eventWith (openingDone al) (λ x. nothingDone) r) xs
+  unfolding recordsEmptied emptied seatsAfter eventWith
   emptied-by (Cost n) = ap (λ (l : List Seat). l ++ beyondSeats xs) (sym (map-constant emptySeat (seatsOf xs)))
   emptied-by (Refused x) = refl
 
   -- The list of seats.
   pub opening-seats : emptied (openingOf z act .emptied) xs ≡ seatsAtExit z xs act
-  unfolding openingOf seatsAtExit
-  opening-seats = rw (call-answer []) (emptied-by _)
+  unfolding openingOf seatsAtExit eventOf answer specOf answerTo actSpec
+  opening-seats = emptied-by _

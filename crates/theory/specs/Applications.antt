@@ -8,7 +8,7 @@ use native.Mathlib.Omega.{arith}
 use lib.Dec.{leb, lit<}
 use lib.ListN.{getD, take, drop, replicate}
 use borrow.Author.Tests.{leb-true}
-use Rattle.lists.specs.Tests.{every, every-at, allOf}
+use Rattle.lists.specs.Tests.{every, every-at}
 use Rattle.lists.specs.Sums.{sum}
 use Rattle.lists.specs.Ranges.{leastOver, firstOver}
 use Rattle.lists.specs.Lists.{tabulate, rows, keep, sameList}
@@ -35,7 +35,7 @@ use Rattle.model.specs.Acts.{readLowest}
 use Rattle.model.specs.SittingState.{phaseOf}
 use Rattle.model.specs.Sittings.{replyOf, toldInTurn, leftBy, StartsAfresh, from-unopened, LentCard, EachAct, toldFrom}
 use Rattle.model.specs.Catalogue.{catalogueEntry, catalogueBytes}
-use Rattle.model.specs.Calls.{catalogueTable, requestOf, applies, firstRefusal, refusals, successCost, answer, buffersOf, anyShort, atExit}
+use Rattle.model.specs.Calls.{catalogueTable, specOf, firstOf, answerOf, answer, anyShort, atExit}
 use Rattle.model.specs.Calls.{buffersAtExit, tableAtExit}
 use Rattle.model.specs.Promises.{OthersInOrder}
 use Rattle.model.specs.Examples.{cardA}
@@ -190,6 +190,6 @@ catalogueA = take headLength cardA ++ (catalogueBytes 2 ++ drop (loadPlace 2 0) 
 pub catalogue-applied :
     (instanceOf catalogueA .topStep ≡ 2) ×
     (tableOf catalogueA ≡ take (tableSize 2) (tableAtExit (catalogueTable 2 (replicate 12 7)))) × OthersInOrder catalogueA
-unfolding every allOf rows sameList littleEndian bytesOf instanceOf catalogueEntry catalogueBytes requestOf applies firstRefusal refusals
-    successCost answer buffersOf anyShort atExit buffersAtExit tableAtExit cardLength loadsInRange
+unfolding every rows sameList littleEndian bytesOf instanceOf catalogueEntry catalogueBytes specOf firstOf answerOf answer anyShort atExit
+    buffersAtExit tableAtExit cardLength loadsInRange
 catalogue-applied = (refl, refl, record { others = refl; power-up = omega arith; power-down = omega arith })

@@ -3,13 +3,13 @@
 use Prim.Native.Nat.{ℕ, _≤_, _<_}
 use mathlib.Core.Path.{_≡_, refl, sym, ap, _∙_}
 use mathlib.Core.Bool.{true}
-use mathlib.Core.List.{List, [], _∷_}
+use mathlib.Core.List.{List}
 use native.Mathlib.Omega.{arith}
 use lib.ListN.{length, take}
 use borrow.Author.Tests.{lt-ltb, le-ltb, ltb-false}
 use Rattle.lists.specs.Tests.{or-left}
 use Rattle.model.specs.declared.Refusal.{Refusal}
-use Rattle.model.specs.declared.Refusal.the-variants.{BufferTooShort, WrongLength, EntryRange, LoadNotServed}
+use Rattle.model.specs.declared.Refusal.the-variants.{BufferTooShort}
 use Rattle.model.specs.declared.Answer.{Answer}
 use Rattle.model.specs.declared.Answer.the-variants.{Cost, Refused}
 use Rattle.model.specs.Answers.{numberOf}
@@ -18,15 +18,14 @@ use Rattle.model.specs.Sheets.{serves}
 use Rattle.model.specs.Plans.{sheetOf}
 use Rattle.model.specs.Planners.{Planner, exact, workBytes, plannedBy}
 use Rattle.model.specs.Explanation.{excessOperatingCost, excessSwitchingCost, excessOfCounts}
-use Rattle.model.specs.HandedIn.{sheet}
-use Rattle.model.specs.Calls.{checkCard, planShow, markSheet, explainSheet, onCard, requestOf, refusals, firstRefusal, applies, successCost}
-use Rattle.model.specs.Calls.{answer, Accepted, workBuffer, buffersOf, anyShort, atExit, buffersAtExit}
+use Rattle.model.specs.Calls.{checkCard, planShow, markSheet, explainSheet, sheetTests, specOf, firstOf, answerOf}
+use Rattle.model.specs.Calls.{answer, Accepted, workBuffer, anyShort, atExit, buffersAtExit}
 use Rattle.model.specs.Calls.{makeSheet, sheetBytes, sheetAtExit, planAtExit}
 use Rattle.model.specs.ExplainedPoints.{explainedWork, pointsWith, pointsOf}
 use Rattle.model.specs.Promises.{madeSheet, ExplainsMarked, NoneNegative, AboveLeast, ZeroExactly}
 use Rattle.laws.specs.AnswerNumber.{number-zero}
 use Rattle.laws.specs.FirstRefusal.{first-passed, first-refused, first-through}
-use Rattle.laws.specs.OnCard.{on-card-refused, on-card-passed, on-card-accepted}
+use Rattle.laws.specs.OnCard.{on-card-refused, on-card-passed, on-card-cost}
 use Rattle.theory.specs.Hypotheses.{Plannable, PlanFits}
 use Rattle.theory.specs.SheetLaws.{plan-sheet-serves}
 use Rattle.theory.specs.Condition3.{accepted-plannable, planned-fits}
@@ -34,61 +33,48 @@ use Rattle.theory.specs.Explanations.{spread-whole, swaps-whole, counts-
 use Rattle.theory.specs.Explanations.{plan-points, exact-points}
 use Rattle.theory.specs.Refusals.{succeeded}
 use Rattle.theory.specs.RearrangedSheets.{swaps-zero-sheets}
-use Rattle.theory.specs.Outcomes.{mark-tests, mark-accepts, mark-number, made-on, made-fits, sheet-written, best-fits}
+use Rattle.theory.specs.Outcomes.{mark-accepts, mark-number, made-on, made-fits, sheet-written, best-fits}
 use Rattle.theory.specs.Outcomes.{planner-on, planner-keeps, planner-answer, plan-written}
 
 -- The answer of an explanation.
 module _ (c s w : List ℕ) where
   -- Its work buffer at exit.
   pub work-left : explainedWork (explainSheet c s w) ≡ atExit (answer (explainSheet c s w)) (workBuffer exact (instanceOf c) w)
-  unfolding explainedWork buffersAtExit buffersOf
+  unfolding explainedWork buffersAtExit specOf
   work-left = refl
 
   -- Where the card is refused, so is the explanation, with the same number.
   pub explain-refused : {x : Refusal} → answer (checkCard c) ≡ Refused x → answer (explainSheet c s w) ≡ Refused x
-  unfolding answer requestOf refusals
-  explain-refused = on-card-refused c _ _ _ _ _
+  unfolding answer answerOf specOf
+  explain-refused = on-card-refused c _ _
 
-  -- An explanation that answers a cost is on an accepted card.
-  explained-on : {n : ℕ} → answer (explainSheet c s w) ≡ Cost n → Accepted c
-  unfolding answer requestOf refusals
-  explained-on = on-card-accepted c _ _ _ _ _
+  pub explain-short : Accepted c → length w < workBytes exact (instanceOf c) → answer (explainSheet c s w) ≡ Refused BufferTooShort
+  unfolding answer answerOf specOf firstOf anyShort
+  explain-short given less = on-card-passed c _ _ given ∙ rw (lt-ltb _ _ less)
 
-  module _ (given : Accepted c) where
-    -- On an accepted card the work buffer and then marking's refusals decide.
-    explain-tests :
-        answer (explainSheet c s w) ≡
-        firstRefusal (applies (onCard c (buffersOf (explainSheet c s w)) (sheet s)))
-        (BufferTooShort ∷ WrongLength ∷ EntryRange ∷ LoadNotServed ∷ []) (Cost 0)
-    unfolding answer requestOf refusals successCost
-    explain-tests = on-card-passed c _ _ _ _ _ given
+  -- An explanation that answers a cost is on an accepted card, and its work buffer has at least the bytes asked for.
+  explained-room : {n : ℕ} → answer (explainSheet c s w) ≡ Cost n → Accepted c × (workBytes exact (instanceOf c) ≤ length w)
+  unfolding answer answerOf specOf anyShort
+  explained-room e = let (given, own) = on-card-cost c _ _ e in (given, ltb-false _ _ (or-left _ _ (first-passed _ _ _ own .0)))
 
-    pub explain-short : length w < workBytes exact (instanceOf c) → answer (explainSheet c s w) ≡ Refused BufferTooShort
-    unfolding firstRefusal applies buffersOf anyShort
-    explain-short less = explain-tests ∙ rw (lt-ltb _ _ less)
+  module _ (given : Accepted c) (room : workBytes exact (instanceOf c) ≤ length w) where
+    -- On an accepted card, with a work buffer that is long enough, marking's refusals decide.
+    as-marking : answer (explainSheet c s w) ≡ firstOf (sheetTests (instanceOf c) s) (Cost 0)
+    unfolding answer answerOf specOf firstOf anyShort
+    as-marking = on-card-passed c _ _ given ∙ rw (le-ltb _ _ room)
 
-    -- Where an explanation answers a cost, its work buffer has at least the bytes asked for.
-    explained-room : {n : ℕ} → answer (explainSheet c s w) ≡ Cost n → workBytes exact (instanceOf c) ≤ length w
-    unfolding applies buffersOf anyShort
-    explained-room e = ltb-false _ _ (or-left _ _ (first-passed _ _ _ (sym explain-tests ∙ e) .0))
+    pub explain-unmarked : {x : Refusal} → answer (markSheet c s) ≡ Refused x → answer (explainSheet c s w) ≡ Refused x
+    unfolding answer answerOf specOf
+    explain-unmarked e = as-marking ∙ first-refused (sheetTests (instanceOf c) s) _ refl (sym (on-card-passed c _ _ given) ∙ e)
 
-    module _ (room : workBytes exact (instanceOf c) ≤ length w) where
-      -- With a work buffer that is long enough marking's refusals decide.
-      as-marking :
-          answer (explainSheet c s w) ≡
-          firstRefusal (applies (onCard c [] (sheet s))) (WrongLength ∷ EntryRange ∷ LoadNotServed ∷ []) (Cost 0)
-      unfolding firstRefusal applies buffersOf anyShort
-      as-marking = explain-tests ∙ rw (le-ltb _ _ room)
+    pub explain-marked : {n : ℕ} → answer (markSheet c s) ≡ Cost n → answer (explainSheet c s w) ≡ Cost 0
+    unfolding answer answerOf specOf
+    explain-marked e = as-marking ∙ first-through (sheetTests (instanceOf c) s) _ _ (sym (on-card-passed c _ _ given) ∙ e)
 
-      pub explain-unmarked : {x : Refusal} → answer (markSheet c s) ≡ Refused x → answer (explainSheet c s w) ≡ Refused x
-      explain-unmarked e = as-marking ∙ first-refused _ _ _ refl (sym (mark-tests c s given) ∙ e)
-
-      pub explain-marked : {n : ℕ} → answer (markSheet c s) ≡ Cost n → answer (explainSheet c s w) ≡ Cost 0
-      explain-marked e = as-marking ∙ first-through _ _ _ _ (sym (mark-tests c s given) ∙ e)
-
-      -- An explanation that answers a cost is of a sheet that marking accepts.
-      explained-marked : {n : ℕ} → answer (explainSheet c s w) ≡ Cost n → numberOf (answer (markSheet c s)) ≡ 0
-      explained-marked e = ap numberOf (mark-tests c s given ∙ first-through _ _ _ _ (sym as-marking ∙ e))
+    -- An explanation that answers a cost is of a sheet that marking accepts.
+    explained-marked : {n : ℕ} → answer (explainSheet c s w) ≡ Cost n → numberOf (answer (markSheet c s)) ≡ 0
+    unfolding answer answerOf specOf
+    explained-marked e = ap numberOf (on-card-passed c _ _ given ∙ first-through (sheetTests (instanceOf c) s) _ _ (sym as-marking ∙ e))
 
 -- The number of an explanation is that of its answer.
 points-number : (a : Answer) (i : Instance) (s : List ℕ) → pointsWith a i s .number ≡ numberOf a
@@ -106,8 +92,7 @@ module _ (c s w : List ℕ) where
   explains-marked = (
     λ e.
         let found = number-zero _ (sym number-is ∙ e) in
-        let given = explained-on c s w found in
-        let room = explained-room c s w given found in
+        let (given, room) = explained-room c s w found in
         (explained-marked c s w given room found, room),
     λ (marked, room).
         number-is ∙ ap numberOf (explain-marked c s w (mark-number c s .0 marked .0) room (number-zero _ marked)),
@@ -189,7 +174,7 @@ pub made-explained :
 made-explained c p x w e room =
     let made = succeeded (makeSheet c p x) e in
     let given = made-on c p x made in
-    rw (sheet-written c p x e) (plan-explained c w given room p (made-fits c p x given made))
+    rw (sheet-written c p x e) (plan-explained c w given room p (made-fits c p x made))
 
 -- The sheets of the planners: the sheet that the plan bytes of a planner make has spread 0 and swaps 0, and that of the exact planner counts 0
 -- too.

@@ -1,24 +1,23 @@
 -- What is read of a long input: no card that is accepted is longer than 2,869 bytes, so the first 2,870 bytes decide the answer.
 use Prim.Native.Nat.{ℕ, _+_, _≤_}
 use mathlib.Core.Path.{_≡_, _∙_, ap}
-use mathlib.Core.Bool.{Bool, true, false, not}
+use mathlib.Core.Bool.{Bool, true, false, not, _&&_}
 use mathlib.Core.List.{List, _∷_}
 use mathlib.Core.Logic.{⊎-elim}
 use native.Mathlib.Omega.{arith}
-use lib.Dec.{leb}
+use lib.Dec.{leb, ltb, eqb}
 use lib.ListN.{length, take, replicate}
 use lib.Seq.{length-take-le, take-take}
 use borrow.Author.Tests.{le-ltb, leb-true, ltb-false, ne-eqb, not-false}
 use Rattle.lists.specs.Numbers.{true-or-false}
-use Rattle.lists.specs.Tests.{allOf, and-left, and-right}
+use Rattle.lists.specs.Tests.{and-right}
 use Rattle.lists.specs.Bytes.{little-take}
 use Rattle.model.specs.declared.Refusal.{Refusal}
-use Rattle.model.specs.declared.Refusal.the-variants.{NotACard, Version, RackSize, SlotCount, CardLength}
 use Rattle.model.specs.declared.Answer.the-variants.{Cost, Refused}
 use Rattle.model.specs.Instance.{instanceOf, cardLength, rackNumber}
 use Rattle.model.specs.Instance.{headLength, versionPlace, modulesPlace, topStepPlace, slotsPlace, loadPlace}
 use Rattle.model.specs.Planners.{exact}
-use Rattle.model.specs.Calls.{checkCard, answer, applies, requestOf, cardRefusals, refusals, successCost, firstRefusal}
+use Rattle.model.specs.Calls.{Test, _when_, cardTests, specOf, firstOf, answerOf, answer}
 use Rattle.model.specs.Listing.{printed, printedFor}
 use Rattle.laws.specs.FirstRefusal.{first-hit, first-skip}
 use Rattle.theory.specs.Outcomes.{planner-refused}
@@ -27,37 +26,37 @@ use Rattle.theory.specs.Outcomes.{planner-refused}
 abbrev pub bytesRead : ℕ
 bytesRead = loadPlace 200 1024 + 1
 
--- Of some refusals the first that applies is the same one by two tests.
-record SameRefusal (f g : Refusal → Bool) (xs : List Refusal) : Type 0 where
+-- Of two lists of tests the first that applies gives the same refusal.
+record SameRefusal (ts us : List Test) : Type 0 where
   refusal : Refusal
-  one : firstRefusal f xs (Cost 0) ≡ Refused refusal
-  other : firstRefusal g xs (Cost 0) ≡ Refused refusal
+  one : firstOf ts (Cost 0) ≡ Refused refusal
+  other : firstOf us (Cost 0) ≡ Refused refusal
 
-module _ {f g : Refusal → Bool} {x : Refusal} {xs : List Refusal} where
-  same-here : f x ≡ true → g x ≡ true → SameRefusal f g (x ∷ xs)
-  same-here e d = record { refusal = x; one = first-hit f xs (Cost 0) e; other = first-hit g xs (Cost 0) d }
+module _ {x : Refusal} {a b : Bool} {ts us : List Test} where
+  same-here : a ≡ true → b ≡ true → SameRefusal (x when a ∷ ts) (x when b ∷ us)
+  same-here e d = record { refusal = x; one = first-hit (x when a) ts (Cost 0) e; other = first-hit (x when b) us (Cost 0) d }
 
-  same-next : g x ≡ f x → (f x ≡ false → SameRefusal f g xs) → SameRefusal f g (x ∷ xs)
+  same-next : b ≡ a → (a ≡ false → SameRefusal ts us) → SameRefusal (x when a ∷ ts) (x when b ∷ us)
   same-next same rest =
       ⊎-elim
-      (λ (e : f x ≡ true). same-here e (same ∙ e))
-      (λ (e : f x ≡ false).
+      (λ (e : a ≡ true). same-here e (same ∙ e))
+      (λ (e : a ≡ false).
       let r = rest e in
       record {
         refusal = r .refusal;
-        one = first-skip f xs (Cost 0) e ∙ r .one;
-        other = first-skip g xs (Cost 0) (same ∙ e) ∙ r .other;
+        one = first-skip (x when a) ts (Cost 0) e ∙ r .one;
+        other = first-skip (x when b) us (Cost 0) (same ∙ e) ∙ r .other;
       })
-      (true-or-false (f x))
+      (true-or-false a)
 
 -- A card longer than any that is accepted is refused by 3, 4 or 5.
 long-card :
-    (s : List ℕ) → bytesRead ≤ length s → applies (requestOf (checkCard s)) RackSize ≡ false →
-    applies (requestOf (checkCard s)) SlotCount ≡ false → applies (requestOf (checkCard s)) CardLength ≡ true
-unfolding applies requestOf allOf cardLength
+    (s : List ℕ) → bytesRead ≤ length s → not (rackNumber (instanceOf s .modules) && rackNumber (instanceOf s .topStep)) ≡ false →
+    ltb 1024 (instanceOf s .slots) ≡ false → not (eqb (length s) (cardLength (instanceOf s))) ≡ true
+unfolding cardLength
 long-card s long rack slots =
     let i = instanceOf s in
-    let top = and-left (rackNumber (i .topStep)) true (and-right (rackNumber (i .modules)) _ (not-false _ rack)) in
+    let top = and-right (rackNumber (i .modules)) _ (not-false _ rack) in
     let most = leb-true (i .topStep) 200 (and-right (leb 1 (i .topStep)) (leb (i .topStep) 200) top) in
     let few = ltb-false 1024 (i .slots) slots in
     ap not (ne-eqb (length s) (loadPlace (i .topStep) (i .slots)) (omega arith))
@@ -70,40 +69,35 @@ module _ (x : List ℕ) (long : bytesRead ≤ length x) where
   front-long : bytesRead ≤ length front
   front-long = omega (arith, length-take-le bytesRead x long)
 
-  -- Refusals 1 to 4 see the head of a card alone.
-  same-mark : applies (requestOf (checkCard front)) NotACard ≡ applies (requestOf (checkCard x)) NotACard
-  unfolding applies requestOf
-  same-mark =
-      rw (
-        le-ltb (length x) headLength (omega arith),
-        le-ltb (length front) headLength (omega (arith, front-long)),
-        take-take versionPlace bytesRead x (omega arith),
-      )
-
-  same-version : applies (requestOf (checkCard front)) Version ≡ applies (requestOf (checkCard x)) Version
-  unfolding applies requestOf
-  same-version = rw (little-take 2 bytesRead x versionPlace (omega arith))
-
-  same-rack : applies (requestOf (checkCard front)) RackSize ≡ applies (requestOf (checkCard x)) RackSize
-  unfolding applies requestOf instanceOf
+  -- Refusals 3 and 4 see the head of a card alone.
+  same-rack :
+      not (rackNumber (instanceOf front .modules) && rackNumber (instanceOf front .topStep)) ≡
+      not (rackNumber (instanceOf x .modules) && rackNumber (instanceOf x .topStep))
+  unfolding instanceOf
   same-rack = rw (little-take 1 bytesRead x modulesPlace (omega arith), little-take 1 bytesRead x topStepPlace (omega arith))
 
-  same-slots : applies (requestOf (checkCard front)) SlotCount ≡ applies (requestOf (checkCard x)) SlotCount
-  unfolding applies requestOf instanceOf
+  same-slots : ltb 1024 (instanceOf front .slots) ≡ ltb 1024 (instanceOf x .slots)
+  unfolding instanceOf
   same-slots = rw (little-take 2 bytesRead x slotsPlace (omega arith))
 
   -- The input and its front are refused with the same number.
-  long-refused : SameRefusal (applies (requestOf (checkCard x))) (applies (requestOf (checkCard front))) cardRefusals
+  long-refused : SameRefusal (cardTests x) (cardTests front)
+  unfolding cardTests
   long-refused =
-      same-next same-mark λ _.
-      same-next same-version λ _.
+      same-next
+      (rw (
+        le-ltb (length x) headLength (omega arith),
+        le-ltb (length front) headLength (omega (arith, front-long)),
+        take-take versionPlace bytesRead x (omega arith),
+      )) λ _.
+      same-next (rw (little-take 2 bytesRead x versionPlace (omega arith))) λ _.
       same-next same-rack λ rack.
       same-next same-slots λ slots.
       same-here (long-card x long rack slots) (long-card front front-long (same-rack ∙ rack) (same-slots ∙ slots))
 
 -- What follows the first 2,870 bytes is without effect on what the program prints.
 pub long-printed : (x : List ℕ) → bytesRead ≤ length x → printed x ≡ printed (take bytesRead x)
-unfolding printed printedFor answer refusals successCost
+unfolding printed printedFor answer answerOf specOf
 long-printed x long =
     let r = long-refused x long in
     let whole = planner-refused exact x (replicate 1024 0) (replicate 65536 0) (r .one) in

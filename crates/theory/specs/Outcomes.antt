@@ -1,32 +1,31 @@
 -- Planners, sheet call and marking agree (condition 2): a planner's plan makes a sheet that is marked at the planner's cost.
 use Prim.Native.Nat.{ℕ, _≤_}
 use mathlib.Core.Path.{_≡_, refl, sym, ap, _∙_}
-use mathlib.Core.Bool.{true, false}
+use mathlib.Core.Bool.{true, false, not}
 use mathlib.Core.Logic.{_↔_}
-use mathlib.Core.List.{List, [], _∷_}
+use mathlib.Core.List.{List, _∷_, _++_}
 use lib.ListN.{length, getD, take}
 use lib.Dec.{leb}
 use lib.Seq.{take-at}
 use borrow.Author.Tests.{leb-true, le-leb, le-ltb, ltb-false, eqb-true, eq-eqb, not-false}
 use Rattle.lists.specs.Tests.{every-at, every-all, or-left}
 use Rattle.model.specs.declared.Refusal.{Refusal}
-use Rattle.model.specs.declared.Refusal.the-variants.{BufferTooShort, WrongLength, EntryRange, LoadNotServed, CountList}
+use Rattle.model.specs.declared.Refusal.the-variants.{BufferTooShort, CountList}
 use Rattle.model.specs.declared.Answer.{Answer}
 use Rattle.model.specs.declared.Answer.the-variants.{Cost, Refused}
 use Rattle.model.specs.Answers.{numberOf}
-use Rattle.model.specs.Instance.{instanceOf}
+use Rattle.model.specs.Instance.{Instance, instanceOf}
 use Rattle.model.specs.Sheets.{serves, sheetCost}
-use Rattle.model.specs.Plans.{sheetOf, planCost}
-use Rattle.model.specs.Planners.{Planner, exact, coarse, listed, workBytes, plannedBy, plannedCost}
-use Rattle.model.specs.HandedIn.{plan, sheet, rightLength, entriesInRange, loadsServed, countsInRules}
-use Rattle.model.specs.Calls.{checkCard, planShow, makeSheet, markSheet, onCard, handedTo, requestOf}
+use Rattle.model.specs.Plans.{sheetOf, planCost, planInRack}
+use Rattle.model.specs.Planners.{Planner, exact, coarse, listed, workBytes, keepsList, plannedBy, plannedCost}
+use Rattle.model.specs.Calls.{Test, _when_, checkCard, planShow, makeSheet, markSheet, listTests, specOf}
 use Rattle.model.specs.Calls.{Buffer, planBuffer, workBuffer, sheetBuffer, sheetBytes, buffersOf, anyShort}
-use Rattle.model.specs.Calls.{applies, plannerRefusals, refusals, firstRefusal, successCost, answer, Accepted}
+use Rattle.model.specs.Calls.{firstOf, answerOf, answer, Accepted}
 use Rattle.model.specs.Calls.{atExit, buffersAtExit, planAtExit, workAtExit, sheetAtExit}
 use Rattle.model.specs.Promises.{KeepsRules}
 use Rattle.laws.specs.AnswerNumber.{number-zero}
 use Rattle.laws.specs.FirstRefusal.{first-passed}
-use Rattle.laws.specs.OnCard.{on-card-refused, on-card-passed, on-card-accepted}
+use Rattle.laws.specs.OnCard.{on-card-refused, on-card-passed, on-card-accepted, on-card-cost}
 use Rattle.theory.specs.Hypotheses.{PlanFits}
 use Rattle.theory.specs.SheetLaws.{serves-parts, sheet-length, plan-sheet-serves}
 use Rattle.theory.specs.Condition3.{planned-fits, accepted-plannable}
@@ -40,93 +39,71 @@ written-taken b k e size = rw e (take-at (b .writes) _ k size)
 
 -- Marking a sheet.
 module _ (c s : List ℕ) where
-  -- Marking that answers a cost is on an accepted card.
-  marked-on : {n : ℕ} → answer (markSheet c s) ≡ Cost n → Accepted c
-  unfolding answer requestOf refusals
-  marked-on = on-card-accepted c _ _ _ _ _
+  -- Marking that answers a cost is of a sheet that serves, on an accepted card.
+  marked-serves : {n : ℕ} → answer (markSheet c s) ≡ Cost n → Accepted c × (serves (instanceOf c) s ≡ true)
+  unfolding answer answerOf specOf
+  marked-serves e =
+      let (given, own) = on-card-cost c _ _ e in
+      let size = first-passed _ _ _ own in
+      let entries = first-passed _ _ _ (size .1) in
+      let light = first-passed _ _ _ (entries .1) in
+      (given, serves-parts (instanceOf c) s .1 (not-false _ (size .0), not-false _ (entries .0), not-false _ (light .0)))
 
-  module _ (given : Accepted c) where
-    -- On an accepted card the tests that remain are the three of `serves`.
-    pub mark-tests :
-        answer (markSheet c s) ≡
-        firstRefusal (applies (onCard c [] (sheet s))) (WrongLength ∷ EntryRange ∷ LoadNotServed ∷ []) (Cost (sheetCost (instanceOf c) s))
-    unfolding answer requestOf refusals successCost
-    mark-tests = on-card-passed c _ _ _ _ _ given
+  -- A sheet that serves is marked with its cost on an accepted card.
+  serves-marked : Accepted c → serves (instanceOf c) s ≡ true → answer (markSheet c s) ≡ Cost (sheetCost (instanceOf c) s)
+  unfolding answer answerOf specOf firstOf
+  serves-marked given e =
+      let (size, entries, light) = serves-parts (instanceOf c) s .0 e in on-card-passed c _ _ given ∙ rw (size, entries, light)
 
-    -- A sheet that is marked with a cost serves.
-    marked-serves : {n : ℕ} → answer (markSheet c s) ≡ Cost n → serves (instanceOf c) s ≡ true
-    unfolding applies rightLength entriesInRange loadsServed
-    marked-serves e =
-        let size = first-passed _ _ _ (sym mark-tests ∙ e) in
-        let entries = first-passed _ _ _ (size .1) in
-        let light = first-passed _ _ _ (entries .1) in
-        serves-parts (instanceOf c) s .1 (not-false _ (size .0), not-false _ (entries .0), not-false _ (light .0))
-
-    -- A sheet that serves is marked with its cost.
-    serves-marked : serves (instanceOf c) s ≡ true → answer (markSheet c s) ≡ Cost (sheetCost (instanceOf c) s)
-    unfolding firstRefusal applies rightLength entriesInRange loadsServed
-    serves-marked e = let (size, entries, light) = serves-parts (instanceOf c) s .0 e in mark-tests ∙ rw (size, entries, light)
-
-    -- Marking on an accepted card gives the sheet's cost exactly if the sheet serves.
-    pub mark-accepts : answer (markSheet c s) ≡ Cost (sheetCost (instanceOf c) s) ↔ serves (instanceOf c) s ≡ true
-    mark-accepts = (marked-serves, serves-marked)
+  -- Marking on an accepted card gives the sheet's cost exactly if the sheet serves.
+  pub mark-accepts : Accepted c → answer (markSheet c s) ≡ Cost (sheetCost (instanceOf c) s) ↔ serves (instanceOf c) s ≡ true
+  mark-accepts given = (λ e. marked-serves e .1, serves-marked given)
 
   -- Marking gives number 0 exactly if the card is accepted and the sheet serves.
   pub mark-number : numberOf (answer (markSheet c s)) ≡ 0 ↔ (Accepted c × (serves (instanceOf c) s ≡ true))
-  mark-number = (
-    λ e. let a = number-zero _ e in (marked-on a, marked-serves (marked-on a) a),
-    λ (given, e). ap numberOf (serves-marked given e),
-  )
+  mark-number = (λ e. marked-serves (number-zero _ e), λ (given, e). ap numberOf (serves-marked given e))
 
 -- Making the sheet of a plan.
 module _ (c p s : List ℕ) where
   -- The sheet buffer of the sheet call at exit.
   pub sheet-at-exit : sheetAtExit (makeSheet c p s) ≡ atExit (answer (makeSheet c p s)) (sheetBuffer (instanceOf c) p s)
-  unfolding sheetAtExit buffersAtExit buffersOf
+  unfolding sheetAtExit buffersAtExit specOf
   sheet-at-exit = refl
 
   -- A sheet call that answers a cost is on an accepted card.
   pub made-on : {n : ℕ} → answer (makeSheet c p s) ≡ Cost n → Accepted c
-  unfolding answer requestOf refusals
-  made-on = on-card-accepted c _ _ _ _ _
+  unfolding answer answerOf specOf
+  made-on = on-card-accepted c _ _
 
-  module _ (given : Accepted c) where
-    -- On an accepted card the refusals that the sheet call adds decide.
-    pub make-tests :
-        answer (makeSheet c p s) ≡
-        firstRefusal (applies (onCard c (buffersOf (makeSheet c p s)) (plan p)))
-        (BufferTooShort ∷ WrongLength ∷ EntryRange ∷ LoadNotServed ∷ []) (Cost (planCost (instanceOf c) p))
-    unfolding answer requestOf refusals successCost
-    make-tests = on-card-passed c _ _ _ _ _ given
+  -- Where the sheet call answers a cost, its buffer has at least the bytes asked for.
+  pub made-room : {n : ℕ} → answer (makeSheet c p s) ≡ Cost n → sheetBytes (instanceOf c) ≤ length s
+  unfolding answer answerOf specOf anyShort
+  made-room e = ltb-false _ _ (or-left _ _ (first-passed _ _ _ (on-card-cost c _ _ e .1) .0))
 
-    -- Where the sheet call answers a cost, its buffer has at least the bytes asked for.
-    pub made-room : {n : ℕ} → answer (makeSheet c p s) ≡ Cost n → sheetBytes (instanceOf c) ≤ length s
-    unfolding applies buffersOf anyShort
-    made-room e = ltb-false _ _ (or-left _ _ (first-passed _ _ _ (sym make-tests ∙ e) .0))
+  -- Where the sheet call answers a cost, the plan has a sheet that can be written.
+  pub made-fits : {n : ℕ} → answer (makeSheet c p s) ≡ Cost n → PlanFits (instanceOf c) p
+  unfolding answer answerOf specOf planInRack
+  made-fits e =
+      let (given, own) = on-card-cost c _ _ e in
+      let size = first-passed _ _ _ (first-passed _ _ _ own .1) in
+      let entries = first-passed _ _ _ (size .1) in
+      let light = first-passed _ _ _ (entries .1) in
+      record {
+        steps = accepted-plannable c given .steps;
+        slotwise = eqb-true _ _ (not-false _ (size .0));
+        in-rack = λ t h. leb-true _ _ (every-at (instanceOf c .slots) _ (not-false _ (entries .0)) t h);
+        served = not-false _ (light .0);
+      }
 
-    -- Where the sheet call answers a cost, the plan has a sheet that can be written.
-    pub made-fits : {n : ℕ} → answer (makeSheet c p s) ≡ Cost n → PlanFits (instanceOf c) p
-    unfolding applies rightLength entriesInRange loadsServed
-    made-fits e =
-        let room = first-passed _ _ _ (sym make-tests ∙ e) in
-        let size = first-passed _ _ _ (room .1) in
-        let entries = first-passed _ _ _ (size .1) in
-        let light = first-passed _ _ _ (entries .1) in
-        record {
-          steps = accepted-plannable c given .steps;
-          slotwise = eqb-true _ _ (not-false _ (size .0));
-          in-rack = λ t h. leb-true _ _ (every-at (instanceOf c .slots) _ (not-false _ (entries .0)) t h);
-          served = not-false _ (light .0);
-        }
-
-    -- Where the plan has a sheet that can be written and the buffer is long enough, the sheet call answers the plan's cost.
-    fits-made :
-        PlanFits (instanceOf c) p → sheetBytes (instanceOf c) ≤ length s → answer (makeSheet c p s) ≡ Cost (planCost (instanceOf c) p)
-    unfolding firstRefusal applies rightLength entriesInRange loadsServed buffersOf anyShort
-    fits-made fit room =
-        let i = instanceOf c in
-        let rack = every-all (i .slots) (λ t. leb (getD p t 0) (i .modules)) (λ t h. le-leb _ _ (fit .in-rack t h)) in
-        make-tests ∙ rw (le-ltb _ _ room, eq-eqb _ _ (fit .slotwise), rack, fit .served)
+  -- Where the plan has a sheet that can be written and the buffer is long enough, the sheet call answers the plan's cost.
+  fits-made :
+      Accepted c → PlanFits (instanceOf c) p → sheetBytes (instanceOf c) ≤ length s →
+      answer (makeSheet c p s) ≡ Cost (planCost (instanceOf c) p)
+  unfolding answer answerOf specOf firstOf anyShort planInRack
+  fits-made given fit room =
+      let i = instanceOf c in
+      let rack = every-all (i .slots) (λ t. leb (getD p t 0) (i .modules)) (λ t h. le-leb _ _ (fit .in-rack t h)) in
+      on-card-passed c _ _ given ∙ rw (le-ltb _ _ room, eq-eqb _ _ (fit .slotwise), rack, fit .served)
 
   -- Where the sheet call gives number 0, the first m × T bytes of its buffer at exit are the plan's sheet.
   pub sheet-written :
@@ -139,12 +116,11 @@ module _ (c p s : List ℕ) where
   pub made-marked :
       numberOf (answer (makeSheet c p s)) ≡ 0 →
       answer (markSheet c (take (sheetBytes (instanceOf c)) (sheetAtExit (makeSheet c p s)))) ≡ answer (makeSheet c p s)
-  unfolding planCost successCost
+  unfolding planCost specOf
   made-marked e =
       let made = succeeded (makeSheet c p s) e in
-      let fit = made-fits (made-on made) made in
       rw (sheet-written e)
-      (serves-marked c (sheetOf (instanceOf c) p) (made-on made) (plan-sheet-serves (instanceOf c) p fit) ∙ sym made)
+      (serves-marked c (sheetOf (instanceOf c) p) (made-on made) (plan-sheet-serves (instanceOf c) p (made-fits made)) ∙ sym made)
 
 -- The sheet call accepts the plan q with the buffer s, and marking accepts the sheet that it writes, both with the answer a.
 abbrev Marked : (c q s : List ℕ) → Answer → Type 0
@@ -167,83 +143,73 @@ module _ (k : Planner) (c : List ℕ) (given : Accepted c) (keeps : KeepsRules k
       let made = fits-made c (plannedBy k (instanceOf c)) s given best-fits room in
       (made, made-marked c (plannedBy k (instanceOf c)) s (ap numberOf made) ∙ made)
 
--- Of the refusals that a planner adds 18 comes before 10; it never applies to a planner that has no list.
-planner-refusals :
-    (k : Planner) (c : List ℕ) (bs : List Buffer) (a : Answer) →
-    let test = applies (onCard c bs (handedTo k)) in
-    firstRefusal test (plannerRefusals k) a ≡ firstRefusal test (CountList ∷ BufferTooShort ∷ []) a
-unfolding firstRefusal applies
-planner-refusals exact c bs a = refl
-planner-refusals coarse c bs a = refl
-planner-refusals (listed l r) c bs a = refl
+-- A planner's tests on an accepted card: 18, which never applies to a planner that has no list, and then 10.
+planner-list :
+    (k : Planner) (i : Instance) (ts : List Test) (a : Answer) →
+    firstOf (listTests k i ++ ts) a ≡ firstOf (CountList when not (keepsList k i) ∷ ts) a
+unfolding firstOf
+planner-list exact i ts a = refl
+planner-list coarse i ts a = refl
+planner-list (listed l r) i ts a = refl
 
 -- The planners.
 module _ (k : Planner) (c p w : List ℕ) where
   -- The plan buffer of a planner at exit.
   pub plan-at-exit : planAtExit (planShow k c p w) ≡ atExit (answer (planShow k c p w)) (planBuffer k (instanceOf c) p)
-  unfolding planAtExit buffersAtExit buffersOf
+  unfolding planAtExit buffersAtExit specOf
   plan-at-exit = refl
 
   -- The work buffer of a planner at exit.
   pub work-at-exit : workAtExit (planShow k c p w) ≡ atExit (answer (planShow k c p w)) (workBuffer k (instanceOf c) w)
-  unfolding workAtExit buffersAtExit buffersOf
+  unfolding workAtExit buffersAtExit specOf
   work-at-exit = refl
 
   -- A planner that answers a cost is on an accepted card.
   pub planner-on : {n : ℕ} → answer (planShow k c p w) ≡ Cost n → Accepted c
-  unfolding answer requestOf refusals
-  planner-on = on-card-accepted c _ _ _ _ _
+  unfolding answer answerOf specOf
+  planner-on = on-card-accepted c _ _
 
   -- On a card that is refused a planner is refused too, with the same number.
   pub planner-refused : {x : Refusal} → answer (checkCard c) ≡ Refused x → answer (planShow k c p w) ≡ Refused x
-  unfolding answer requestOf refusals
-  planner-refused = on-card-refused c _ _ _ _ _
-
-  -- On an accepted card the refusals that a planner adds decide.
-  planner-tests :
-      Accepted c →
-      answer (planShow k c p w) ≡
-      firstRefusal (applies (onCard c (buffersOf (planShow k c p w)) (handedTo k))) (CountList ∷ BufferTooShort ∷ [])
-      (Cost (plannedCost k (instanceOf c)))
-  unfolding answer requestOf refusals successCost
-  planner-tests given = on-card-passed c _ _ _ _ _ given ∙ planner-refusals k c _ _
+  unfolding answer answerOf specOf
+  planner-refused = on-card-refused c _ _
 
   -- A planner that answers a cost keeps the rules.
   pub planner-keeps : {n : ℕ} → answer (planShow k c p w) ≡ Cost n → KeepsRules k (instanceOf c)
-  unfolding applies
-  planner-keeps e = not-false _ (first-passed _ _ _ (sym (planner-tests (planner-on e)) ∙ e) .0)
+  unfolding answer answerOf specOf
+  planner-keeps e = not-false _ (first-passed _ _ _ (sym (planner-list k _ _ _) ∙ on-card-cost c _ _ e .1) .0)
 
   -- Where a planner answers a cost, its buffers have at least the bytes asked for.
   pub planner-room :
       {n : ℕ} → answer (planShow k c p w) ≡ Cost n → (instanceOf c .slots ≤ length p) × (workBytes k (instanceOf c) ≤ length w)
-  unfolding applies buffersOf anyShort
+  unfolding answer answerOf specOf anyShort
   planner-room e =
-      let none = first-passed _ _ _ (first-passed _ _ _ (sym (planner-tests (planner-on e)) ∙ e) .1) .0 in
+      let none = first-passed _ _ _ (first-passed _ _ _ (sym (planner-list k _ _ _) ∙ on-card-cost c _ _ e .1) .1) .0 in
       let first = or-left _ _ none in
       (ltb-false _ _ first, ltb-false _ _ (or-left _ _ (rw first at none)))
 
   -- On an accepted card a list against the rules is refused by 18, whatever the buffers are.
   pub planner-unlisted :
-      Accepted c → countsInRules (instanceOf c) (handedTo k) ≡ false → answer (planShow k c p w) ≡ Refused CountList
-  unfolding firstRefusal applies
-  planner-unlisted given against = planner-tests given ∙ rw against
+      Accepted c → keepsList k (instanceOf c) ≡ false → answer (planShow k c p w) ≡ Refused CountList
+  unfolding answer answerOf specOf firstOf
+  planner-unlisted given against = on-card-passed c _ _ given ∙ planner-list k _ _ _ ∙ rw against
 
   -- The answer on an accepted card of a planner that keeps the rules, by the buffers.
   module _ (given : Accepted c) (keeps : KeepsRules k (instanceOf c)) where
     pub planner-short : anyShort (buffersOf (planShow k c p w)) ≡ true → answer (planShow k c p w) ≡ Refused BufferTooShort
-    unfolding firstRefusal applies
-    planner-short short = planner-tests given ∙ rw (keeps, short)
+    unfolding answer answerOf specOf firstOf
+    planner-short short = on-card-passed c _ _ given ∙ planner-list k _ _ _ ∙ rw (keeps, short)
 
     pub planner-cost :
         anyShort (buffersOf (planShow k c p w)) ≡ false → answer (planShow k c p w) ≡ Cost (plannedCost k (instanceOf c))
-    unfolding firstRefusal applies
-    planner-cost room = planner-tests given ∙ rw (keeps, room)
+    unfolding answer answerOf specOf firstOf
+    planner-cost room = on-card-passed c _ _ given ∙ planner-list k _ _ _ ∙ rw (keeps, room)
 
     -- The planner answers its cost wherever the buffers have the bytes asked for.
     pub planner-answer :
         instanceOf c .slots ≤ length p → workBytes k (instanceOf c) ≤ length w →
         answer (planShow k c p w) ≡ Cost (plannedCost k (instanceOf c))
-    unfolding buffersOf anyShort
+    unfolding specOf anyShort
     planner-answer room work = planner-cost (rw (le-ltb _ _ room, le-ltb _ _ work))
 
     -- The card is planned wherever the buffers have the bytes asked for.
@@ -263,7 +229,7 @@ module _ (k : Planner) (c p w : List ℕ) where
   pub planner-marked :
       numberOf (answer (planShow k c p w)) ≡ 0 → (s : List ℕ) → sheetBytes (instanceOf c) ≤ length s →
       Marked c (take (instanceOf c .slots) (planAtExit (planShow k c p w))) s (answer (planShow k c p w))
-  unfolding successCost
+  unfolding specOf
   planner-marked e s room =
       let planned = succeeded (planShow k c p w) e in
       rw (plan-written e, planned) (sheet-accepted k c (planner-on planned) (planner-keeps planned) s room)

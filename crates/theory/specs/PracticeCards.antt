@@ -9,7 +9,7 @@ use Rattle.model.specs.Answers.{numberOf}
 use Rattle.model.specs.Instance.{instanceOf, cardBytes}
 use Rattle.model.specs.Planners.{Planner}
 use Rattle.model.specs.Practice.{practiceShow, longestPractice}
-use Rattle.model.specs.Calls.{practiceCard, buffersOf, answer, Accepted}
+use Rattle.model.specs.Calls.{practiceCard, specOf, answer, Accepted}
 use Rattle.model.specs.Calls.{atExit, buffersAtExit, cardAtExit}
 use Rattle.model.specs.Promises.{frontCard, KeepsRules, AlwaysPlanned}
 use Rattle.laws.specs.Encoding.{card-bytes-length, front-card}
@@ -30,7 +30,7 @@ module _ (start : ℕ) where
   module _ (area : List ℕ) where
     -- After number 0 the card is what stands at the front of the area.
     pub practice-front : numberOf (answer (practiceCard start area)) ≡ 0 → frontCard (cardAtExit (practiceCard start area)) ≡ practised
-    unfolding cardAtExit buffersAtExit buffersOf atExit
+    unfolding cardAtExit buffersAtExit specOf atExit
     practice-front e =
         rw (succeeded (practiceCard start area) e) (front-card (practiceShow start) (practice-in-order start) _)
 

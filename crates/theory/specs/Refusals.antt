@@ -1,85 +1,85 @@
 -- The answer of every call: the first refusal of its list that applies, which is the lowest one where no paragraph of document 02 sets an
 -- order, or, where none applies, the cost.
-use Prim.Native.Nat.{ℕ, zero, suc, _+_, _-_, _≤_, _<_}
+use Prim.Native.Nat.{ℕ, _+_, _-_, _≤_, _<_}
 use mathlib.Core.Path.{_≡_, refl, sym, ap, _∙_}
-use mathlib.Core.Bool.{Bool, true, false, not, true≢false}
-use mathlib.Core.Logic.{_↔_, ⊎-elim}
+use mathlib.Core.Bool.{true, false, not, true≢false}
+use mathlib.Core.Logic.{_⊎_, inl, inr, ⊎-elim}
 use mathlib.Core.List.{List, [], _∷_, _++_, map, List·Memᴰ, List·Memᴰ·head, List·Memᴰ·not-nil}
 use mathlib.Core.List.{List·Memᴰ·cases-cons, Memᴰ·map, Memᴰ·append-right}
 use native.Mathlib.Nat.{le-refl, le-of-lt}
 use native.Mathlib.Omega.{arith}
-use lib.ListN.{length, getD, drop}
+use lib.ListN.{length, getD}
 use lib.Dec.{ltb, eqb}
 use borrow.Author.Tests.{ltb-true, eqb-false, not-true}
 use Rattle.lists.specs.Numbers.{true-or-false}
 use Rattle.lists.specs.Tests.{every, every-at, allOf}
-use Rattle.lists.specs.Members.{InOrder, next, rising-in-order, all-of-at}
+use Rattle.lists.specs.Members.{InOrder, next, in-order-at, rising-in-order, all-of-at}
 use Rattle.model.specs.declared.Refusal.{Refusal}
+use Rattle.model.specs.declared.Seat.{Seat}
+use Rattle.model.specs.declared.Sitting.{Sitting}
 use Rattle.model.specs.declared.Answer.{Answer}
 use Rattle.model.specs.declared.Answer.the-variants.{Cost, Refused}
 use Rattle.model.specs.Answers.{refusalNumber, numberOf}
 use Rattle.model.specs.Planners.{exact, coarse, listed}
 use Rattle.model.specs.Calls.{Call, checkCard, runningCost, planShow, makeSheet, markSheet, roundCount, practiceCard, catalogueTable}
-use Rattle.model.specs.Calls.{explainSheet, actIn, ownOrder, actRefusals, actOwnOrder}
-use Rattle.model.specs.Acts.{Act, openSitting, seatCandidate, closeSitting, submitSheet, readLeast, readLowest, readUsed}
-use Rattle.model.specs.Calls.{requestOf, applies, refusals, firstRefusal, successCost, answer, Buffer, buffersOf, atExit, lent, buffersAtExit}
+use Rattle.model.specs.Calls.{explainSheet, actIn}
+use Rattle.model.specs.Acts.{openSitting, seatCandidate, closeSitting, submitSheet, readLeast, readLowest, readUsed}
+use Rattle.model.specs.Calls.{Test, _when_, cardTests, actSpec, specOf, firstOf, answerOf, answer, Buffer, atExit, lent, buffersAtExit}
 use Rattle.laws.specs.AnswerNumber.{number-zero}
 use Rattle.laws.specs.FirstRefusal.{first-hit, first-skip, first-passed, first-through}
+
+-- The numbers of a call's tests, in the order in which they are made.
+abbrev pub testNumbers : Call → List ℕ
+testNumbers c = map (λ t. refusalNumber (t .refusal)) (specOf c .tests)
+
+-- The calls for which a paragraph of document 02 sets an order among refusals that is not that of their numbers: 'that order holds
+-- instead of the lowest number, in condition 1 too' (02 §1). With a list 18 stands before 10, of a practice card 14 before 10, of a
+-- submission 17 before 11.
+pub data OwnOrder : Call → Type 0 where
+  list-first : (l : List ℕ) (r : ℕ) (c p w : List ℕ) → OwnOrder (planShow (listed l r) c p w)
+  start-first : (s : ℕ) (c : List ℕ) → OwnOrder (practiceCard s c)
+  allowance-first : (z : Sitting) (xs : List Seat) (d : ℕ) (c s : List ℕ) → OwnOrder (actIn z xs (submitSheet d c s))
 
 -- A list that rises at each place is in order.
 ascends : (l : List ℕ) → every (length l - 1) (λ j. ltb (getD l j 0) (getD l (j + 1) 0)) ≡ true → InOrder _<_ l
 ascends l e = rising-in-order l (λ j h. ltb-true _ _ (every-at (length l - 1) _ e j (omega arith)))
 
--- No list in order begins with a number that is not below the next one.
-falls : {a b : ℕ} {l : List ℕ} → b ≤ a → InOrder _<_ (a ∷ b ∷ l) → ⊥
-falls h (next above order) = let less = above _ (List·Memᴰ·head refl) in absurd (omega arith)
+-- The tests of every other call stand in the order of their numbers.
+pub refusals-ascend : (c : Call) → OwnOrder c ⊎ InOrder _<_ (testNumbers c)
+unfolding specOf actSpec cardTests every
+refusals-ascend (checkCard c) = inr (ascends _ refl)
+refusals-ascend (runningCost c n l) = inr (ascends _ refl)
+refusals-ascend (planShow exact c p w) = inr (ascends _ refl)
+refusals-ascend (planShow coarse c p w) = inr (ascends _ refl)
+refusals-ascend (planShow (listed l r) c p w) = inl (list-first l r c p w)
+refusals-ascend (makeSheet c p s) = inr (ascends _ refl)
+refusals-ascend (markSheet c s) = inr (ascends _ refl)
+refusals-ascend (roundCount n m) = inr (ascends _ refl)
+refusals-ascend (practiceCard s c) = inl (start-first s c)
+refusals-ascend (catalogueTable q f) = inr (ascends _ refl)
+refusals-ascend (explainSheet c s w) = inr (ascends _ refl)
+refusals-ascend (actIn z xs (openSitting d a c p w)) = inr (ascends _ refl)
+refusals-ascend (actIn z xs (seatCandidate d c)) = inr (ascends _ refl)
+refusals-ascend (actIn z xs (closeSitting d)) = inr (ascends _ refl)
+refusals-ascend (actIn z xs (submitSheet d c s)) = inl (allowance-first z xs d c s)
+refusals-ascend (actIn z xs (readLeast d)) = inr (ascends _ refl)
+refusals-ascend (actIn z xs (readLowest d c)) = inr (ascends _ refl)
+refusals-ascend (actIn z xs (readUsed d)) = inr (ascends _ refl)
 
--- What follows some elements of a list in order is in order.
-beyond : (n : ℕ) (l : List ℕ) → InOrder _<_ l → InOrder _<_ (drop n l)
-beyond zero l order = order
-beyond (suc n) [] order = order
-beyond (suc n) (x ∷ l) (next above order) = beyond n l order
+-- No list in order has a number that is not below the next one.
+falls : (k : ℕ) (l : List ℕ) → k + 1 < length l → getD l (k + 1) 0 ≤ getD l k 0 → InOrder _<_ l → ⊥
+falls k l h down order = let less = in-order-at order 0 k (k + 1) (omega arith) h in omega arith
 
--- The refusals of an act stand in the order of their numbers exactly if it is not a submission.
-act-refusals-ascend : (a : Act) → actOwnOrder a ≡ false ↔ InOrder _<_ (map refusalNumber (actRefusals a))
-unfolding actRefusals every actOwnOrder
-act-refusals-ascend (openSitting d a c p w) = (λ e. ascends _ refl, λ order. refl)
-act-refusals-ascend (seatCandidate d c) = (λ e. ascends _ refl, λ order. refl)
-act-refusals-ascend (closeSitting d) = (λ e. ascends _ refl, λ order. refl)
-act-refusals-ascend (submitSheet d c s) = (λ e. absurd (true≢false e), λ order. absurd (falls (omega arith) (beyond 10 _ order)))
-act-refusals-ascend (readLeast d) = (λ e. ascends _ refl, λ order. refl)
-act-refusals-ascend (readLowest d c) = (λ e. ascends _ refl, λ order. refl)
-act-refusals-ascend (readUsed d) = (λ e. ascends _ refl, λ order. refl)
+-- And those of these calls do not.
+pub own-order-falls : {c : Call} → OwnOrder c → InOrder _<_ (testNumbers c) → ⊥
+unfolding specOf actSpec cardTests
+own-order-falls (list-first l r c p w) = falls 8 _ (omega arith) (omega arith)
+own-order-falls (start-first s c) = falls 0 _ (omega arith) (omega arith)
+own-order-falls (allowance-first z xs d c s) = falls 10 _ (omega arith) (omega arith)
 
--- The refusals of a call stand in the order of their numbers exactly if no paragraph of document 02 sets another order for it.
-pub refusals-ascend : (c : Call) → ownOrder c ≡ false ↔ InOrder _<_ (map refusalNumber (refusals c))
-unfolding refusals every ownOrder
-refusals-ascend (checkCard c) = (λ e. ascends _ refl, λ order. refl)
-refusals-ascend (runningCost c n l) = (λ e. ascends _ refl, λ order. refl)
-refusals-ascend (planShow exact c p w) = (λ e. ascends _ refl, λ order. refl)
-refusals-ascend (planShow coarse c p w) = (λ e. ascends _ refl, λ order. refl)
-refusals-ascend (planShow (listed l r) c p w) = (λ e. absurd (true≢false e), λ order. absurd (falls (omega arith) (beyond 8 _ order)))
-refusals-ascend (makeSheet c p s) = (λ e. ascends _ refl, λ order. refl)
-refusals-ascend (markSheet c s) = (λ e. ascends _ refl, λ order. refl)
-refusals-ascend (roundCount n m) = (λ e. ascends _ refl, λ order. refl)
-refusals-ascend (catalogueTable q f) = (λ e. ascends _ refl, λ order. refl)
-refusals-ascend (explainSheet c s w) = (λ e. ascends _ refl, λ order. refl)
-refusals-ascend (actIn z xs a) = act-refusals-ascend a
-refusals-ascend (practiceCard s c) = (λ e. absurd (true≢false e), λ order. absurd (falls (omega arith) order))
-
--- Refusal 9 stands in no act's list, and in no call's.
-nine-unlisted-act : (a : Act) → allOf (λ n. not (eqb n 9)) (map refusalNumber (actRefusals a)) ≡ true
-unfolding actRefusals allOf
-nine-unlisted-act (openSitting d a c p w) = refl
-nine-unlisted-act (seatCandidate d c) = refl
-nine-unlisted-act (closeSitting d) = refl
-nine-unlisted-act (submitSheet d c s) = refl
-nine-unlisted-act (readLeast d) = refl
-nine-unlisted-act (readLowest d c) = refl
-nine-unlisted-act (readUsed d) = refl
-
-nine-unlisted : (c : Call) → allOf (λ n. not (eqb n 9)) (map refusalNumber (refusals c)) ≡ true
-unfolding refusals allOf
+-- Refusal 9 stands in no call's list.
+nine-unlisted : (c : Call) → allOf (λ n. not (eqb n 9)) (testNumbers c) ≡ true
+unfolding specOf actSpec cardTests allOf
 nine-unlisted (checkCard c) = refl
 nine-unlisted (runningCost c n l) = refl
 nine-unlisted (planShow exact c p w) = refl
@@ -91,75 +91,80 @@ nine-unlisted (roundCount n m) = refl
 nine-unlisted (practiceCard s c) = refl
 nine-unlisted (catalogueTable q f) = refl
 nine-unlisted (explainSheet c s w) = refl
-nine-unlisted (actIn z xs a) = nine-unlisted-act a
+nine-unlisted (actIn z xs (openSitting d a c p w)) = refl
+nine-unlisted (actIn z xs (seatCandidate d c)) = refl
+nine-unlisted (actIn z xs (closeSitting d)) = refl
+nine-unlisted (actIn z xs (submitSheet d c s)) = refl
+nine-unlisted (actIn z xs (readLeast d)) = refl
+nine-unlisted (actIn z xs (readLowest d c)) = refl
+nine-unlisted (actIn z xs (readUsed d)) = refl
 
-module _ (test : Refusal → Bool) where
-  -- The refusal that is found applies, and stands in the list behind refusals that do not.
-  first-found :
-      (xs : List Refusal) (n : ℕ) {x : Refusal} → firstRefusal test xs (Cost n) ≡ Refused x →
-      (before : List Refusal) × (after : List Refusal) × (xs ≡ before ++ (x ∷ after)) × (test x ≡ true) ×
-      ((y : Refusal) → List·Memᴰ y before → test y ≡ false)
-  unfolding firstRefusal
-  first-found [] n {x} e = let none : _≡_ {A = ℕ} 0 1 = cc in absurd (omega arith)
-  first-found (z ∷ zs) n {x} e =
-      ⊎-elim
-      (λ (t : test z ≡ true).
-      let same : z ≡ x = cc (first-hit test zs (Cost n) t) in
-      ([], zs, ap (λ w. w ∷ zs) same, ap test (sym same) ∙ t, λ y m. absurd (List·Memᴰ·not-nil m)))
-      (λ (t : test z ≡ false).
-      let (before, after, split, holds, none) = first-found zs n (sym (first-skip test zs (Cost n) t) ∙ e) in (
-        z ∷ before,
-        after,
-        ap (λ l. z ∷ l) split,
-        holds,
-        λ y m. ⊎-elim (λ (here : y ≡ z). ap test here ∙ t) (none y) (List·Memᴰ·cases-cons m),
-      ))
-      (true-or-false (test z))
+-- The test that gives a refusal applies, and stands in the list behind tests that do not.
+first-found :
+    (ts : List Test) (n : ℕ) {x : Refusal} → firstOf ts (Cost n) ≡ Refused x →
+    (before : List Test) × (after : List Test) × (ts ≡ before ++ (x when true ∷ after)) × ((t : Test) → List·Memᴰ t before → t .applies ≡ false)
+unfolding firstOf
+first-found [] n {x} e = let none : _≡_ {A = ℕ} 0 1 = cc in absurd (omega arith)
+first-found (z ∷ zs) n {x} e =
+    ⊎-elim
+    (λ (t : z .applies ≡ true).
+    let same : z .refusal ≡ x = cc (first-hit z zs (Cost n) t) in
+    ([], zs, (λ i. record { refusal = same i; applies = t i } ∷ zs), λ y m. absurd (List·Memᴰ·not-nil m)))
+    (λ (t : z .applies ≡ false).
+    let (before, after, split, none) = first-found zs n (sym (first-skip z zs (Cost n) t) ∙ e) in (
+      z ∷ before,
+      after,
+      ap (λ (l : List Test). z ∷ l) split,
+      λ y m. ⊎-elim (λ (here : y ≡ z). ap (λ (u : Test). u .applies) here ∙ t) (none y) (List·Memᴰ·cases-cons m),
+    ))
+    (true-or-false (z .applies))
 
-  -- In a list in order no refusal below the one found applies.
-  first-least :
-      (xs : List Refusal) (a : Answer) {x y : Refusal} → InOrder _<_ (map refusalNumber xs) → firstRefusal test xs a ≡ Refused x →
-      List·Memᴰ y xs → test y ≡ true → refusalNumber x ≤ refusalNumber y
-  first-least [] a order e m h = absurd (List·Memᴰ·not-nil m)
-  first-least (z ∷ zs) a {x} {y} (next above order) e m h =
-      ⊎-elim
-      (λ (t : test z ≡ true).
-      let same : x ≡ z = cc (first-hit test zs a t) in
-      ⊎-elim
-      (λ (first : y ≡ z). rw (same, first) (le-refl (refusalNumber z)))
-      (λ (later : List·Memᴰ y zs). rw same (le-of-lt (above _ (Memᴰ·map refusalNumber later))))
-      (List·Memᴰ·cases-cons m))
-      (λ (t : test z ≡ false).
-      ⊎-elim
-      (λ (first : y ≡ z). absurd (true≢false (sym h ∙ ap test first ∙ t)))
-      (λ (later : List·Memᴰ y zs). first-least zs a order (sym (first-skip test zs a t) ∙ e) later h)
-      (List·Memᴰ·cases-cons m))
-      (true-or-false (test z))
+-- In a list in order no test below the one that gives the refusal applies.
+first-least :
+    (ts : List Test) (a : Answer) {x : Refusal} {y : Test} → InOrder _<_ (map (λ t. refusalNumber (t .refusal)) ts) → firstOf ts a ≡ Refused x →
+    List·Memᴰ y ts → y .applies ≡ true → refusalNumber x ≤ refusalNumber (y .refusal)
+first-least [] a order e m h = absurd (List·Memᴰ·not-nil m)
+first-least (z ∷ zs) a {x} {y} (next above order) e m h =
+    ⊎-elim
+    (λ (t : z .applies ≡ true).
+    let same : x ≡ z .refusal = cc (first-hit z zs a t) in
+    ⊎-elim
+    (λ (first : y ≡ z). rw (same, first) (le-refl (refusalNumber (z .refusal))))
+    (λ (later : List·Memᴰ y zs). rw same (le-of-lt (above _ (Memᴰ·map (λ (t : Test). refusalNumber (t .refusal)) later))))
+    (List·Memᴰ·cases-cons m))
+    (λ (t : z .applies ≡ false).
+    ⊎-elim
+    (λ (first : y ≡ z). absurd (true≢false (sym h ∙ ap (λ (u : Test). u .applies) first ∙ t)))
+    (λ (later : List·Memᴰ y zs). first-least zs a order (sym (first-skip z zs a t) ∙ e) later h)
+    (List·Memᴰ·cases-cons m))
+    (true-or-false (z .applies))
 
-  -- Where the answer is a cost, no refusal of the list applies.
-  none-applies :
-      (xs : List Refusal) (a : Answer) {n : ℕ} {x : Refusal} → firstRefusal test xs a ≡ Cost n → List·Memᴰ x xs → test x ≡ false
-  none-applies [] a e m = absurd (List·Memᴰ·not-nil m)
-  none-applies (y ∷ ys) a {x = x} e m =
-      let (first, rest) = first-passed test ys a e in
-      ⊎-elim (λ (same : x ≡ y). ap test same ∙ first) (none-applies ys a rest) (List·Memᴰ·cases-cons m)
+-- Where the answer is a cost, no test of the list applies.
+none-applies : (ts : List Test) (a : Answer) {n : ℕ} {t : Test} → firstOf ts a ≡ Cost n → List·Memᴰ t ts → t .applies ≡ false
+none-applies [] a e m = absurd (List·Memᴰ·not-nil m)
+none-applies (y ∷ ys) a {t = t} e m =
+    let (first, rest) = first-passed y ys a e in
+    ⊎-elim (λ (same : t ≡ y). ap (λ (u : Test). u .applies) same ∙ first) (none-applies ys a rest) (List·Memᴰ·cases-cons m)
 
 module _ (c : Call) where
-  -- A refusal that is answered applies, and is the first of the call's list that does.
+  -- A refusal that is answered is that of the first of the call's tests that applies.
   pub answered-first :
       {x : Refusal} → answer c ≡ Refused x →
-      (before : List Refusal) × (after : List Refusal) × (refusals c ≡ before ++ (x ∷ after)) × (applies (requestOf c) x ≡ true) ×
-      ((y : Refusal) → List·Memᴰ y before → applies (requestOf c) y ≡ false)
-  unfolding answer
-  answered-first e = first-found (applies (requestOf c)) (refusals c) (successCost c) e
+      (before : List Test) × (after : List Test) × (specOf c .tests ≡ before ++ (x when true ∷ after)) ×
+      ((t : Test) → List·Memᴰ t before → t .applies ≡ false)
+  unfolding answer answerOf
+  answered-first e = first-found (specOf c .tests) (specOf c .cost) e
 
   -- Where no paragraph of document 02 sets an order, a refusal that is answered is the lowest of the call's that applies.
   pub lowest-least :
-      ownOrder c ≡ false → {x : Refusal} → answer c ≡ Refused x → (y : Refusal) → List·Memᴰ y (refusals c) →
-      applies (requestOf c) y ≡ true → refusalNumber x ≤ refusalNumber y
-  unfolding answer
-  lowest-least plain e y m h =
-      first-least (applies (requestOf c)) (refusals c) (Cost (successCost c)) (refusals-ascend c .0 plain) e m h
+      (OwnOrder c → ⊥) → {x : Refusal} → answer c ≡ Refused x → (t : Test) → List·Memᴰ t (specOf c .tests) →
+      t .applies ≡ true → refusalNumber x ≤ refusalNumber (t .refusal)
+  unfolding answer answerOf
+  lowest-least plain e t m h =
+      ⊎-elim
+      (λ (own : OwnOrder c). absurd (plain own))
+      (λ (order : InOrder _<_ (testNumbers c)). first-least (specOf c .tests) (Cost (specOf c .cost)) order e m h)
+      (refusals-ascend c)
 
   -- 'and 9 is never given' (02 §2): no call answers with this number.
   pub nine-never : numberOf (answer c) ≡ 9 → ⊥
@@ -168,26 +173,25 @@ module _ (c : Call) where
       go : (a : Answer) → answer c ≡ a → numberOf a ≡ 9 → ⊥
       go (Cost n) given nine = absurd (omega arith)
       go (Refused x) given nine =
-          let (before, after, split, applied, none) = answered-first given in
-          let listed : List·Memᴰ x (refusals c) = rw split (Memᴰ·append-right before (List·Memᴰ·head refl)) in
-          eqb-false (refusalNumber x) 9 (not-true _ (all-of-at _ _ (nine-unlisted c) (Memᴰ·map refusalNumber listed))) nine
+          let (before, after, split, none) = answered-first given in
+          let listed : List·Memᴰ (x when true) (specOf c .tests) = rw split (Memᴰ·append-right before (List·Memᴰ·head refl)) in
+          eqb-false (refusalNumber x) 9 (not-true _ (all-of-at _ _ (nine-unlisted c) (Memᴰ·map (λ (t : Test). refusalNumber (t .refusal)) listed))) nine
 
   -- An answer with number 0 is the cost of the call.
-  pub succeeded : numberOf (answer c) ≡ 0 → answer c ≡ Cost (successCost c)
-  unfolding answer
-  succeeded e = first-through _ (refusals c) (Cost (successCost c)) _ (number-zero _ e)
+  pub succeeded : numberOf (answer c) ≡ 0 → answer c ≡ Cost (specOf c .cost)
+  unfolding answer answerOf
+  succeeded e = first-through (specOf c .tests) (Cost (specOf c .cost)) _ (number-zero _ e)
 
-  -- Where a cost is answered, none of the call's refusals applies, and the cost is that of the call.
+  -- Where a cost is answered, none of the call's tests applies, and the cost is that of the call.
   pub accepted-none :
-      {n : ℕ} → answer c ≡ Cost n →
-      ((x : Refusal) → List·Memᴰ x (refusals c) → applies (requestOf c) x ≡ false) × (n ≡ successCost c)
-  unfolding answer
-  accepted-none e = (λ x. none-applies _ (refusals c) _ e, let full = succeeded (ap numberOf e) in cc)
+      {n : ℕ} → answer c ≡ Cost n → ((t : Test) → List·Memᴰ t (specOf c .tests) → t .applies ≡ false) × (n ≡ specOf c .cost)
+  unfolding answer answerOf
+  accepted-none e = (λ t. none-applies (specOf c .tests) _ e, let full = succeeded (ap numberOf e) in cc)
 
 -- 'A refusal .. alters no lent byte': every lent buffer is at exit as it was lent.
 pub refused-unchanged : (c : Call) {x : Refusal} → answer c ≡ Refused x → buffersAtExit c ≡ lent c
 unfolding buffersAtExit lent atExit
-refused-unchanged c {x} e = rw e (entries (buffersOf c))
+refused-unchanged c {x} e = rw e (entries (specOf c .buffers))
   where
     entries : (bs : List Buffer) → map (atExit (Refused x)) bs ≡ map (λ b. b .entry) bs
     entries [] = refl

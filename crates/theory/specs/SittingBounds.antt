@@ -2,36 +2,37 @@
 -- allowance.
 use Prim.Native.Nat.{ℕ, zero, suc, _≤_}
 use mathlib.Core.Path.{_≡_, refl, sym, ap, _∙_, subst}
-use mathlib.Core.Bool.{Bool, true, false, cond, _&&_, _||_, true≢false}
+use mathlib.Core.Bool.{Bool, true, false, _||_, true≢false}
 use mathlib.Core.List.{List, [], _∷_, map}
 use mathlib.Core.Option.{Option, none, some, Option·getD, Option·elim, Option·none-ne-some, Option·some-injective}
 use mathlib.Core.Logic.{⊎-elim}
 use native.Mathlib.Omega.{arith}
 use lib.ListN.{getD}
-use lib.Dec.{leb, eqb}
+use lib.Dec.{eqb}
 use Rattle.lists.specs.Numbers.{true-or-false}
 use Rattle.lists.specs.Tests.{or-left}
 use Rattle.lists.specs.FirstPlace.{firstPlace, changeFirst}
-use Rattle.model.specs.declared.Refusal.the-variants.{NotPermitted, SeatUnavailable, WrongLength, EntryRange, LoadNotServed}
+use Rattle.model.specs.declared.Refusal.the-variants.{NotPermitted}
 use Rattle.model.specs.declared.Answer.{Answer}
 use Rattle.model.specs.declared.Answer.the-variants.{Cost, Refused}
 use Rattle.model.specs.declared.Seat.{Seat}
 use Rattle.model.specs.declared.Sitting.{Sitting}
-use Rattle.model.specs.Answers.{refusalNumber, numberOf, costOf}
+use Rattle.model.specs.Answers.{numberOf, costOf}
 use Rattle.model.specs.Instance.{instanceOf}
 use Rattle.model.specs.Sheets.{sheetCost}
 use Rattle.model.specs.Planners.{exact, plannedCost}
 use Rattle.model.specs.Acts.{Act, openSitting, seatCandidate, closeSitting, submitSheet, readLeast, readLowest, readUsed}
-use Rattle.model.specs.Acts.{opened, isUnopened, isClosed, Facts, notPermitted, seatUnavailable, allowanceSpent}
-use Rattle.model.specs.Acts.{Event, openingDone, seatingDone, closingDone, submissionMarked, submissionCounted, nothingDone, submissionRefused, actDone, actRefused, eventOf}
+use Rattle.model.specs.Acts.{opened, isUnopened, isClosed, Facts}
+use Rattle.model.specs.Acts.{Event, openingDone, seatingDone, closingDone, submissionMarked, submissionCounted, nothingDone}
 use Rattle.model.specs.SittingState.{Place, State, isFor, emptyPlace, seatedPlace, markedPlace, lowerOf, factsOf, after, phaseOf, stateOf}
-use Rattle.model.specs.Calls.{answer, planShow, markSheet, actIn, requestOf, refusals, successCost, actBuffers, buffersOf, Accepted, applies, onAct, actRequest, actRefusals, actCost, firstRefusal}
-use Rattle.model.specs.Sittings.{answerTo, markedBy, markedWith, told, toldBy, replyWith, replyOf, seatsAtExit, leftBy, LentCard, EachAct, StartsAfresh, from-unopened, from-opening}
-use Rattle.laws.specs.FirstRefusal.{first-hit, first-skip, first-passed}
-use Rattle.laws.specs.OnCard.{on-card-passed, on-card-accepted}
-use Rattle.laws.specs.SittingLaws.{submitted-card, own-refusals}
+use Rattle.model.specs.Calls.{planShow, markSheet, actIn, submissionTests, actSpec, specOf, firstOf, answerOf, answer, Accepted}
+use Rattle.model.specs.Sittings.{answerTo, markedWith, eventWith, eventOf, told, toldBy, replyWith, replyOf, seatsAtExit, leftBy, LentCard, EachAct}
+use Rattle.model.specs.Sittings.{StartsAfresh, from-unopened, from-opening}
+use Rattle.laws.specs.FirstRefusal.{first-hit, first-append, first-passed, first-through}
+use Rattle.laws.specs.OnCard.{on-card-passed, on-card-cost}
+use Rattle.laws.specs.SittingLaws.{refused-does}
 use Rattle.theory.specs.Condition3.{planner-bound, accepted-plannable}
-use Rattle.theory.specs.Outcomes.{mark-tests, mark-accepts, mark-number, planner-cost}
+use Rattle.theory.specs.Outcomes.{mark-accepts, mark-number, planner-cost}
 use Rattle.theory.specs.Refusals.{succeeded}
 use Rattle.theory.specs.SittingEvents.{Possible, nothing-possible, opening-possible, closing-possible, counted-possible, seating-possible}
 use Rattle.theory.specs.SittingEvents.{marked-possible, acts-possible}
@@ -39,53 +40,40 @@ use Rattle.theory.specs.SittingRuns.{left-state}
 
 -- 'reads the least cost only after closing': until then every caller but the supervisor is refused by 15.
 pub least-hidden : (f : Facts) (d : ℕ) → isClosed (f .phase) ≡ false → eqb d 0 ≡ false → answerTo f (readLeast d) ≡ Refused NotPermitted
-unfolding answerTo actRefusals actRequest applies onAct notPermitted
-least-hidden f d before candidate =
-    first-hit (applies (actRequest f (readLeast d))) (SeatUnavailable ∷ []) _ (rw (candidate, before) (either (isUnopened (f .phase))))
+unfolding answerTo answerOf actSpec
+least-hidden f d before candidate = first-hit _ _ _ (rw (candidate, before) (either (isUnopened (f .phase))))
   where
     either : (b : Bool) → (b || true) ≡ true
     either true = refl
     either false = refl
 
--- The refusals 11 to 13 of a submission are those of marking.
-marking-tests :
-    (f : Facts) (d : ℕ) (card s : List ℕ) → Accepted card →
-    firstRefusal (applies (actRequest f (submitSheet d card s))) (WrongLength ∷ EntryRange ∷ LoadNotServed ∷ []) (Cost (sheetCost (instanceOf card) s))
-    ≡ answer (markSheet card s)
-unfolding firstRefusal applies actRequest
-marking-tests f d card s given = sym (mark-tests card s given)
-
 -- An opening that is accepted is answered as the exact planner.
 pub opened-planned :
     (z : Sitting) (xs : List Seat) (d a : ℕ) (c p w : List ℕ) → numberOf (answer (actIn z xs (openSitting d a c p w))) ≡ 0 →
     answer (planShow exact c p w) ≡ answer (actIn z xs (openSitting d a c p w))
-unfolding answer requestOf refusals successCost actRefusals actRequest actBuffers actCost applies buffersOf
+unfolding answer answerOf specOf actSpec
 opened-planned z xs d a c p w e =
     let opened = succeeded (actIn z xs (openSitting d a c p w)) e in
-    let given : Accepted c = on-card-accepted c _ _ _ _ _ opened in
-    let room = first-passed _ _ _ (sym (on-card-passed c _ _ _ _ _ given) ∙ opened) .0 in
-    planner-cost exact c p w given refl room ∙ sym opened
+    let (given, own) = on-card-cost c _ _ opened in
+    planner-cost exact c p w given refl (first-passed _ _ _ own .0) ∙ sym opened
 
 -- 'each answered as marking does': a submission that 1 to 8 and 15 to 17 let pass is answered as marking answers it.
 pub submission-as-marking :
-    (f : Facts) (d : ℕ) (card s : List ℕ) → Accepted card → notPermitted f (submitSheet d card s) ≡ false →
-    seatUnavailable f (submitSheet d card s) ≡ false → allowanceSpent f (submitSheet d card s) ≡ false →
+    (f : Facts) (d : ℕ) (card s : List ℕ) → Accepted card → firstOf (submissionTests f d) (Cost 0) ≡ Cost 0 →
     answerTo f (submitSheet d card s) ≡ answer (markSheet card s)
-unfolding answerTo actRefusals actRequest actCost applies onAct
-submission-as-marking f d card s given permitted seated spared =
-    let test = applies (actRequest f (submitSheet d card s)) in
-    on-card-passed card _ _ _ _ _ given ∙ first-skip test _ _ permitted ∙ first-skip test _ _ seated ∙ first-skip test _ _ spared
-    ∙ marking-tests f d card s given
+unfolding answerTo answer answerOf specOf actSpec
+submission-as-marking f d card s given passed =
+    on-card-passed card _ _ given ∙ first-append (submissionTests f d) _ _ ∙ first-through (submissionTests f d) _ _ passed
+    ∙ sym (on-card-passed card _ _ given)
 
 -- A sheet that is marked in a sitting costs at least the least cost of its card (condition 3).
 submitted-least :
     (f : Facts) (d : ℕ) (card s : List ℕ) {n : ℕ} → answerTo f (submitSheet d card s) ≡ Cost n → plannedCost exact (instanceOf card) ≤ n
+unfolding answerTo answerOf actSpec
 submitted-least f d card s {n} e =
-    let given = submitted-card f d card s e in
-    let permitted = first-passed _ _ _ (own-refusals f d card s e) in
-    let seated = first-passed _ _ _ (permitted .1) in
-    let spared = first-passed _ _ _ (seated .1) in
-    let marked : answer (markSheet card s) ≡ Cost n = sym (marking-tests f d card s given) ∙ spared .1 in
+    let (given, own) = on-card-cost card _ _ e in
+    let passed = first-through (submissionTests f d) (Cost 0) _ (sym (first-append (submissionTests f d) _ _) ∙ own) in
+    let marked : answer (markSheet card s) ≡ Cost n = sym (submission-as-marking f d card s given passed) ∙ e in
     let serving = mark-number card s .0 (ap numberOf marked) .1 in
     let cost : sheetCost (instanceOf card) s ≡ n = ap costOf (sym (mark-accepts card s given .1 serving) ∙ marked) in
     omega (arith, planner-bound exact (accepted-plannable card given) refl s serving)
@@ -176,18 +164,14 @@ event-bounded {l} {s} (marked-possible c n o spare real found) marks b =
       above = λ o′. every-seat-changed (NotBelow l) (isFor c) (markedPlace n) (lower-not-below marks) (s .places) (b .above o);
     }
 
--- A refused submission marks no sheet.
-refused-marks : (l : ℕ) (b : Bool) → MarksAtLeast l (cond b submissionCounted nothingDone)
-unfolding MarksAtLeast
-refused-marks l true = tt
-refused-marks l false = tt
-
 -- Runs of acts none of which marks a sheet below a bound.
 module _ (l : ℕ) (Fine : Act → Type 0)
-    (marks : (f : Facts) (a : Act) → Fine a → (r : Answer) → answerTo f a ≡ r → MarksAtLeast l (eventOf a r)) where
+    (marks : (f : Facts) (a : Act) → Fine a → (r : Answer) → answerTo f a ≡ r →
+    MarksAtLeast l (eventWith (actSpec f a .done) (actSpec f a .refused) r)) where
   -- An act keeps what holds.
   act-bounded :
       (z : Sitting) (xs : List Seat) (a : Act) → Fine a → Bounded l (stateOf z xs) → Bounded l (stateOf (replyOf z xs a .sitting) (seatsAtExit z xs a))
+  unfolding eventOf
   act-bounded z xs a fine b =
       subst (Bounded l) (sym (left-state z xs a))
       (event-bounded (acts-possible (stateOf z xs) a _ refl) (marks (factsOf (stateOf z xs)) a fine _ refl) b)
@@ -204,13 +188,13 @@ module _ (l : ℕ) (Fine : Act → Type 0)
   afresh-bounded :
       {z : Sitting} {xs : List Seat} {acts : List Act} → StartsAfresh z xs acts → EachAct Fine acts →
       Bounded l (stateOf (leftBy z xs acts .0) (leftBy z xs acts .1))
-  unfolding leftBy EachAct isUnopened eventOf actDone
+  unfolding leftBy EachAct isUnopened eventOf eventWith actSpec
   afresh-bounded {z} {xs} (from-unopened acts e) fine =
       let never : isUnopened (phaseOf (z .state)) ≡ false → ⊥ = λ o. true≢false (sym (ap isUnopened e) ∙ o) in
       run-bounded acts fine z xs (record { within = λ o. absurd (never o); above = λ o. absurd (never o) })
   afresh-bounded {z} {xs} (from-opening d a c p w acts n e) (fine, rest) =
       let act = openSitting d a c p w in
-      let left = left-state z xs act ∙ ap (λ (r : Answer). after (eventOf act r) (stateOf z xs)) e in
+      let left = left-state z xs act ∙ ap (λ (r : Answer). after (eventWith (openingDone a) (λ x. nothingDone) r) (stateOf z xs)) e in
       run-bounded acts rest (replyOf z xs act .sitting) (seatsAtExit z xs act)
       (subst (Bounded l) (sym left) (opening-bounded l (stateOf z xs) a n))
 
@@ -227,8 +211,8 @@ none-below-zero (submissionMarked c n) = omega arith
 -- No act that is lent a card marks a sheet below the least cost of this card.
 none-below-least :
     (card : List ℕ) (f : Facts) (a : Act) → LentCard card a → (r : Answer) → answerTo f a ≡ r →
-    MarksAtLeast (plannedCost exact (instanceOf card)) (eventOf a r)
-unfolding MarksAtLeast eventOf actDone actRefused submissionRefused LentCard
+    MarksAtLeast (plannedCost exact (instanceOf card)) (eventWith (actSpec f a .done) (actSpec f a .refused) r)
+unfolding MarksAtLeast eventWith actSpec LentCard
 none-below-least card f (openSitting d a c p w) lent (Cost n) e = tt
 none-below-least card f (seatCandidate d c) lent (Cost n) e = tt
 none-below-least card f (closeSitting d) lent (Cost n) e = tt
@@ -236,13 +220,7 @@ none-below-least card f (submitSheet d c s) lent (Cost n) e = rw (sym lent) (sub
 none-below-least card f (readLeast d) lent (Cost n) e = tt
 none-below-least card f (readLowest d c) lent (Cost n) e = tt
 none-below-least card f (readUsed d) lent (Cost n) e = tt
-none-below-least card f (openSitting d a c p w) lent (Refused x) e = tt
-none-below-least card f (seatCandidate d c) lent (Refused x) e = tt
-none-below-least card f (closeSitting d) lent (Refused x) e = tt
-none-below-least card f (submitSheet d c s) lent (Refused x) e = refused-marks _ (leb 11 (refusalNumber x) && leb (refusalNumber x) 13)
-none-below-least card f (readLeast d) lent (Refused x) e = tt
-none-below-least card f (readLowest d c) lent (Refused x) e = tt
-none-below-least card f (readUsed d) lent (Refused x) e = tt
+none-below-least card f a lent (Refused x) e = refused-does (MarksAtLeast _) f a x tt (λ d c s same counted. tt)
 
 -- Every act is fine where nothing is asked of it.
 each-act : (acts : List Act) → EachAct (λ a. Unit {0}) acts
@@ -255,12 +233,12 @@ pub submissions-within :
     {z : Sitting} {xs : List Seat} {acts : List Act} → StartsAfresh z xs acts → isUnopened (phaseOf (leftBy z xs acts .0 .state)) ≡ false →
     leftBy z xs acts .0 .submissions ≤ leftBy z xs acts .0 .allowance
 submissions-within {acts = acts} start o =
-    afresh-bounded 0 (λ a. Unit {0}) (λ f a fine r e. none-below-zero (eventOf a r)) start (each-act acts) .within o
+    afresh-bounded 0 (λ a. Unit {0}) (λ f a fine r e. none-below-zero _) start (each-act acts) .within o
 
 -- A lowest cost that is read is not below the bound.
 read-bounded :
     {l : ℕ} {s : State} → Bounded l s → (d c : ℕ) → toldBy s (readLowest d c) .marked ≡ 1 → l ≤ toldBy s (readLowest d c) .cost
-unfolding toldBy told markedWith markedBy answerTo actRequest actRefusals applies onAct notPermitted actCost firstRefusal Option·elim
+unfolding toldBy told markedWith answerTo answerOf actSpec Option·elim
 read-bounded {l} {s} b d c e = go (answerTo (factsOf s) (readLowest d c)) refl e
   where
     lowest : Option ℕ
@@ -271,13 +249,11 @@ read-bounded {l} {s} b d c e = go (answerTo (factsOf s) (readLowest d c)) refl e
     read (some v) is o marked =
         every-seat-at (NotBelow l) (λ u h. absurd (Option·none-ne-some u h)) (s .places) (b .above o) (firstPlace (isFor c) (s .places)) v is
 
-    go : (r : Answer) → answerTo (factsOf s) (readLowest d c) ≡ r → markedWith (factsOf s) (readLowest d c) r ≡ 1 → l ≤ costOf r
+    go : (r : Answer) → answerTo (factsOf s) (readLowest d c) ≡ r → markedWith (actSpec (factsOf s) (readLowest d c)) r ≡ 1 → l ≤ costOf r
     go (Refused x) is marked = absurd (omega arith)
     go (Cost n) is marked =
-        let test = applies (actRequest (factsOf s) (readLowest d c)) in
-        let permitted = first-passed test {x = NotPermitted} (SeatUnavailable ∷ []) _ is in
-        let known = first-passed test {x = SeatUnavailable} [] _ (permitted .1) in
-        let cost : Option·getD lowest 0 ≡ n = ap costOf (known .1) in
+        let permitted = first-passed _ _ _ is in
+        let cost : Option·getD lowest 0 ≡ n = ap costOf (sym (first-through _ (Cost (Option·getD lowest 0)) _ is) ∙ is) in
         omega (arith, read lowest refl (or-left _ _ (permitted .0)) marked)
 
 -- A candidate's lowest cost that is read is at least the least cost of the card that the acts are lent (by condition 3).

@@ -1,11 +1,11 @@
 -- What the calls of a sitting give is what the theorems on all calls and those on sequences of acts speak of (document 02, §4).
 use Prim.Native.Nat.{ℕ}
 use mathlib.Core.Path.{_≡_, refl, ap}
-use mathlib.Core.Bool.{Bool, true, false, cond, _&&_, false≢true}
+use mathlib.Core.Bool.{Bool, true, false, cond, false≢true}
 use mathlib.Core.Logic.{_↔_, ⊎-elim}
 use mathlib.Core.List.{List, []}
 use native.Mathlib.Omega.{arith}
-use lib.Dec.{leb, eqb}
+use lib.Dec.{eqb}
 use borrow.Author.Tests.{eqb-true, eq-eqb, ne-eqb}
 use Rattle.lists.specs.Numbers.{true-or-false}
 use Rattle.model.specs.declared.Refusal.{Refusal}
@@ -13,90 +13,61 @@ use Rattle.model.specs.declared.Answer.{Answer}
 use Rattle.model.specs.declared.Answer.the-variants.{Cost, Refused}
 use Rattle.model.specs.declared.Seat.{Seat}
 use Rattle.model.specs.declared.Sitting.{Sitting}
-use Rattle.model.specs.Answers.{refusalNumber}
-use Rattle.model.specs.Acts.{unopened, opened, closed, isOpened, isClosed, Facts, notPermitted}
-use Rattle.model.specs.Acts.{Act, openSitting, seatCandidate, closeSitting, submitSheet, readLeast, readLowest, readUsed}
-use Rattle.model.specs.Acts.{nothingDone, submissionCounted, submissionRefused, actDone, actRefused, eventOf}
+use Rattle.model.specs.Acts.{unopened, opened, closed, isOpened, isClosed, Facts}
+use Rattle.model.specs.Acts.{Act, closeSitting, readLeast, readLowest, readUsed}
 use Rattle.model.specs.SittingState.{phaseOf, factsOf, stateOf, seatsAfter}
-use Rattle.model.specs.Calls.{actIn, answer, requestOf, refusals, successCost, Gives, applies, onAct, actRequest, actRefusals, actCost, firstRefusal}
-use Rattle.model.specs.Sittings.{answerTo, markedBy, markedWith, told, toldBy, replyWith, replyOf, seatsAtExit}
+use Rattle.model.specs.Calls.{actIn, actSpec, specOf, answer, Gives}
+use Rattle.model.specs.Sittings.{answerTo, eventWith, eventOf, told, toldBy, replyWith, replyOf, seatsAtExit}
+use Rattle.laws.specs.SittingLaws.{refused-does}
 
 module _ (z : Sitting) (xs : List Seat) where
   -- The number and the cost of an act's reply are those of the answer to the call, as for every other call.
   pub reply-gives : (a : Act) → Gives (actIn z xs a) (replyOf z xs a .number) (replyOf z xs a .cost)
-  unfolding replyOf replyWith toldBy told answer requestOf refusals successCost answerTo
+  unfolding replyOf replyWith toldBy told answer specOf answerTo
   reply-gives a = record { number-is = refl; cost-is = refl }
 
   -- What a refused act does leaves every record of the list.
-  refused-leaves : (a : Act) (x : Refusal) → seatsAfter (actRefused a x) xs ≡ xs
-  unfolding seatsAfter actRefused submissionRefused
-  refused-leaves (openSitting d b c p w) x = refl
-  refused-leaves (seatCandidate d c) x = refl
-  refused-leaves (closeSitting d) x = refl
-  refused-leaves (submitSheet d c s) x = either (leb 11 (refusalNumber x) && leb (refusalNumber x) 13)
-    where
-      either : (b : Bool) → seatsAfter (cond b submissionCounted nothingDone) xs ≡ xs
-      either true = refl
-      either false = refl
-  refused-leaves (readLeast d) x = refl
-  refused-leaves (readLowest d c) x = refl
-  refused-leaves (readUsed d) x = refl
+  refused-leaves : (f : Facts) (a : Act) (x : Refusal) → seatsAfter (actSpec f a .refused x) xs ≡ xs
+  unfolding seatsAfter
+  refused-leaves f a x = refused-does (λ e. seatsAfter e xs ≡ xs) f a x refl (λ d c s same counted. refl)
 
   -- 'A refusal .. alters no lent byte': a refused act leaves the list of seats.
   pub refused-seats : (a : Act) {x : Refusal} → answer (actIn z xs a) ≡ Refused x → seatsAtExit z xs a ≡ xs
-  unfolding seatsAtExit answer requestOf refusals successCost answerTo eventOf
-  refused-seats a {x} e = rw e (refused-leaves a x)
+  unfolding seatsAtExit answer specOf answerTo eventOf eventWith
+  refused-seats a {x} e = rw e (refused-leaves _ a x)
 
-  -- Closing and reading the submissions used are not lent the list: their answers are the same with every list.
-  close-answer : (d : ℕ) → answerTo (factsOf (stateOf z [])) (closeSitting d) ≡ answerTo (factsOf (stateOf z xs)) (closeSitting d)
-  unfolding answerTo actRequest actRefusals actCost applies onAct notPermitted firstRefusal
-  close-answer d = refl
-
-  used-answer : (d : ℕ) → answerTo (factsOf (stateOf z [])) (readUsed d) ≡ answerTo (factsOf (stateOf z xs)) (readUsed d)
-  unfolding answerTo actRequest actRefusals actCost applies onAct notPermitted firstRefusal
-  used-answer d = refl
-
-  -- So are their replies, since no lowest cost is read.
-  unlent : (a : Act) → ((f : Facts) → markedBy f a ≡ 0) → answerTo (factsOf (stateOf z [])) a ≡ answerTo (factsOf (stateOf z xs)) a →
-      replyOf z [] a ≡ replyOf z xs a
-  unfolding replyOf toldBy told markedWith
-  unlent a none same = rw (same, unmarked (factsOf (stateOf z [])) _, unmarked (factsOf (stateOf z xs)) _)
-    where
-      unmarked : (f : Facts) (r : Answer) → markedWith f a r ≡ 0
-      unmarked f (Cost n) = none f
-      unmarked f (Refused x) = refl
-
+  -- Closing and reading the submissions used are not lent the list: their replies are the same with every list.
   pub close-unlent : (d : ℕ) → replyOf z [] (closeSitting d) ≡ replyOf z xs (closeSitting d)
-  unfolding markedBy
-  close-unlent d = unlent (closeSitting d) (λ f. refl) (close-answer d)
+  unfolding replyOf toldBy told answerTo eventOf actSpec
+  close-unlent d = refl
 
   pub used-unlent : (d : ℕ) → replyOf z [] (readUsed d) ≡ replyOf z xs (readUsed d)
-  unfolding markedBy
-  used-unlent d = unlent (readUsed d) (λ f. refl) (used-answer d)
+  unfolding replyOf toldBy told answerTo eventOf actSpec
+  used-unlent d = refl
 
   -- The acts that are lent the list to be read, or not at all, leave it.
-  leaves : (a : Act) → ((n : ℕ) → seatsAfter (actDone a n) xs ≡ xs) → seatsAtExit z xs a ≡ xs
-  unfolding seatsAtExit eventOf
+  leaves : (a : Act) → ((n : ℕ) → seatsAfter (actSpec (factsOf (stateOf z xs)) a .done n) xs ≡ xs) → seatsAtExit z xs a ≡ xs
+  unfolding seatsAtExit eventOf eventWith
   leaves a done = either (answerTo (factsOf (stateOf z xs)) a)
     where
-      either : (r : Answer) → seatsAfter (eventOf a r) xs ≡ xs
+      either : (r : Answer) → seatsAfter (eventWith (actSpec (factsOf (stateOf z xs)) a .done) (actSpec (factsOf (stateOf z xs)) a .refused) r) xs ≡ xs
       either (Cost n) = done n
-      either (Refused x) = refused-leaves a x
+      either (Refused x) = refused-leaves _ a x
 
   pub close-leaves : (d : ℕ) → seatsAtExit z xs (closeSitting d) ≡ xs
-  unfolding seatsAfter actDone
+  unfolding seatsAfter actSpec
   close-leaves d = leaves (closeSitting d) (λ n. refl)
 
   pub least-leaves : (d : ℕ) → seatsAtExit z xs (readLeast d) ≡ xs
-  unfolding seatsAfter actDone
+  unfolding seatsAfter actSpec
   least-leaves d = leaves (readLeast d) (λ n. refl)
 
   pub lowest-leaves : (d c : ℕ) → seatsAtExit z xs (readLowest d c) ≡ xs
-  unfolding seatsAfter actDone
+  unfolding seatsAfter actSpec
   lowest-leaves d c = leaves (readLowest d c) (λ n. refl)
 
   pub used-leaves : (d : ℕ) → seatsAtExit z xs (readUsed d) ≡ xs
-  unfolding seatsAfter actDone
+  unfolding seatsAfter actSpec
   used-leaves d = leaves (readUsed d) (λ n. refl)
 
 -- A sitting counts as open exactly if its state is 1.

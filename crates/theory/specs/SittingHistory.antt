@@ -18,7 +18,7 @@ use Rattle.lists.specs.FirstPlace.{change-found, change-occurs, change-counts, 
 use Rattle.model.specs.Acts.{isUnopened}
 use Rattle.model.specs.Acts.{Event, nothingDone, openingDone, seatingDone, closingDone, submissionCounted, submissionMarked}
 use Rattle.model.specs.SittingState.{Place, State, isFor, emptyPlace, seatedPlace, markedPlace, factsOf, lowerOf, after}
-use Rattle.model.specs.Sittings.{isOpening, isClosing, isSubmission, seatedBy, costsOf, allowanceOf, leastOf, sinceOpening, lastOpening}
+use Rattle.model.specs.Sittings.{effectOf, isOpening, isSubmission, seatedBy, costsOf, sinceOpening, lastOpening}
 use Rattle.model.specs.Sittings.{smallestOf, lowestAmong, phaseIn, factsIn}
 use Rattle.laws.specs.SittingLaws.{AgreeAt}
 use Rattle.theory.specs.SittingEvents.{Possible, nothing-possible, opening-possible, closing-possible, counted-possible, seating-possible}
@@ -59,7 +59,7 @@ module _ {seats : ℕ} {ps : List Place} {h : List Event} (told : SeatsTold seat
   seating-told :
       {c : ℕ} → eqb c 0 ≡ false → occurs (isFor c) ps ≡ false → occurs (isFor 0) ps ≡ true →
       SeatsTold seats (changeFirst (isFor 0) (seatedPlace c) ps) (seatingDone c ∷ h)
-  unfolding seatedBy costsOf occurs flatMap
+  unfolding effectOf occurs flatMap
   seating-told {c} real absent free =
       record {
         who = λ d e.
@@ -85,7 +85,7 @@ module _ {seats : ℕ} {ps : List Place} {h : List Event} (told : SeatsTold seat
   marking-told :
       {c n : ℕ} → eqb c 0 ≡ false → occurs (isFor c) ps ≡ true →
       SeatsTold seats (changeFirst (isFor c) (markedPlace n) ps) (submissionMarked c n ∷ h)
-  unfolding seatedBy costsOf flatMap
+  unfolding effectOf flatMap
   marking-told {c} {n} real found =
       record {
         who = λ d e. change-occurs (isFor c) (markedPlace n) (isFor d) (λ p f. refl) ps ∙ told .who d e;
@@ -142,9 +142,9 @@ quiet-told e nobody nothing told =
 pub record Joined (seats : ℕ) (h : List Event) (s : State) : Type 0 where
   pub phase-told : s .phase ≡ phaseIn h
   pub size : length (s .places) ≡ seats
-  pub allowance-told : isUnopened (s .phase) ≡ false → s .allowance ≡ allowanceOf (lastOpening h)
+  pub allowance-told : isUnopened (s .phase) ≡ false → s .allowance ≡ effectOf (lastOpening h) .allowance
   pub used-told : isUnopened (s .phase) ≡ false → s .used ≡ countOf isSubmission (sinceOpening h)
-  pub least-told : isUnopened (s .phase) ≡ false → s .least ≡ leastOf (lastOpening h)
+  pub least-told : isUnopened (s .phase) ≡ false → s .least ≡ effectOf (lastOpening h) .least
   pub seats-told : isUnopened (s .phase) ≡ false → SeatsTold seats (s .places) (sinceOpening h)
 
 -- There is an empty seat exactly if fewer candidates have been seated than there are seats.
@@ -186,7 +186,7 @@ opened-before h e =
 -- The state after an opening is that of every history that ends with it.
 pub opening-joined :
     (seats : ℕ) (h : List Event) (s : State) (a n : ℕ) → length (s .places) ≡ seats → Joined seats (openingDone a n ∷ h) (after (openingDone a n) s)
-unfolding after phaseIn sinceOpening isOpening occurs keep headD allowanceOf leastOf countOf
+unfolding after phaseIn sinceOpening effectOf occurs keep headD countOf
 opening-joined seats h s a n size =
     record {
       phase-told = refl;
@@ -199,7 +199,7 @@ opening-joined seats h s a n size =
 
 -- The state after what can happen is that of the history with it.
 pub event-joined : {seats : ℕ} {h : List Event} {s : State} → Joined seats h s → {e : Event} → Possible s e → Joined seats (e ∷ h) (after e s)
-unfolding after phaseIn sinceOpening isOpening isClosing isSubmission occurs keep countOf seatedBy costsOf
+unfolding after phaseIn sinceOpening effectOf occurs keep countOf
 event-joined j nothing-possible =
     record {
       phase-told = j .phase-told;

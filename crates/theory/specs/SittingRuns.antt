@@ -9,11 +9,12 @@ use Rattle.model.specs.declared.Answer.{Answer}
 use Rattle.model.specs.declared.Seat.{Seat}
 use Rattle.model.specs.declared.Sitting.{Sitting}
 use Rattle.model.specs.Acts.{Act, openSitting}
-use Rattle.model.specs.Acts.{isUnopened, Event, eventOf, actDone}
+use Rattle.model.specs.Acts.{isUnopened, Event, nothingDone, openingDone}
 use Rattle.model.specs.SittingState.{factsOf, after, phaseOf, seatsOf, placeOf, stateOf}
-use Rattle.model.specs.Sittings.{next, answerTo, toldBy, replyWith, replyOf, seatsAtExit, eventIn, toldInTurn, StartsAfresh, from-unopened, from-opening}
+use Rattle.model.specs.Sittings.{next, answerTo, eventWith, eventOf, told, toldBy, replyWith, replyOf, seatsAtExit, eventIn, toldInTurn, StartsAfresh, from-unopened, from-opening}
+use Rattle.model.specs.Calls.{actSpec}
 use Rattle.model.specs.Sittings.{phaseIn, factsIn, toldFrom}
-use Rattle.laws.specs.SittingLaws.{concerned, answers-agree, told-agree, opening-answer, opening-told}
+use Rattle.laws.specs.SittingLaws.{concerned, events-agree, told-agree}
 use Rattle.laws.specs.SittingRecords.{state-after}
 use Rattle.theory.specs.SittingEvents.{acts-possible}
 use Rattle.theory.specs.SittingHistory.{Joined, joined-agrees, event-joined, opening-joined}
@@ -34,19 +35,19 @@ module _ (seats : ℕ) where
   -- A sitting and its seats that hold the state of a history are told what the history tells, act for act.
   told-alike :
       (acts : List Act) (z : Sitting) (xs : List Seat) (h : List Event) → Joined seats h (stateOf z xs) → toldInTurn z xs acts ≡ toldFrom seats h acts
-  unfolding toldInTurn toldFrom toldBy
+  unfolding toldInTurn toldFrom toldBy eventOf
   told-alike [] z xs h j = refl
   told-alike (a ∷ more) z xs h j =
       let agree = joined-agrees j (concerned a) in
       let next = event-joined j (acts-possible (stateOf z xs) a (answerTo (factsOf (stateOf z xs)) a) refl) in
       let rest = told-alike more (replyOf z xs a .sitting) (seatsAtExit z xs a) (eventIn z xs a ∷ h) (subst (Joined seats _) (sym (left-state z xs a)) next) in
-      rw (sym (answers-agree a _ _ agree), rest, told-agree a (factsOf (stateOf z xs)) (factsIn seats h) agree)
+      rw (sym (events-agree a _ _ agree), rest, told-agree a (factsOf (stateOf z xs)) (factsIn seats h) agree)
 
 -- Any sequence of acts that starts afresh is told what the history tells: who was seated, how many submissions counted, the lowest cost among
 -- a candidate's marked sheets, whether the sitting was closed.
 pub any-sequence :
     {z : Sitting} {xs : List Seat} {acts : List Act} → StartsAfresh z xs acts → toldInTurn z xs acts ≡ toldFrom (length (seatsOf xs)) [] acts
-unfolding phaseIn occurs isUnopened toldInTurn toldFrom toldBy eventOf actDone
+unfolding phaseIn occurs isUnopened toldInTurn toldFrom toldBy told answerTo eventOf eventWith actSpec
 any-sequence {z} {xs} (from-unopened acts e) =
     let never : isUnopened (phaseOf (z .state)) ≡ false → ⊥ = λ o. true≢false (sym (ap isUnopened e) ∙ o) in
     told-alike (length (seatsOf xs)) acts z xs [] (record {
@@ -61,11 +62,6 @@ any-sequence {z} {xs} (from-opening d a c p w acts n e) =
     let act = openSitting d a c p w in
     let seats = length (seatsOf xs) in
     let joined = opening-joined seats [] (stateOf z xs) a n (length-map (seatsOf xs) placeOf) in
-    let left = left-state z xs act ∙ ap (λ (r : Answer). after (eventOf act r) (stateOf z xs)) e in
+    let left = left-state z xs act ∙ ap (λ (r : Answer). after (eventWith (openingDone a) (λ x. nothingDone) r) (stateOf z xs)) e in
     let rest = told-alike seats acts (replyOf z xs act .sitting) (seatsAtExit z xs act) _ (subst (Joined seats _) (sym left) joined) in
-    rw (
-      opening-answer (factsIn seats []) (factsOf (stateOf z xs)) d a c p w,
-      e,
-      rest,
-      opening-told (factsOf (stateOf z xs)) (factsIn seats []) d a c p w,
-    )
+    rw (e, rest)

@@ -1,5 +1,4 @@
-use mathlib.Core.Bool.{and-true}
-use Rattle.lists.specs.Tests.{allOf, test-failed, test-passed}
+use Rattle.lists.specs.Tests.{test-failed, test-passed}
 use borrow.Author.Needs.{needs}
 use Rattle.card.proofs.rack_in_range.Statement.{statement}
 use Rattle.card.proofs.rack_in_range.Tie as tie
@@ -8,15 +7,13 @@ rack-number-requires : tie.Need-rack-number-requires
 rack-number-requires c κs = search needs
 
 returns : tie.Need-returns
-unfolding allOf
 returns c = rw (test-failed (c .before .rack-number .ensures) (c .if1 .taken))
 
 rack-number-requires-2 : tie.Need-rack-number-requires-2
 rack-number-requires-2 c κs = search needs
 
 returns-2 : tie.Need-returns-2
-unfolding allOf
-returns-2 c = rw (test-passed (c .before .before .rack-number .ensures) (c .before .if1 .left), and-true) (c .rack-number2 .ensures)
+returns-2 c = rw (test-passed (c .before .before .rack-number .ensures) (c .before .if1 .left)) (c .rack-number2 .ensures)
 
 pub rack-in-range-spec : {M : Type 1} → statement M
 rack-in-range-spec = tie.close (tie.spec rack-number-requires returns rack-number-requires-2 returns-2)

@@ -5,7 +5,7 @@ use lib.Dec.{leb}
 use borrow.Author.Needs.{needs}
 use Rattle.lists.specs.Tests.{Passed, passed-none, passed-more, passed-all, passed-not}
 use Rattle.model.specs.Instance.{instanceOf}
-use Rattle.model.specs.HandedIn.{entriesInRange}
+use Rattle.model.specs.Plans.{planInRack}
 use Rattle.sheets.proofs.Loads.{in-slots, no-more-slots, rack-failed, rack-passed}
 use Rattle.sheets.proofs.plan_in_rack.Statement.{statement}
 use Rattle.sheets.proofs.plan_in_rack.Tie as tie
@@ -23,7 +23,7 @@ wide-requires : tie.Need-wide-requires Inv-loop μ-loop
 wide-requires c κs = search needs
 
 returns : tie.Need-returns Inv-loop μ-loop
-unfolding entriesInRange
+unfolding planInRack
 returns c = passed-not (c .before .before .before .before .loop .inv) (search in-slots) (search rack-failed)
 
 loop-less : tie.Need-loop-less Inv-loop μ-loop
@@ -33,7 +33,7 @@ loop-again : tie.Need-loop-again Inv-loop μ-loop
 loop-again c = passed-more (c .before .before .before .before .loop .inv) (search in-slots) (search rack-passed)
 
 returns-2 : tie.Need-returns-2 Inv-loop μ-loop
-unfolding entriesInRange
+unfolding planInRack
 returns-2 c = passed-all (c .before .loop .inv) (search no-more-slots)
 
 pub plan-in-rack-spec : {M : Type 1} → statement M
