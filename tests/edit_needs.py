@@ -1,9 +1,11 @@
 #!/usr/bin/env python3
 """After `rt ci` or `rt must-fail`: compares docs/EDITS.md with the must-fail edits and with the logs of the run.
 
-Prints a line for each fault, and last how many edits were compared. A fault is: an edit without a log, a log without an edit, an edit that
-was not refused, one that was refused for its shape (a name that does not exist, or a sum, an index or a cast that is not safe) and not
-for what a contract or a theorem says, one at which the check gave up, one whose log names no fact, and each line in which docs/EDITS.md differs from what --write writes.
+Prints a line for each fault, and last how many edits were compared. A fault is: an edit that does not say what it does, an edit without a
+log, a log without an edit, an edit that was not refused, one that was refused for its shape (a name that does not exist, or a sum, an index
+or a cast that is not safe) and not for what a contract or a theorem says, one at which the check gave up, one whose log names no fact, one
+of crate model that was refused in a module of examples where its first error names no row that does not hold and the edit names no example,
+one that names another row or another example than its first error, and each line in which docs/EDITS.md differs from what --write writes.
 With --write the file is written, if there is no other fault."""
 import argparse
 import difflib
@@ -27,18 +29,31 @@ UNKNOWN = ("can be named from here", "is not in scope", "has no field")
 # What the check says where it gave up before it came to a verdict.
 GAVE_UP = "broke off"
 SAFETY = re.compile(r"(add|sub|mul|div|rem|cast|slice|shared-slice|array|part|enum-known)-|.*-spec$")
+# What the check says of a row that does not hold: Failed, and the row's name behind the word that makes the row, as in
+# `Failed ((act "close" ..) .name)`, or alone. Where it cannot compute a row it says `verdict` and not Failed: whether that row holds is not
+# known, and its name is not taken. Nor is a name that was cut: the check prints "…" for the middle of a long term.
+ROW = re.compile(r'Failed (?:\(\(\S+ )?"([^"…]+)"')
+# What refuses an edit, in its own words. An example that is not a row of a table, as all of RelatedExamples, is a theorem: an edit that it
+# refuses has no row, and has to name it.
+SAID = re.compile(r'refused by (row "[^"]+"|the example `[^`]+`)')
 
 
-def first_fact(crate, text):
+def first_error(text):
+    """The line of the first error, and all that is said of it, which goes on in lines that begin with a blank."""
+    first = re.search(r"^(.*: error.*)(?:\n .*)*", text, re.M)
+    return (first[1], first[0]) if first else ("", "")
+
+
+def first_fact(text):
     """What was refused first, or None: the function or the module, the need or the statement, the row of an example, and whether a
     function's need it is."""
-    errors = [line for line in text.splitlines() if ": error" in line]
-    if not errors or "was not admitted" in errors[0]:
+    line, error = first_error(text)
+    if not line or "was not admitted" in line:
         unproved = re.search(r"^fn (\S+): no proof.*does not close `([^`]+)`", text, re.M)
         return (unproved[1], unproved[2], None, True) if unproved else None
-    place = re.search(r"(?:proofs|specs)/(\S+?)(/Proof)?\.antt", errors[0])
-    name = re.search(r"error: `([^`]+)`", errors[0])
-    row = re.search(r'(?:Failed|verdict) \(\((?:row|one) "([^"]+)"', text) if crate == "model" else None
+    place = re.search(r"(?:proofs|specs)/(\S+?)(/Proof)?\.antt", line)
+    name = re.search(r"error: `([^`]+)`", line)
+    row = ROW.search(error)
     return (place[1], name[1], row and row[1], place[2] is not None) if place and name else None
 
 
@@ -48,9 +63,8 @@ def has_shape_error(text):
 
 
 def gave_up(text):
-    """The first error is that the check came to no verdict. What is said of an error goes on in lines that begin with a blank."""
-    first = re.search(r"^.*: error.*\n(?: .*\n)*", text, re.M)
-    return first is not None and GAVE_UP in first[0]
+    """The first error is that the check came to no verdict."""
+    return GAVE_UP in first_error(text)[1]
 
 
 def examine(edit, log):
@@ -64,7 +78,7 @@ def examine(edit, log):
     text = log.read_text(encoding="utf-8", errors="replace")
     if not re.search(r"^logic=not-proved", text, re.M):
         return None, f"{name}: it was not refused"
-    fact = first_fact(crate, text)
+    fact = first_fact(text)
     if fact is None:
         return None, f"{name}: its log names no fact"
     place, need, row, of_code = fact
@@ -72,8 +86,13 @@ def examine(edit, log):
         return None, f"{name}: the check gave up, at {place} {need}"
     if has_shape_error(text) or (of_code and SAFETY.match(need)):
         return None, f"{name}: it was refused for its shape, at {place} {need}"
+    said, found = SAID.search(comment[0]), f"{place} `{need}`" + (f', row "{row}"' if row else "")
+    if crate == "model" and place.endswith("Examples") and not row and not (said and said[1].startswith("the example")):
+        return None, f"{name}: the log names no row, at {place} {need}"
+    if said and said[1] != (f'row "{row}"' if row else f"the example `{need}`"):
+        return None, f"{name}: the edit says {said[1]}, the log {found}"
     does = comment[0][2:].strip().replace("|", "\\|")
-    return f"| {name} | {does} | {place} `{need}`" + (f', row "{row}" |' if row else " |"), None
+    return f"| {name} | {does} | {found} |", None
 
 
 def main():

@@ -7,19 +7,26 @@ import tempfile
 
 SCRIPT = pathlib.Path(__file__).resolve().parent / "edit_needs.py"
 REFUSED = "logic=not-proved\n"
+
+
+def error(module, fact, term):
+    """An error of the check, which says in its second line what the statement computes to."""
+    return f"/x/specs/{module}.antt:7:16: error: `{fact}`: `omega` does not read the goal\n  which computes to `{term}`. `omega` proves\n"
+
+
 LOGS = {
     "code/none_written": "/x/proofs/way_back/Proof.antt:27:16: error: `loop-holds`: the two types differ\n" + REFUSED,
     "code/off_by_one": "/x/proofs/check/Proof.antt:3:5: error: `check-spec`: `close` was not admitted\n"
     "fn code::number: no proof: expected `number-spec` in /x/Proof.antt; `search` does not close `returns-4`\n" + REFUSED,
-    "model/by_counts": '/x/specs/Examples.antt:7:16: error: `starred-hold`: the part `verdict ((row "D" (call 1)) .name)`\n' + REFUSED,
-    "theory/too_strong": "/x/specs/Condition3.antt:90:67: error: `list-ratio`: the two types differ\n" + REFUSED,
+    "model/by_counts": error("Examples", "starred-hold", 'Failed ((row "D" (call 1)) .name)') + REFUSED,
+    "theory/too_strong": "/x/specs/BookExamples.antt:90:67: error: `list-ratio`: the two types differ\n" + REFUSED,
     "theory/a_sum": "/x/specs/Tables.antt:9:6: error: `add-entries`: the two types differ\n" + REFUSED,
 }
 FACTS = {
     "code/none_written": "way_back `loop-holds`",
     "code/off_by_one": "code::number `returns-4`",
     "model/by_counts": 'Examples `starred-hold`, row "D"',
-    "theory/too_strong": "Condition3 `list-ratio`",
+    "theory/too_strong": "BookExamples `list-ratio`",
     "theory/a_sum": "Tables `add-entries`",
 }
 UNKNOWN = "/x/proofs/way_back/Proof.antt:9:1: error: `returns-3`: no `returns-3` can be named from here\n" + REFUSED
@@ -58,7 +65,7 @@ def with_tree(change, *expected):
             put(edit_of(root, name), f"# what {name} does\nfile: src/lib.rt\nold: a\nnew: b\n")
             put(log_of(root, name), text)
         status, lines = run(root, "--write")
-        assert (status, lines) == (0, ["5 must-fail edits compared, 0 faults"]), lines
+        assert (status, lines) == (0, [f"{len(LOGS)} must-fail edits compared, 0 faults"]), lines
         table = (root / "docs" / "EDITS.md").read_text(encoding="utf-8")
         for name, fact in FACTS.items():
             assert f"| {name} | what {name} does | {fact} |\n" in table, table
@@ -98,7 +105,22 @@ def rewritten_with_fault(root):
     assert (root / "docs" / "EDITS.md").read_bytes() == before
 
 
-first, table = "code/none_written", "docs/EDITS.md"
+def of_model(log, words, *expected):
+    """The edit of crate model has another log, and more words in its first line."""
+
+    def change(root):
+        put(log_of(root, model), log + REFUSED)
+        replaced(edit_of(root, model), "does", "does" + words)
+
+    with_tree(change, *expected)
+
+
+def told(log, words, fact):
+    """Then its line in the table has to be another one, with this fact."""
+    of_model(log, words, f"{lacks}| {model} | what {model} does{words} | {fact} |", f"{extra}| {model} |")
+
+
+first, model, table = "code/none_written", "model/by_counts", "docs/EDITS.md"
 shape = f"{first}: it was refused for its shape"
 lacks, extra = f"{table} lacks the line: ", f"{table} should not have the line: "
 with_tree(lambda root: None)
@@ -120,4 +142,22 @@ with_tree(lambda root: replaced(root / table, "way_back", "search"), f"{lacks}| 
 with_tree(lambda root: replaced(edit_of(root, first), "what", "all that"), f"{lacks}| {first} |", f"{extra}| {first} |")
 with_tree(lambda root: replaced(root / table, "# The", "# Some"), f"{lacks}# The", f"{extra}# Some")
 with_tree(rewritten_with_fault, shape)
+
+# Rows and examples of crate model: what the first error names, and not a later one, is told, and the edit's own words have to agree with it.
+failed, no_row, says = "Rattle.model.specs.Examples.Failed", f"{model}: the log names no row, at ", f"{model}: the edit says "
+by_row, by_example = ': refused by row "E".', ": refused by the example `no-card`."
+for term in *(f'(({word} "E" (call 1)) .name)' for word in ("act", "refused", "points", "explains", "plans", "refuses")), '"E"':
+    told(error("SomeExamples", "rows-hold", f"{failed} {term}"), by_row, 'SomeExamples `rows-hold`, row "E"')
+row_e, theorem = error("SomeExamples", "rows-hold", f'{failed} "E"'), error("RelatedExamples", "no-card", "Path ℕ 1 1")
+told(row_e + LOGS[model], by_row, 'SomeExamples `rows-hold`, row "E"')
+told(theorem + LOGS[model], by_example, "RelatedExamples `no-card`")
+told(error("Counts", "ascends", "m ≤ n") + LOGS[model], "", "Counts `ascends`")
+of_model(theorem + LOGS[model], "", f"{no_row}RelatedExamples no-card")
+of_model(theorem + row_e, by_row, f"{no_row}RelatedExamples no-card")
+of_model(error("Examples", "rows-hold", 'verdict ((row "E" (call 1)) .name) (isEq 1 2)'), by_row, f"{no_row}Examples rows-hold")
+of_model(error("Examples", "rows-hold", 'Failed ((row "E…[9 bytes]…E" (call 1)) .name)'), "", f"{no_row}Examples rows-hold")
+of_model(LOGS[model] + row_e, by_row, f'{says}row "E", the log Examples `starred-hold`, row "D"')
+of_model(LOGS[model], by_example, f'{says}the example `no-card`, the log Examples `starred-hold`, row "D"')
+of_model(error("RelatedExamples", "larger", "m ≤ n"), by_example, f"{says}the example `no-card`, the log RelatedExamples `larger`")
+of_model(error("Counts", "ascends", "m ≤ n") + row_e, by_row, f'{says}row "E", the log Counts `ascends`')
 print(f"edit needs: {done} passed")
