@@ -15,8 +15,9 @@ use Rattle.model.specs.declared.Answer.the-variants.{Cost, Refused}
 use Rattle.model.specs.Instance.{instanceOf}
 use Rattle.model.specs.Thesis.{countsCost}
 use Rattle.model.specs.Plans.{planInRack, planServes, sheetOf}
-use Rattle.model.specs.Calls.{makeSheet, specOf, anyShort, firstOf, answerOf, answer, sheetBytes, sheetAtExit, atExit}
-use Rattle.laws.specs.Acceptance.{top-range}
+use Rattle.model.specs.Specs.{anyShort, firstOf, sheetBytes, atExit}
+use Rattle.model.specs.Calls.{makeSheet, specOf, answer, sheetAtExit}
+use Rattle.laws.specs.Acceptance.{accepted-bounds}
 use Rattle.laws.specs.OnCard.{on-card-refused, on-card-passed}
 use Rattle.theory.specs.Hypotheses.{PlanFits}
 use Rattle.theory.specs.SheetLaws.{plan-cost-counts}
@@ -47,7 +48,7 @@ module _ (s p x : List ℕ) where
   made-written is e new-is = (is, new-is ∙ rw (sheet-at-exit s p x, ← is, e))
 
   pub make-refused : {c : Checked} {y : Refusal} → c ≡ checkedOf s → c ≡ Invalid y → Made s p x (Refused y) x
-  unfolding answer answerOf specOf
+  unfolding answer specOf
   make-refused is e = made-kept (sym (on-card-refused s _ _ (refused-answer s is e))) refl
 
   module _ {h : Header} (r : Ready s h) where
@@ -66,7 +67,7 @@ module _ (s p x : List ℕ) where
           }
 
     pub make-short : length x < h .modules * h .slots → Refused BufferTooShort ≡ answer (makeSheet s p x)
-    unfolding answer answerOf specOf firstOf anyShort
+    unfolding answer specOf firstOf anyShort
     make-short less =
         sym (on-card-passed s _ _ (r .accepted) ∙ rw (lt-ltb (length x) (sheetBytes (instanceOf s)) (rw (← sheet-size r) less)))
 
@@ -75,7 +76,7 @@ module _ (s p x : List ℕ) where
       room = rw (← sheet-size r) roomy
 
       pub make-length : (length p ≡ h .slots → ⊥) → Refused WrongLength ≡ answer (makeSheet s p x)
-      unfolding answer answerOf specOf firstOf anyShort
+      unfolding answer specOf firstOf anyShort
       make-length wrong =
           sym
           (on-card-passed s _ _ (r .accepted) ∙
@@ -83,22 +84,22 @@ module _ (s p x : List ℕ) where
 
       module _ (slotwise : length p ≡ h .slots) where
         pub make-entries : planInRack (instanceOf s) p ≡ false → Refused EntryRange ≡ answer (makeSheet s p x)
-        unfolding answer answerOf specOf firstOf anyShort
+        unfolding answer specOf firstOf anyShort
         make-entries e = sym (on-card-passed s _ _ (r .accepted) ∙ rw (le-ltb _ _ room, eq-eqb _ _ (plan-sized slotwise .slotwise), e))
 
         module _ (entries : planInRack (instanceOf s) p ≡ true) where
           pub make-load : planServes (instanceOf s) p ≡ false → Refused LoadNotServed ≡ answer (makeSheet s p x)
-          unfolding answer answerOf specOf firstOf anyShort
+          unfolding answer specOf firstOf anyShort
           make-load e =
               sym (on-card-passed s _ _ (r .accepted) ∙ rw (le-ltb _ _ room, eq-eqb _ _ (plan-sized slotwise .slotwise), entries, e))
 
           module _ (served : planServes (instanceOf s) p ≡ true) where
             pub make-cost : {n : ℕ} → n ≡ countsCost (instanceOf s) 0 p → Cost n ≡ answer (makeSheet s p x)
-            unfolding answer answerOf specOf firstOf anyShort
+            unfolding answer specOf firstOf anyShort
             make-cost e =
                 let fit : PlanFits (instanceOf s) p =
                 record {
-                  steps = omega (arith, top-range s (r .accepted) .1);
+                  steps = omega (arith, accepted-bounds s (r .accepted) .topStep .1);
                   slotwise = plan-sized slotwise .slotwise;
                   in-rack = plan-ready slotwise entries served .in-rack;
                   served = served;

@@ -12,7 +12,8 @@ use Rattle.model.specs.declared.Refusal.the-variants.{EntryRange, LoadNotServed
 use Rattle.model.specs.declared.Answer.the-variants.{Cost, Refused}
 use Rattle.model.specs.Instance.{instanceOf}
 use Rattle.model.specs.Counts.{canServe, operatingCost}
-use Rattle.model.specs.Calls.{runningCost, specOf, firstOf, answerOf, answer}
+use Rattle.model.specs.Specs.{firstOf}
+use Rattle.model.specs.Calls.{runningCost, specOf, answer}
 use Rattle.laws.specs.OnCard.{on-card-refused, on-card-passed}
 use Rattle.card.specs.declared.Header.{Header}
 use Rattle.card.specs.declared.Checked.{Checked}
@@ -23,12 +24,12 @@ use Rattle.counts.specs.Serving.{Served}
 
 module _ (s : List ℕ) (n l : ℕ) where
   pub pair-refused : {c : Checked} {x : Refusal} → c ≡ checkedOf s → c ≡ Invalid x → Refused x ≡ answer (runningCost s n l)
-  unfolding answer answerOf specOf
+  unfolding answer specOf
   pair-refused is e = sym (on-card-refused s _ _ (refused-answer s is e))
 
   module _ {h : Header} (r : Ready s h) where
     pub pair-entry : h .modules < n → Refused EntryRange ≡ answer (runningCost s n l)
-    unfolding answer answerOf specOf firstOf
+    unfolding answer specOf firstOf
     pair-entry many = sym (on-card-passed s _ _ (r .accepted) ∙ rw (lt-leb n (instanceOf s .modules) (omega (arith, r .header .modules-is))))
 
     module _ (few : n ≤ h .modules) where
@@ -51,11 +52,11 @@ module _ (s : List ℕ) (n l : ℕ) where
       served enough = record { ready = r; in-rack = in-rack; serves = rw (← r .header .top-is) enough }
 
       pub pair-load : n * h .topStep < l → Refused LoadNotServed ≡ answer (runningCost s n l)
-      unfolding answer answerOf specOf firstOf canServe
+      unfolding answer specOf firstOf canServe
       pair-load less =
           sym (on-card-passed s _ _ (r .accepted) ∙ rw (le-leb _ _ in-rack, lt-leb l (n * instanceOf s .topStep) (rw (← r .header .top-is) less)))
 
       pub pair-cost : l ≤ n * h .topStep → {x : ℕ} → x ≡ operatingCost (instanceOf s) n l → Cost x ≡ answer (runningCost s n l)
-      unfolding answer answerOf specOf firstOf canServe
+      unfolding answer specOf firstOf canServe
       pair-cost enough e =
           ap Cost e ∙ sym (on-card-passed s _ _ (r .accepted) ∙ rw (le-leb _ _ in-rack, le-leb l (n * instanceOf s .topStep) (served enough .serves)))

@@ -13,8 +13,8 @@ use Rattle.model.specs.declared.Answer.{Answer}
 use Rattle.model.specs.declared.Answer.the-variants.{Cost, Refused}
 use Rattle.model.specs.Instance.{instanceOf, headLength, loadPlace, markOf, cardMark, versionOf, cardLength}
 use Rattle.model.specs.Instance.{convex, tableInRange, pricesInRange, loadsInRange}
-use Rattle.model.specs.Calls.{frontTests, sizeTests, bodyTests, firstOf}
-use Rattle.laws.specs.FirstRefusal.{first-passed}
+use Rattle.model.specs.Specs.{frontTests, sizeTests, bodyTests, firstOf}
+use Rattle.laws.specs.FirstRefusal.{none-applies}
 use Rattle.card.specs.declared.Header.{Header}
 use Rattle.card.specs.Fields.{HeaderOf, Sized}
 use Rattle.card.specs.Checking.{rackFits, firstAmong}
@@ -41,7 +41,7 @@ module _ (s : List ℕ) where
   -- A card that passes refusals 1 and 2 has its head.
   pub front-length : {a : Answer} {n : ℕ} → a ≡ firstAmong (frontTests s) → a ≡ Cost n → headLength ≤ length s
   unfolding firstAmong
-  front-length is e = ltb-false _ _ (or-left _ _ (first-passed _ _ _ (sym is ∙ e) .0))
+  front-length is e = ltb-false _ _ (or-left _ _ (none-applies _ _ (sym is ∙ e) .0))
 
   module _ (h : Header) (given : HeaderOf s h) where
     pub size-rack : rackFits h ≡ false → Refused RackSize ≡ firstAmong (sizeTests s)
@@ -69,9 +69,7 @@ module _ (s : List ℕ) where
     pub size-of : {a : Answer} {n : ℕ} → a ≡ firstAmong (sizeTests s) → a ≡ Cost n → Sized s h
     unfolding firstAmong cardLength
     size-of is e =
-        let rack = first-passed _ _ _ (sym is ∙ e) in
-        let slots = first-passed _ _ _ (rack .1) in
-        let size = first-passed _ _ _ (slots .1) .0 in
+        let (rack, (slots, (size, none))) = none-applies _ _ (sym is ∙ e) in
         record { header = given; size = rw (given .top-is, given .slots-is) (eqb-true _ _ (not-false _ size)) }
 
     price-test :
@@ -80,17 +78,17 @@ module _ (s : List ℕ) where
     unfolding pricesInRange
     price-test e f g = rw (← given .up-is, ← given .down-is, ← given .top-is, e, f, g)
 
-    pub body-up : 500000000 < h .powerUp → Refused PriceRange ≡ firstAmong (bodyTests s)
+    pub body-up : 500000000 < h .powerUp → Refused PriceRange ≡ firstAmong (bodyTests (instanceOf s))
     unfolding firstAmong firstOf
     body-up e = rw (price-test (lt-leb _ _ e) refl refl)
 
     module _ (up-ok : h .powerUp ≤ 500000000) where
-      pub body-down : 500000000 < h .powerDown → Refused PriceRange ≡ firstAmong (bodyTests s)
+      pub body-down : 500000000 < h .powerDown → Refused PriceRange ≡ firstAmong (bodyTests (instanceOf s))
       unfolding firstAmong firstOf
       body-down e = rw (price-test (le-leb _ _ up-ok) (lt-leb _ _ e) refl)
 
       module _ (down-ok : h .powerDown ≤ 500000000) where
-        pub body-table : tableInRange (h .topStep) (instanceOf s .table) ≡ false → Refused PriceRange ≡ firstAmong (bodyTests s)
+        pub body-table : tableInRange (h .topStep) (instanceOf s .table) ≡ false → Refused PriceRange ≡ firstAmong (bodyTests (instanceOf s))
         unfolding firstAmong firstOf
         body-table e = rw (price-test (le-leb _ _ up-ok) (le-leb _ _ down-ok) e)
 
@@ -98,15 +96,15 @@ module _ (s : List ℕ) where
           prices : pricesInRange (instanceOf s) ≡ true
           prices = price-test (le-leb _ _ up-ok) (le-leb _ _ down-ok) table-ok
 
-          pub body-not-convex : convex (h .topStep) (instanceOf s .table) ≡ false → Refused NotConvex ≡ firstAmong (bodyTests s)
+          pub body-not-convex : convex (h .topStep) (instanceOf s .table) ≡ false → Refused NotConvex ≡ firstAmong (bodyTests (instanceOf s))
           unfolding firstAmong firstOf
           body-not-convex e = rw (prices, ← given .top-is, e)
 
           module _ (convex-ok : convex (h .topStep) (instanceOf s .table) ≡ true) where
-            pub body-load : loadsInRange (instanceOf s) ≡ false → Refused LoadRange ≡ firstAmong (bodyTests s)
+            pub body-load : loadsInRange (instanceOf s) ≡ false → Refused LoadRange ≡ firstAmong (bodyTests (instanceOf s))
             unfolding firstAmong firstOf
             body-load e = rw (prices, rw (given .top-is) at convex-ok, e)
 
-            pub body-passed : loadsInRange (instanceOf s) ≡ true → Cost 0 ≡ firstAmong (bodyTests s)
+            pub body-passed : loadsInRange (instanceOf s) ≡ true → Cost 0 ≡ firstAmong (bodyTests (instanceOf s))
             unfolding firstAmong firstOf
             body-passed e = rw (prices, rw (given .top-is) at convex-ok, e)

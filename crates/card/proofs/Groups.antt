@@ -7,20 +7,21 @@ use Rattle.model.specs.declared.Refusal.{Refusal}
 use Rattle.model.specs.declared.Answer.{Answer}
 use Rattle.model.specs.declared.Answer.the-variants.{Cost, Refused}
 use Rattle.model.specs.Instance.{instanceOf}
-use Rattle.model.specs.Calls.{checkCard, frontTests, sizeTests, bodyTests, cardTests, specOf, firstOf, answerOf, answer, Accepted}
+use Rattle.model.specs.Specs.{frontTests, sizeTests, bodyTests, cardTests, firstOf}
+use Rattle.model.specs.Calls.{checkCard, specOf, answer, Accepted}
 use Rattle.card.specs.declared.Header.{Header}
 use Rattle.card.specs.declared.Checked.{Checked}
 use Rattle.card.specs.declared.Checked.the-variants.{Valid, Invalid}
 use Rattle.card.specs.Fields.{HeaderOf, Sized}
 use Rattle.card.specs.Checking.{firstAmong, headerOf, checkedAs, checkedOf, ConvexTable, Ready}
 use Rattle.laws.specs.FirstRefusal.{first-refused, first-through}
-use Rattle.laws.specs.Acceptance.{modules-range, top-range, slots-range, table-convex}
+use Rattle.laws.specs.Acceptance.{accepted-bounds}
 use Rattle.laws.specs.LeastSteps.{lowestStep}
 
 module _ (s : List ℕ) where
   -- The card's answer tests refusals 1 and 2, then 3 to 5, then 6 to 8.
-  by-groups : answer (checkCard s) ≡ firstOf (frontTests s) (firstOf (sizeTests s) (firstOf (bodyTests s) (Cost 0)))
-  unfolding answer answerOf specOf cardTests firstOf
+  by-groups : answer (checkCard s) ≡ firstOf (frontTests s) (firstOf (sizeTests s) (firstOf (bodyTests (instanceOf s)) (Cost 0)))
+  unfolding answer specOf cardTests firstOf
   by-groups = refl
 
   refused : {x : Refusal} → answer (checkCard s) ≡ Refused x → Invalid x ≡ checkedOf s
@@ -34,7 +35,7 @@ module _ (s : List ℕ) where
     front-refused e = refused (by-groups ∙ first-refused _ _ refl (sym front-is ∙ e))
 
     module _ {k : ℕ} (front-passed : front ≡ Cost k) {size : Answer} (size-is : size ≡ firstAmong (sizeTests s)) where
-      after-front : answer (checkCard s) ≡ firstOf (sizeTests s) (firstOf (bodyTests s) (Cost 0))
+      after-front : answer (checkCard s) ≡ firstOf (sizeTests s) (firstOf (bodyTests (instanceOf s)) (Cost 0))
       unfolding firstAmong
       after-front = by-groups ∙ first-through _ _ _ (sym front-is ∙ front-passed)
 
@@ -42,7 +43,7 @@ module _ (s : List ℕ) where
       unfolding firstAmong
       size-refused e = refused (after-front ∙ first-refused _ _ refl (sym size-is ∙ e))
 
-      module _ {l : ℕ} (size-passed : size ≡ Cost l) {body : Answer} (body-is : body ≡ firstAmong (bodyTests s)) where
+      module _ {l : ℕ} (size-passed : size ≡ Cost l) {body : Answer} (body-is : body ≡ firstAmong (bodyTests (instanceOf s))) where
         after-size : answer (checkCard s) ≡ body
         unfolding firstAmong
         after-size = after-front ∙ first-through _ _ _ (sym size-is ∙ size-passed) ∙ sym body-is
@@ -52,13 +53,13 @@ module _ (s : List ℕ) where
 
         -- Where all three passed, the card is accepted.
         passed-accepted : {n : ℕ} → body ≡ Cost n → Accepted s
-        unfolding answer answerOf specOf
+        unfolding answer specOf
         passed-accepted e = first-through _ _ _ (after-size ∙ e)
 
         -- So its table is convex.
         pub passed-convex : {n : ℕ} (h : Header) → Sized s h → body ≡ Cost n → ConvexTable s h
         passed-convex h given e =
-            record { sized = given; convexity = rw (given .header .top-is) (table-convex s (passed-accepted e)) }
+            record { sized = given; convexity = rw (given .header .top-is) (accepted-bounds s (passed-accepted e) .convexity) }
 
         pub all-passed :
             {n : ℕ} (h : Header) → HeaderOf s h → body ≡ Cost n → {lowest : ℕ} → lowest ≡ lowestStep (instanceOf s) →
@@ -97,7 +98,7 @@ module _ (s : List ℕ) {c : Checked} (is : c ≡ checkedOf s) where
       go (Refused y) f = cc
 
   valid-answer : {h : Header} → c ≡ Valid h → Accepted s × (headerOf s ≡ h)
-  unfolding checkedOf answer answerOf specOf
+  unfolding checkedOf answer specOf
   valid-answer {h} e = go (answer (checkCard s)) refl (sym is ∙ e)
     where
       go :
@@ -123,9 +124,9 @@ module _ (s : List ℕ) {c : Checked} (is : c ≡ checkedOf s) where
               slots-is = refl;
               up-is = refl;
               down-is = refl;
-              modules-bound = omega (arith, modules-range s given .1);
-              top-bound = omega (arith, top-range s given .1);
-              slots-bound = omega (arith, slots-range s given);
+              modules-bound = omega (arith, accepted-bounds s given .modules .1);
+              top-bound = omega (arith, accepted-bounds s given .topStep .1);
+              slots-bound = omega (arith, accepted-bounds s given .slots);
             };
         lowest-is = refl;
       })

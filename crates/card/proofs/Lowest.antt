@@ -9,7 +9,7 @@ use Rattle.lists.specs.Numbers.{le-or-lt}
 use Rattle.lists.specs.Ranges.{LeastAt}
 use Rattle.model.specs.Instance.{instanceOf}
 use Rattle.model.specs.MoreLight.{activeStep}
-use Rattle.laws.specs.Acceptance.{table-convex}
+use Rattle.laws.specs.Acceptance.{accepted-bounds}
 use Rattle.laws.specs.Tables.{Convex, convex-test, rises-past}
 use Rattle.laws.specs.LeastSteps.{lowestStep, active-is, active-least, active-greater}
 use Rattle.card.specs.declared.Header.{Header}
@@ -60,7 +60,7 @@ lowest-in-table {s} ready = omega (arith, ready .lowest-is, active-least (instan
 
 -- The table of an accepted card is convex.
 pub convex-table : {s : List ℕ} {h : Header} → Ready s h → Convex (instanceOf s .topStep) (instanceOf s .table)
-convex-table {s} ready = convex-test _ _ .0 (table-convex s (ready .accepted))
+convex-table {s} ready = convex-test _ _ .0 (accepted-bounds s (ready .accepted) .convexity)
 
 -- The step at which a module is active on an accepted card.
 module _ {s : List ℕ} {h : Header} (ready : Ready s h) (k : ℕ) where

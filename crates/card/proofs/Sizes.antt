@@ -7,7 +7,7 @@ use native.Mathlib.Omega.{arith}
 use mir.Syntax.{w64}
 use mir.Val.{Fits}
 use Rattle.model.specs.Instance.{instanceOf}
-use Rattle.model.specs.Calls.{sheetBytes}
+use Rattle.model.specs.Specs.{sheetBytes}
 use Rattle.card.specs.declared.Header.{Header}
 use Rattle.card.specs.Checking.{Ready}
 

@@ -6,7 +6,8 @@ use mathlib.Core.List.{List}
 use Rattle.model.specs.declared.Answer.{Answer}
 use Rattle.model.specs.declared.Answer.the-variants.{Cost, Refused}
 use Rattle.model.specs.Instance.{instanceOf, rackNumber, convex}
-use Rattle.model.specs.Calls.{Test, checkCard, answer, firstOf, Accepted}
+use Rattle.model.specs.Specs.{Test, firstOf}
+use Rattle.model.specs.Calls.{checkCard, answer, Accepted}
 use Rattle.laws.specs.LeastSteps.{lowestStep}
 use Rattle.card.specs.declared.Header.{Header}
 use Rattle.card.specs.declared.Checked.{Checked}

@@ -8,7 +8,7 @@ ghost use Rattle.lists.specs.Lists.{sameList};
 ghost use Rattle.model.specs.Instance.{instanceOf, headLength, loadPlace, markOf, cardMark, versionOf, rackNumber};
 ghost use Rattle.model.specs.Instance.{convexAt, convex, tableInRange, loadsInRange};
 ghost use Rattle.model.specs.MoreLight.{activeStep};
-ghost use Rattle.model.specs.Calls.{frontTests, sizeTests, bodyTests};
+ghost use Rattle.model.specs.Specs.{frontTests, sizeTests, bodyTests};
 ghost use Rattle.laws.specs.LeastSteps.{lowestStep};
 ghost use Rattle.card.specs.Fields.{Within, ReadAt, HeaderOf, Sized, PlaceNear, EntryThere, TableEntry, LoadThere, SlotLoad};
 ghost use Rattle.card.specs.Checking.{ConvexThere, ConvexTable, rackFits, firstAmong, checkedOf, Ready};
@@ -313,7 +313,7 @@ fn loads_in_range(card: &[u8], h: Header) -> bool
 // Refusals 6 to 8.
 fn check_body(card: &[u8], h: Header) -> Answer
     requires { ⌜ Sized (now card) h ⌝ }
-    ensures { λ r. ⌜ r ≡ firstAmong (bodyTests (now (card .entry))) ⌝ }
+    ensures { λ r. ⌜ r ≡ firstAmong (bodyTests (instanceOf (now (card .entry)))) ⌝ }
 {
     if 500000000 < h.powerUp {
         return Answer::Refused(Refusal::PriceRange);

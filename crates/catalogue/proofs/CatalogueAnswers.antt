@@ -16,8 +16,9 @@ use Rattle.model.specs.declared.Answer.the-variants.{Cost, Refused}
 use Rattle.model.specs.Answers.{numberOf}
 use Rattle.model.specs.Instance.{tableSize, rackNumber}
 use Rattle.model.specs.Catalogue.{catalogueTop, catalogueEntry, entryOf, TestedTable, catalogueBytes}
-use Rattle.model.specs.Calls.{catalogueTable, anyShort, specOf, firstOf, answerOf, answer}
-use Rattle.model.specs.Calls.{tableBuffer, atExit, buffersAtExit, tableAtExit}
+use Rattle.model.specs.Specs.{anyShort, firstOf, tableBuffer, atExit}
+use Rattle.model.specs.Calls.{catalogueTable, specOf, answer}
+use Rattle.model.specs.Calls.{buffersAtExit, tableAtExit}
 use Rattle.model.specs.Promises.{WritesTable}
 use Rattle.laws.specs.Acceptance.{rack-range}
 use Rattle.laws.specs.CardTables.{head-top, table-behind}
@@ -45,7 +46,7 @@ module _ (top : ℕ) (table : List ℕ) where
       rackNumber top ≡ false →
       (Refused RackSize ≡ answer (catalogueTable top table)) ×
       ((table ≡ tableAtExit (catalogueTable top table)) × WritesTable top table (numberOf (Refused RackSize)))
-  unfolding answer answerOf specOf firstOf atExit
+  unfolding answer specOf firstOf atExit
   top-refused e =
       let given : answer (catalogueTable top table) ≡ Refused RackSize = rw e refl in
       (sym given, (exit-by given, refused-writes))
@@ -56,7 +57,7 @@ module _ (top : ℕ) (table : List ℕ) where
         length table < tableSize top →
         (Refused BufferTooShort ≡ answer (catalogueTable top table)) ×
         ((table ≡ tableAtExit (catalogueTable top table)) × WritesTable top table (numberOf (Refused BufferTooShort)))
-    unfolding answer answerOf specOf firstOf anyShort atExit
+    unfolding answer specOf firstOf anyShort atExit
     short-refused h =
         let given : answer (catalogueTable top table) ≡ Refused BufferTooShort = rw (ranged, lt-ltb _ _ h) refl in
         (sym given, (exit-by given, refused-writes))
@@ -92,7 +93,7 @@ module _ (top : ℕ) (table : List ℕ) where
       pub table-given :
           {new : List ℕ} → new ≡ writtenOver (elementBytes 4 (take (top + 1) whole)) table →
           (Cost 0 ≡ answer (catalogueTable top table)) × ((new ≡ tableAtExit (catalogueTable top table)) × WritesTable top new 0)
-      unfolding answer answerOf specOf firstOf anyShort atExit
+      unfolding answer specOf firstOf anyShort atExit
       table-given {new} written =
           let given : answer (catalogueTable top table) ≡ Cost 0 = rw (ranged, le-ltb _ _ long) refl in
           let over : new ≡ writtenOver (catalogueBytes top) table = rw bytes-are at written in

@@ -1,7 +1,7 @@
 -- The rules for a list of allowed counts and its ratio, test by test.
 use Prim.Native.Nat.{ℕ, _+_, _-_, _*_, _≤_, _<_}
-use mathlib.Core.Path.{_≡_, refl}
-use mathlib.Core.Bool.{Bool, true, false, _&&_}
+use mathlib.Core.Path.{_≡_}
+use mathlib.Core.Bool.{true, false}
 use mathlib.Core.List.{List}
 use native.Mathlib.Nat.{le-of-lt, mul-le-mul-left, mul-le-mul-right}
 use native.Mathlib.Omega.{arith}
@@ -9,8 +9,8 @@ use lib.ListN.{length, getD}
 use lib.Dec.{leb, eqb}
 use borrow.Author.Tests.{ltb-true, leb-true, le-leb, lt-leb, eq-eqb, ne-eqb}
 use Rattle.lists.specs.Tests.{and-left, and-right, every-at}
-use Rattle.model.specs.CountRules.{strictlyAscends, gapsGrowBy, keepsRules}
-use Rattle.count_rules.specs.RuleRequires.{Rising, endsAt, ratioInRange}
+use Rattle.model.specs.CountRules.{strictlyAscends, gapsGrowBy, endsAt, ratioInRange, keepsRules}
+use Rattle.count_rules.specs.RuleRequires.{Rising}
 
 -- Three neighbours of a list that ascends rise.
 pub rising :
@@ -52,30 +52,25 @@ ratio-most r e = leb-true _ _ (and-right (leb 1 r) _ e)
 
 -- All rules, a group after the other.
 module _ (l : List ℕ) (r m : ℕ) where
-  -- The rules in groups: on the ends, on the order, on the ratio, on the first entry after 0 and on the gaps.
-  in-groups : keepsRules l r m ≡ (endsAt l m && (strictlyAscends l && (ratioInRange r && (leb (getD l 1 0) r && gapsGrowBy r l))))
-  unfolding keepsRules endsAt ratioInRange
-  in-groups = regrouped (leb 2 (length l) && leb (length l) 201) (eqb (getD l 0 0) 0) (eqb (getD l (length l - 1) 0) m) _
-    where
-      regrouped : (a b c d : Bool) → (a && (b && (c && d))) ≡ ((a && (b && c)) && d)
-      regrouped true true c d = refl
-      regrouped true false c d = refl
-      regrouped false b c d = refl
-
   pub wrong-ends : endsAt l m ≡ false → false ≡ keepsRules l r m
-  wrong-ends h = rw (in-groups, h)
+  unfolding keepsRules
+  wrong-ends h = rw h
 
   module _ (ends : endsAt l m ≡ true) where
     pub not-ascending : strictlyAscends l ≡ false → false ≡ keepsRules l r m
-    not-ascending h = rw (in-groups, ends, h)
+    unfolding keepsRules
+    not-ascending h = rw (ends, h)
 
     module _ (up : strictlyAscends l ≡ true) where
       pub wrong-ratio : ratioInRange r ≡ false → false ≡ keepsRules l r m
-      wrong-ratio h = rw (in-groups, ends, up, h)
+      unfolding keepsRules
+      wrong-ratio h = rw (ends, up, h)
 
       module _ (range : ratioInRange r ≡ true) where
         pub first-high : r < getD l 1 0 → false ≡ keepsRules l r m
-        first-high h = rw (in-groups, ends, up, range, lt-leb _ _ h)
+        unfolding keepsRules
+        first-high h = rw (ends, up, range, lt-leb _ _ h)
 
         pub gaps-decide : getD l 1 0 ≤ r → gapsGrowBy r l ≡ keepsRules l r m
-        gaps-decide h = rw (in-groups, ends, up, range, le-leb _ _ h)
+        unfolding keepsRules
+        gaps-decide h = rw (ends, up, range, le-leb _ _ h)

@@ -3,8 +3,8 @@ ghost use Prim.Native.Nat.{_-_, _*_, _≤_};
 ghost use mathlib.Core.Path.{_≡_};
 ghost use mathlib.Core.Bool.{true};
 ghost use lib.Dec.{leb};
-ghost use Rattle.model.specs.CountRules.{strictlyAscends, gapsGrowBy, keepsRules};
-ghost use Rattle.count_rules.specs.RuleRequires.{Rising, endsAt, ratioInRange};
+ghost use Rattle.model.specs.CountRules.{strictlyAscends, gapsGrowBy, endsAt, ratioInRange, keepsRules};
+ghost use Rattle.count_rules.specs.RuleRequires.{Rising};
 
 // Each entry is below the next one.
 fn strictly_ascends(list: &[u16]) -> bool

@@ -1,6 +1,6 @@
 -- The coarse counts of a rack of at most 200: 0, the powers of two up to m, and m if it is no power. The number of powers is read
 -- off the leading zeros. What holds of one rack and the next is a test that antt computes for each rack.
-use Prim.Native.Nat.{ℕ, zero, suc, _+_, _-_, _^_, _≤_, _<_}
+use Prim.Native.Nat.{ℕ, zero, suc, _-_, _^_, _≤_, _<_}
 use mathlib.Core.Path.{_≡_, refl, sym, _∙_}
 use mathlib.Core.Bool.{Bool, true, cond, _&&_, _||_, or-true}
 use mathlib.Core.List.{List, [], _∷_, _++_}

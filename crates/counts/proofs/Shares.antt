@@ -11,7 +11,7 @@ use Rattle.lists.specs.Division.{quotient-lt, part-and-rest}
 use Rattle.model.specs.Instance.{Instance, instanceOf}
 use Rattle.model.specs.MoreLight.{leastFrom}
 use Rattle.model.specs.Counts.{operatingCost}
-use Rattle.laws.specs.Acceptance.{modules-range, top-range, table-range}
+use Rattle.laws.specs.Acceptance.{accepted-bounds}
 use Rattle.laws.specs.LeastSteps.{lowestStep, least-level, least-itself}
 use Rattle.laws.specs.Operating.{operating-some, operating-bound}
 use Rattle.card.specs.declared.Header.{Header}
@@ -65,14 +65,14 @@ module _ {s : List ℕ} {h : Header} {n l : ℕ} (p : Served s h n l) (some : n 
 module _ {s : List ℕ} {h : Header} {n l : ℕ} (p : Served s h n l) where
   pub product-small : {k x : ℕ} → k ≤ n → x < 256 ^ 4 → k * x ≤ 200 * 256 ^ 4
   product-small {k} {x} h b =
-      let rack = modules-range s (p .ready .accepted) .1 in
+      let rack = accepted-bounds s (p .ready .accepted) .modules .1 in
       mul-le-mul {n₁ = k} {m₁ = x} {n₂ = 200} {m₂ = 256 ^ 4} (omega (arith, p .in-rack)) (omega arith)
 
   pub product-fits : {k x : ℕ} → k ≤ n → x < 256 ^ 4 → Fits w64 (k * x)
   product-fits {k} {x} h b = record { fits = omega (arith, product-small h b) }
 
   pub step-small : (n ≡ 0 → ⊥) → l / n ≤ 200
-  step-small some = omega (arith, step-within n l some (instanceOf s .topStep) (p .serves), top-range s (p .ready .accepted) .1)
+  step-small some = omega (arith, step-within n l some (instanceOf s .topStep) (p .serves), accepted-bounds s (p .ready .accepted) .topStep .1)
 
 pub sum-fits : {a b : ℕ} → a ≤ 200 * 256 ^ 4 → b ≤ 200 * 256 ^ 4 → Fits w64 (a + b)
 sum-fits h g = record { fits = omega arith }
@@ -82,7 +82,7 @@ pub operating-most : {s : List ℕ} {h : Header} {n l : ℕ} → Served s h n l 
 operating-most {s} {h} {n} {l} given =
     omega (
       arith,
-      operating-bound (instanceOf s) 1000000 (table-range s (given .ready .accepted)) n l (given .serves),
+      operating-bound (instanceOf s) 1000000 (accepted-bounds s (given .ready .accepted) .table) n l (given .serves),
       given .in-rack,
-      modules-range s (given .ready .accepted) .1,
+      accepted-bounds s (given .ready .accepted) .modules .1,
     )

@@ -12,7 +12,7 @@ use borrow.Rule.Slice.PartMut.{midOf}
 use Rattle.lists.specs.Summing.{Summed, summed-more, summed-all, summed-room}
 use Rattle.model.specs.Instance.{instanceOf}
 use Rattle.model.specs.Sheets.{activeAt}
-use Rattle.laws.specs.Acceptance.{modules-range, slots-range}
+use Rattle.laws.specs.Acceptance.{accepted-bounds}
 use Rattle.theory.specs.SheetLaws.{counts-length}
 use Rattle.card.specs.declared.Header.{Header}
 use Rattle.sheets.specs.SheetRequires.{RowShort}
@@ -28,7 +28,7 @@ Counted s sheet = Summed (instanceOf s .slots - 1) (exchangedAfter (instanceOf s
 
 module _ {s : List ℕ} {h : Header} {sheet counts : List ℕ} {t total : ℕ} (known : CountsKnown s h sheet counts) (inv : Counted s sheet t total) where
   pub next-fits : Fits w64 (t + 1)
-  next-fits = record { fits = omega (arith, inv .within, slots-range s (known .sized .ready .accepted)) }
+  next-fits = record { fits = omega (arith, inv .within, accepted-bounds s (known .sized .ready .accepted) .slots) }
 
   slotwise : length counts ≡ instanceOf s .slots
   slotwise = ap length (known .counts-are) ∙ counts-length (instanceOf s) sheet
@@ -107,7 +107,7 @@ module _ {s : List ℕ} {h : Header} {sheet counts : List ℕ} {t total : ℕ} (
       total-fits =
           let room = summed-room inv turn-below change-is (λ j _. exchanged-most (instanceOf s) sheet j) in
           let accepted = known .sized .ready .accepted in
-          let most = mul-le-mul (slots-range s accepted) (modules-range s accepted .1) in
+          let most = mul-le-mul (accepted-bounds s accepted .slots) (accepted-bounds s accepted .modules .1) in
           record { fits = omega (arith, room, mul-le-mul-right (instanceOf s .modules) (sub-le (instanceOf s .slots) 1)) }
 
       pub change-counted : Counted s sheet (t + 1) (total + y)

@@ -13,9 +13,10 @@ use Rattle.model.specs.declared.Points.{Points}
 use Rattle.model.specs.Answers.{numberOf, costOf}
 use Rattle.model.specs.Instance.{instanceOf}
 use Rattle.model.specs.Planners.{exact, workBytes}
-use Rattle.model.specs.Calls.{markSheet, explainSheet, answer, atExit}
+use Rattle.model.specs.Specs.{atExit}
+use Rattle.model.specs.Calls.{markSheet, explainSheet, answer}
 use Rattle.model.specs.ExplainedPoints.{explainedWork, noPoints, pointsWith, pointsOf}
-use Rattle.laws.specs.Acceptance.{slots-range}
+use Rattle.laws.specs.Acceptance.{accepted-bounds}
 use Rattle.theory.specs.Outcomes.{mark-number, mark-accepts}
 use Rattle.theory.specs.ExplainedSheets.{work-left, explain-refused, explain-short, explain-unmarked, explain-marked}
 use Rattle.card.specs.declared.Header.{Header}
@@ -28,7 +29,7 @@ use Rattle.explanation.specs.ExplanationRequires.{Marked, PointsRoom, Wo
 -- The front of the array of counts, as it is lent on.
 module _ {s : List ℕ} {h : Header} (r : Ready s h) {counts : List ℕ} (array : CountsArray counts) where
   pub slots-within : h .slots ≤ length counts
-  slots-within = omega (arith, slots-range s (r .accepted))
+  slots-within = omega (arith, accepted-bounds s (r .accepted) .slots)
 
   pub slots-counted : h .slots ≡ length (take (h .slots) counts)
   slots-counted = sym (length-take-le (h .slots) counts slots-within)

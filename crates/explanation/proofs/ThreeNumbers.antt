@@ -18,7 +18,7 @@ use Rattle.model.specs.Plans.{planCost}
 use Rattle.model.specs.Planners.{exact, plannedCost}
 use Rattle.model.specs.Explanation.{countsOperatingCost, countsSwitchingCost, excessOperatingCost, excessSwitchingCost, excessOfCounts}
 use Rattle.model.specs.ExplainedPoints.{pointsWith}
-use Rattle.laws.specs.Acceptance.{modules-range, slots-range, up-range, down-range}
+use Rattle.laws.specs.Acceptance.{accepted-bounds}
 use Rattle.theory.specs.Hypotheses.{Plannable, PlanFits}
 use Rattle.theory.specs.CountCosts.{counts-cost-parts}
 use Rattle.theory.specs.SheetLaws.{serves-parts, sheet-counts-fit, counts-length, plan-cost-counts}
@@ -46,7 +46,7 @@ module _ {s : List ℕ} {h : Header} {sheet : List ℕ} {cost : ℕ} (m : Marked
   counts-room room = record { sized = sheet-sized; slotwise = room .plan-size }
 
   price-most : h .powerUp + h .powerDown ≤ 1000000000
-  price-most = omega (arith, up-range s (m .ready .accepted), down-range s (m .ready .accepted))
+  price-most = omega (arith, accepted-bounds s (m .ready .accepted) .powerUp, accepted-bounds s (m .ready .accepted) .powerDown)
 
   pub price-fits : Fits w64 (h .powerUp + h .powerDown)
   price-fits = record { fits = omega (arith, price-most) }
@@ -56,8 +56,8 @@ module _ {s : List ℕ} {h : Header} {sheet : List ℕ} {cost : ℕ} (m : Marked
   unfolding exchanged
   exchanged-small =
       let accepted = m .ready .accepted in
-      let few = le-trans (sub-le (instanceOf s .slots) 1) (slots-range s accepted) in
-      le-trans (sum-at-most (instanceOf s .slots - 1) (λ t _. exchanged-most (instanceOf s) sheet t)) (mul-le-mul few (modules-range s accepted .1))
+      let few = le-trans (sub-le (instanceOf s .slots) 1) (accepted-bounds s accepted .slots) in
+      le-trans (sum-at-most (instanceOf s .slots - 1) (λ t _. exchanged-most (instanceOf s) sheet t)) (mul-le-mul few (accepted-bounds s accepted .modules .1))
 
   -- The sheet's counts, as they are written.
   module _ {counts : List ℕ} (are : counts ≡ countsOf (instanceOf s) sheet) where

@@ -20,7 +20,8 @@ use Rattle.model.specs.Plans.{sheetOf}
 use Rattle.model.specs.Planners.{Planner, exact, listed, allowedCounts, ratioOf, plannedBy, plannedCost}
 use Rattle.model.specs.Calls.{NumbersOf, Gives, Accepted, planShow, makeSheet, markSheet, practiceCard, catalogueTable, answer}
 use Rattle.model.specs.Calls.{planAtExit, workAtExit, sheetAtExit, cardAtExit, tableAtExit}
-use Rattle.model.specs.Calls.{actIn, actSpec, specOf, buffersAtExit, explainSheet}
+use Rattle.model.specs.Acts.{actSpec}
+use Rattle.model.specs.Calls.{actIn, specOf, buffersAtExit, explainSheet}
 use Rattle.model.specs.ExplainedPoints.{explainedWork, pointsOf}
 use Rattle.model.specs.Acts.{Act, openSitting, readLeast, opened, unopened, isClosed}
 use Rattle.model.specs.SittingState.{factsOf, stateOf, phaseOf}
@@ -28,7 +29,7 @@ use Rattle.model.specs.Sittings.{answerTo, markedWith, told, toldBy, replyWith,
 use Rattle.model.specs.Promises.{OwnSheet, AtMostTimes, MarkedAlike, AcceptsExactly, WritesAccepted, AlwaysEnough, HiddenTillClosed, WritesTable}
 use Rattle.model.specs.Promises.{KeepsRules, LeastWithin, ExplainsMarked, NoneNegative, AboveLeast, ZeroExactly}
 use borrow.Author.Tests.{ne-eqb}
-use Rattle.laws.specs.Acceptance.{modules-range}
+use Rattle.laws.specs.Acceptance.{accepted-bounds}
 use Rattle.laws.specs.AnswerNumber.{number-zero}
 use Rattle.theory.specs.CountLists.{planner-rules}
 use Rattle.theory.specs.Condition3.{accepted-plannable, least-sheet, planner-bound}
@@ -98,7 +99,7 @@ module _ (k : Planner) (c p w : List ℕ) {number cost : ℕ} (given : Gives (pl
       (sheetCost (instanceOf c) (sheetOf (instanceOf c) (plannedBy k (instanceOf c))) ≡ cost)
   unfolding plannedBy
   best-sheet e =
-      let rules = planner-rules k (instanceOf c) (modules-range c (accepted e) .0) (keeps e) in
+      let rules = planner-rules k (instanceOf c) (accepted-bounds c (accepted e) .modules .0) (keeps e) in
       let sheet = least-sheet (accepted-plannable c (accepted e)) _ (rules .ascending) in
       (sheet .0, sheet .1 ∙ sym (cost-of e))
 
@@ -243,5 +244,5 @@ hidden-till-closed z xs d is =
     rw is (record {
       refused = λ still candidate. ap numberOf (refused still candidate);
       no-cost = λ still candidate. ap costOf (refused still candidate);
-      none-marked = λ still candidate. ap (markedWith (actSpec (factsOf (stateOf z xs)) (readLeast d))) (refused still candidate);
+      none-marked = λ still candidate. ap (markedWith (actSpec (readLeast d) .marked (factsOf (stateOf z xs)))) (refused still candidate);
     })

@@ -13,9 +13,10 @@ use Rattle.lists.specs.Bytes.{little-same, little-drop, little-take}
 use Rattle.lists.specs.Rows.{little-numbers}
 use Rattle.model.specs.declared.Answer.{Answer}
 use Rattle.model.specs.Instance.{instanceOf, headLength, entryPlace, tableSize, tableFields, tableOf, tableInRange, convex, priceBound, pricesInRange}
-use Rattle.model.specs.Calls.{Accepted, frontTests, sizeTests, loadTest, cardTests, answer, answerOf, specOf, firstOf}
+use Rattle.model.specs.Specs.{frontTests, sizeTests, loadTest, cardTests, firstOf}
+use Rattle.model.specs.Calls.{Accepted, answer, specOf}
 use Rattle.model.specs.Promises.{OthersInOrder}
-use Rattle.laws.specs.Acceptance.{up-range, down-range}
+use Rattle.laws.specs.Acceptance.{accepted-bounds}
 
 module _ (card : List ℕ) where
   abbrev top : ℕ
@@ -36,7 +37,7 @@ module _ (card : List ℕ) where
     -- Where the two prices keep their bound too, refusals 6 and 7 do not apply, and the card's answer is that of the others.
     by-others :
         instanceOf card .powerUp ≤ priceBound → instanceOf card .powerDown ≤ priceBound → (a : Answer) →
-        firstOf (cardTests card) a ≡ firstOf (frontTests card ++ (sizeTests card ++ (loadTest card ∷ []))) a
+        firstOf (cardTests card) a ≡ firstOf (frontTests card ++ (sizeTests card ++ (loadTest (instanceOf card) ∷ []))) a
     unfolding firstOf cardTests pricesInRange
     by-others up down a =
         let prices = and-both (le-leb (instanceOf card .powerUp) priceBound up) (and-both (le-leb (instanceOf card .powerDown) priceBound down) ranged) in
@@ -44,12 +45,12 @@ module _ (card : List ℕ) where
 
     -- A card with a table in range and convex is accepted exactly if its other fields are in order.
     pub accepted-by-others : OthersInOrder card ↔ Accepted card
-    unfolding answer answerOf specOf
+    unfolding answer specOf
     accepted-by-others = (
       λ o. by-others (o .power-up) (o .power-down) _ ∙ o .others,
       λ e.
-          let up = up-range card e in
-          let down = down-range card e in
+          let up = accepted-bounds card e .powerUp in
+          let down = accepted-bounds card e .powerDown in
           record { others = sym (by-others up down _) ∙ e; power-up = up; power-down = down },
     )
 

@@ -1,7 +1,6 @@
 -- The card that is written for a show (`cardBytes`): what is read from it, and when it is accepted.
 use Prim.Native.Nat.{ℕ, _+_, _*_, _^_, _≤_, _<_}
 use mathlib.Core.Path.{_≡_, refl, sym, ap, _∙_}
-use mathlib.Core.Bool.{true}
 use mathlib.Core.List.{List, [], _++_, append-nil}
 use mathlib.Core.Logic.{_↔_}
 use native.Mathlib.Nat.{mul-le-mul}
@@ -9,18 +8,20 @@ use native.Mathlib.Omega.{arith}
 use lib.Dec.{leb}
 use lib.ListN.{length, take, length-append}
 use lib.Seq.{take-at}
-use borrow.Author.Tests.{leb-true, le-leb, le-ltb, eq-eqb}
-use Rattle.lists.specs.Tests.{and-left, and-right, and-both, every-at, every-all, every-same}
+use borrow.Author.Tests.{le-ltb, eq-eqb}
+use Rattle.lists.specs.Tests.{every-same}
 use Rattle.lists.specs.Lists.{sameList}
 use Rattle.lists.specs.Bytes.{littleEndian, bytesOf, little-bytes, little-after}
 use Rattle.lists.specs.Rows.{length-numbers, little-numbers}
 use Rattle.model.specs.Instance.{Instance, instanceOf, headLength, entryPlace, loadPlace, cardMark, cardVersion, markOf, versionOf}
-use Rattle.model.specs.Instance.{cardLength, tableBytes, loadBytes, cardBytes, inOrder, rackNumber, pricesInRange, tableInRange, convex, loadsInRange}
-use Rattle.model.specs.Calls.{Accepted, answer, answerOf, specOf, cardTests, firstOf}
+use Rattle.model.specs.Instance.{cardLength, tableBytes, loadBytes, cardBytes, pricesInRange, loadsInRange}
+use Rattle.model.specs.declared.Answer.the-variants.{Cost}
+use Rattle.model.specs.Specs.{Test, firstOf, rackTests, bodyTests, cardTests, ShowInOrder}
+use Rattle.model.specs.Calls.{Accepted, answer, specOf}
 use Rattle.model.specs.Promises.{frontCard}
 use Rattle.model.specs.RelatedShows.{Agree}
-use Rattle.laws.specs.Acceptance.{modules-range, top-range, slots-range, up-range, down-range, table-range, table-convex}
-use Rattle.laws.specs.Acceptance.{load-range}
+use Rattle.laws.specs.FirstRefusal.{none-applies, first-none}
+use Rattle.laws.specs.Acceptance.{in-bounds, accepted-in-order}
 use Rattle.laws.specs.Tables.{same-range, same-convex}
 
 -- The fields of a show fit the bytes that a card has for them.
@@ -85,38 +86,27 @@ module _ (i : Instance) where
         }
 
 -- Of two shows that agree, both are in order or neither is.
-same-in-order : {i j : Instance} → SameShow i j → inOrder j ≡ inOrder i
-unfolding inOrder pricesInRange loadsInRange
-same-in-order {i} {j} same =
+same-tests : {i j : Instance} → SameShow i j → rackTests j ++ bodyTests j ≡ rackTests i ++ bodyTests i
+unfolding pricesInRange loadsInRange
+same-tests {i} {j} same =
     let entries = same-range (i .topStep) (same .agree .table) in
     let convexity = same-convex (i .topStep) (same .agree .table) in
     let loads = every-same (i .slots) _ _ (λ t h. ap (λ (x : ℕ). leb x (i .modules * i .topStep)) (same .load t h)) in
     rw (same .modules, same .agree .topStep, same .slots, same .agree .powerUp, same .agree .powerDown, entries, convexity, loads)
 
--- The show of an accepted card is in order.
-pub accepted-in-order : (s : List ℕ) → Accepted s → inOrder (instanceOf s) ≡ true
-unfolding inOrder pricesInRange tableInRange loadsInRange
-accepted-in-order s e =
-    let j = instanceOf s in
-    let entries = every-all (j .topStep + 1) _ (λ k h. le-leb (j .table k) 1000000 (table-range s e k (omega arith))) in
-    let loads = every-all (j .slots) _ (λ t h. le-leb (j .load t) (j .modules * j .topStep) (load-range s e t h)) in
-    search
-    (and-both, le-leb, entries, loads, modules-range s e, top-range s e, slots-range s e, up-range s e, down-range s e, table-convex s e)
-    depth 9
-
 -- The fields of a show that is in order fit.
-pub in-order-fits : (i : Instance) → inOrder i ≡ true → FieldsFit i
-unfolding inOrder pricesInRange tableInRange loadsInRange
+pub in-order-fits : (i : Instance) → ShowInOrder i → FieldsFit i
 in-order-fits i e =
-    let rack : (i .modules ≤ 200) × (i .topStep ≤ 200) × (i .slots ≤ 1024) = search (and-left, and-right, leb-true) in
-    let prices : (i .powerUp ≤ 500000000) × (i .powerDown ≤ 500000000) = search (and-left, and-right, leb-true) in
-    let all-entries : tableInRange (i .topStep) (i .table) ≡ true = search (and-left, and-right) in
-    let all-loads : loadsInRange i ≡ true = search (and-left, and-right) in
-    let entry : (k : ℕ) → k ≤ i .topStep → i .table k < 256 ^ 4 =
-    λ k h. omega (arith, leb-true, every-at (i .topStep + 1) _ all-entries k (omega arith)) in
-    let load : (t : ℕ) → t < i .slots → i .load t < 256 ^ 2 =
-    λ t h. omega (arith, leb-true, every-at (i .slots) _ all-loads t h, mul-le-mul (rack .0) (rack .1)) in
-    search arith
+    let b = in-bounds i e in
+    record {
+      modules = omega (arith, b .modules);
+      topStep = omega (arith, b .topStep);
+      slots = omega (arith, b .slots);
+      powerUp = omega (arith, b .powerUp);
+      powerDown = omega (arith, b .powerDown);
+      table = λ k h. omega (arith, b .table k h);
+      load = λ t h. omega (arith, b .load t h, mul-le-mul (b .modules .1) (b .topStep .1));
+    }
 
 module _ (i : Instance) where
   -- The card of a show begins with the mark and the version.
@@ -129,32 +119,27 @@ module _ (i : Instance) where
   read = instanceOf (cardBytes i)
 
   module _ (fit : FieldsFit i) where
-    read-accepted : inOrder read ≡ true → Accepted (cardBytes i)
-    unfolding answer answerOf specOf cardTests firstOf inOrder sameList cardLength
+    read-accepted : ShowInOrder read → Accepted (cardBytes i)
+    unfolding answer specOf cardTests sameList cardLength
     read-accepted e =
         let same = card-bytes-show i fit in
-        let modules : rackNumber (read .modules) ≡ true = search (and-left, and-right) in
-        let topStep : rackNumber (read .topStep) ≡ true = search (and-left, and-right) in
-        let slots = le-ltb 1024 (read .slots) (search (and-left, and-right, leb-true)) in
-        let prices : pricesInRange read ≡ true = search (and-left, and-right) in
-        let convexity : convex (read .topStep) (read .table) ≡ true = search (and-left, and-right) in
-        let loads : loadsInRange read ≡ true = search (and-left, and-right) in
+        let (rack, (slots, body)) = none-applies _ _ e in
+        let long = le-ltb (length (cardBytes i)) headLength (omega (arith, card-bytes-length i)) in
         let size : length (cardBytes i) ≡ cardLength read = omega (arith, card-bytes-length i) in
-        let long = le-ltb (length (cardBytes i)) headLength (omega arith) in
-        rw (long, front .0, front .1, modules, topStep, slots, eq-eqb _ _ size, prices, convexity, loads)
+        first-none _ _ (rw (long, front .0), (rw (front .1), (rack, (slots, (rw (eq-eqb _ _ size), body)))))
 
     -- The card of a show whose fields fit is accepted exactly if the show is in order.
-    pub card-bytes-accepted : Accepted (cardBytes i) ↔ (inOrder i ≡ true)
+    pub card-bytes-accepted : Accepted (cardBytes i) ↔ ShowInOrder i
     card-bytes-accepted =
-        let same = same-in-order (card-bytes-show i fit) in
+        let same = ap (λ (ts : List Test). firstOf ts (Cost 0)) (same-tests (card-bytes-show i fit)) in
         (λ e. sym same ∙ accepted-in-order _ e, λ e. read-accepted (same ∙ e))
 
 -- The card of a show that is in order is accepted.
-pub in-order-accepted : (i : Instance) → inOrder i ≡ true → Accepted (cardBytes i)
+pub in-order-accepted : (i : Instance) → ShowInOrder i → Accepted (cardBytes i)
 in-order-accepted i e = card-bytes-accepted i (in-order-fits i e) .1 e
 
 -- The card of a show that is in order is the card at the front of any list that begins with it.
-pub front-card : (i : Instance) → inOrder i ≡ true → (rest : List ℕ) → frontCard (cardBytes i ++ rest) ≡ cardBytes i
+pub front-card : (i : Instance) → ShowInOrder i → (rest : List ℕ) → frontCard (cardBytes i ++ rest) ≡ cardBytes i
 unfolding cardBytes cardLength bytesOf littleEndian instanceOf
 front-card i e rest =
     let fit = in-order-fits i e in

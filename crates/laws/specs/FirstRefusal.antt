@@ -1,14 +1,15 @@
 -- The first of some tests that applies, one test at a time.
 use Prim.Native.Nat.{ℕ}
 use mathlib.Core.Path.{_≡_, refl, sym, _∙_}
-use mathlib.Core.Bool.{true, false}
+use mathlib.Core.Bool.{true, false, true≢false}
 use mathlib.Core.List.{List, [], _∷_, _++_}
 use mathlib.Core.Logic.{⊎-elim}
 use Rattle.lists.specs.Numbers.{true-or-false}
+use Rattle.lists.specs.Members.{Each}
 use Rattle.model.specs.declared.Refusal.{Refusal}
 use Rattle.model.specs.declared.Answer.{Answer}
 use Rattle.model.specs.declared.Answer.the-variants.{Cost, Refused}
-use Rattle.model.specs.Calls.{Test, firstOf}
+use Rattle.model.specs.Specs.{Test, firstOf}
 
 pub first-hit : (t : Test) (ts : List Test) (a : Answer) → t .applies ≡ true → firstOf (t ∷ ts) a ≡ Refused (t .refusal)
 unfolding firstOf
@@ -34,22 +35,28 @@ first-refused (t ∷ ts) a {b} h e =
     (λ (y : t .applies ≡ false). rw y (first-refused ts a h (sym (first-skip t ts b y) ∙ e)))
     (true-or-false (t .applies))
 
--- Where the answer is a cost, the first test does not apply, and the rest gives that cost.
-pub first-passed :
-    (t : Test) (ts : List Test) (a : Answer) {n : ℕ} → firstOf (t ∷ ts) a ≡ Cost n → (t .applies ≡ false) × (firstOf ts a ≡ Cost n)
-first-passed t ts a {n} e = ⊎-elim hit skip (true-or-false (t .applies))
-  where
-    hit : t .applies ≡ true → (t .applies ≡ false) × (firstOf ts a ≡ Cost n)
-    hit y = let h = first-hit t ts a y in (cc, cc)
+-- None of some tests applies.
+abbrev pub NoneApplies : List Test → Type 0
+NoneApplies ts = Each (λ t. t .applies ≡ false) ts
 
-    skip : t .applies ≡ false → (t .applies ≡ false) × (firstOf ts a ≡ Cost n)
-    skip y = (y, sym (first-skip t ts a y) ∙ e)
+-- Where the answer is a cost, no test applies.
+pub none-applies : (ts : List Test) (a : Answer) {n : ℕ} → firstOf ts a ≡ Cost n → NoneApplies ts
+none-applies [] a e = tt
+none-applies (t ∷ ts) a e =
+    ⊎-elim
+    (λ (y : t .applies ≡ true). let hit = first-hit t ts a y in let none : t .applies ≡ false = cc in absurd (true≢false (sym y ∙ none)))
+    (λ (y : t .applies ≡ false). (y, none-applies ts a (sym (first-skip t ts a y) ∙ e)))
+    (true-or-false (t .applies))
 
--- Where some of the tests give a cost, none of them applies, and the answer is that of what follows them.
-pub first-through : (ts : List Test) (a b : Answer) {n : ℕ} → firstOf ts b ≡ Cost n → firstOf ts a ≡ a
+-- Where no test applies, the answer is that of a success.
+pub first-none : (ts : List Test) (a : Answer) → NoneApplies ts → firstOf ts a ≡ a
 unfolding firstOf
-first-through [] a b e = refl
-first-through (t ∷ ts) a b e = let p = first-passed t ts b e in rw (p .0) (first-through ts a b (p .1))
+first-none [] a none = refl
+first-none (t ∷ ts) a (this, rest) = rw this (first-none ts a rest)
+
+-- Where some of the tests give a cost, the answer is that of what follows them.
+pub first-through : (ts : List Test) (a b : Answer) {n : ℕ} → firstOf ts b ≡ Cost n → firstOf ts a ≡ a
+first-through ts a b e = first-none ts a (none-applies ts b e)
 
 -- Two lists of tests agree as far as the first that applies, and so do the answers where none applies.
 unfoldable pub Alike : (ts us : List Test) → (a b : Answer) → Type 0

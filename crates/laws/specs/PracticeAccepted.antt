@@ -12,9 +12,10 @@ use lib.ListN.{length}
 use borrow.Author.Tests.{le-leb, ne-eqb, le-ltb}
 use Rattle.lists.specs.Tests.{and-both, every-all}
 use Rattle.model.specs.declared.Answer.the-variants.{Cost}
-use Rattle.model.specs.Instance.{cardBytes, cardLength, inOrder, pricesInRange, tableInRange, convex, convexAt, loadsInRange}
+use Rattle.model.specs.Instance.{cardBytes, cardLength, rackNumber, pricesInRange, tableInRange, convex, convexAt, loadsInRange}
 use Rattle.model.specs.Practice.{drawn, practiceDifference, practiceEntry, practiceShow, longestPractice}
-use Rattle.model.specs.Calls.{Accepted, practiceCard, answer, answerOf, specOf, firstOf, anyShort}
+use Rattle.model.specs.Specs.{firstOf, anyShort, ShowInOrder}
+use Rattle.model.specs.Calls.{Accepted, practiceCard, answer, specOf}
 use Rattle.laws.specs.Tables.{NeverFalls}
 use Rattle.laws.specs.Encoding.{in-order-accepted}
 
@@ -73,12 +74,13 @@ module _ (start : ℕ) where
       (λ t h. le-leb (practiceShow start .load t) full (omega (arith, below (drawn start (7 + practiceShow start .topStep + t)))))
 
   -- A practice show is in order.
-  pub practice-in-order : inOrder (practiceShow start) ≡ true
-  unfolding inOrder
+  pub practice-in-order : ShowInOrder (practiceShow start)
+  unfolding firstOf
   practice-in-order =
       let (some, most, one, top, slots) = practice-sizes in
-      and-both (and-both (and-both (le-leb _ _ some) (le-leb _ _ most)) (and-both (le-leb _ _ one) (le-leb _ _ top)))
-      (and-both (le-leb (practiceShow start .slots) 1024 (omega arith)) (and-both practice-prices (and-both practice-convex practice-loads)))
+      let rack : rackNumber (practiceShow start .modules) ≡ true = and-both (le-leb _ _ some) (le-leb _ _ most) in
+      let steps : rackNumber (practiceShow start .topStep) ≡ true = and-both (le-leb _ _ one) (le-leb _ _ top) in
+      rw (rack, steps, le-ltb 1024 (practiceShow start .slots) (omega arith), practice-prices, practice-convex, practice-loads)
 
   -- Every practice card is accepted.
   pub practice-accepted : Accepted (cardBytes (practiceShow start))
@@ -87,7 +89,7 @@ module _ (start : ℕ) where
   -- A start other than 0 with an area that is long enough for its card is answered by cost 0.
   pub practice-given :
       (area : List ℕ) → (start ≡ 0 → ⊥) → cardLength (practiceShow start) ≤ length area → answer (practiceCard start area) ≡ Cost 0
-  unfolding answer answerOf specOf firstOf anyShort
+  unfolding answer specOf firstOf anyShort
   practice-given area some room = rw (ne-eqb start 0 some, le-ltb _ _ room)
 
   -- No practice card is longer than the longest one.

@@ -10,22 +10,23 @@ use Rattle.model.specs.declared.Refusal.the-variants.{RackSize, EntryRange}
 use Rattle.model.specs.declared.Answer.the-variants.{Cost, Refused}
 use Rattle.model.specs.Instance.{rackNumber}
 use Rattle.model.specs.Counts.{roundedCount, roundedByCases}
-use Rattle.model.specs.Calls.{roundCount, specOf, firstOf, answerOf, answer}
+use Rattle.model.specs.Specs.{firstOf}
+use Rattle.model.specs.Calls.{roundCount, specOf, answer}
 use Rattle.laws.specs.Acceptance.{rack-range}
 use Rattle.laws.specs.RoundedCounts.{rounded-by-cases}
 
 module _ (n m : ℕ) where
   pub round-rack : rackNumber m ≡ false → Refused RackSize ≡ answer (roundCount n m)
-  unfolding answer answerOf specOf firstOf
+  unfolding answer specOf firstOf
   round-rack wrong = rw wrong
 
   module _ (right : rackNumber m ≡ true) where
     pub round-entry : m < n → Refused EntryRange ≡ answer (roundCount n m)
-    unfolding answer answerOf specOf firstOf
+    unfolding answer specOf firstOf
     round-entry many = rw (right, lt-leb n m many)
 
     pub round-cost : n ≤ m → {x : ℕ} → x ≡ roundedCount m n → Cost x ≡ answer (roundCount n m)
-    unfolding answer answerOf specOf firstOf
+    unfolding answer specOf firstOf
     round-cost few e = rw (right, le-leb n m few) (ap Cost e)
 
 -- 'Answers are the same for all n and m': 3 for a rack outside 1 to 200, then 12 for a count above the rack, then what the list gives.

@@ -1,24 +1,26 @@
 -- What an act of a sitting is told depends on the phase alone while it is unopened, and else on the facts about one candidate.
 use Prim.Native.Nat.{ℕ}
-use mathlib.Core.Path.{_≡_, refl, sym, ap}
+use mathlib.Core.Path.{_≡_, refl, sym, ap, _∙_}
 use mathlib.Core.Bool.{Bool, true, false, cond, not, _&&_, _||_}
 use mathlib.Core.List.{List, [], _++_}
 use mathlib.Core.Option.{Option, Option·getD, Option·elim}
 use lib.Dec.{leb, eqb}
-use borrow.Author.Tests.{not-false}
-use Rattle.lists.specs.Tests.{or-left, or-right}
+use borrow.Author.Tests.{not-true, not-false}
+use Rattle.lists.specs.Tests.{and-left, and-right, or-left}
 use Rattle.model.specs.declared.Refusal.{Refusal}
 use Rattle.model.specs.declared.Answer.{Answer}
 use Rattle.model.specs.declared.Answer.the-variants.{Cost, Refused}
 use Rattle.model.specs.Acts.{Act, openSitting, seatCandidate, closeSitting, submitSheet, readLeast, readLowest, readUsed}
 use Rattle.model.specs.Acts.{Phase, unopened, opened, closed, isUnopened, isOpened, isClosed, Facts, supervisor, noSeat}
 use Rattle.model.specs.Acts.{Event, nothingDone, submissionCounted, submissionRefused}
-use Rattle.model.specs.Calls.{cardTests, sheetTests, submissionTests, actSpec, answerOf}
+use Rattle.model.specs.Specs.{cardTests, sheetTests, firstOf}
+use Rattle.model.specs.Calls.{markSheet, specOf, answer, Accepted}
+use Rattle.model.specs.Acts.{submissionTests, actSpec}
 use Rattle.model.specs.Answers.{refusalNumber}
 use Rattle.model.specs.Instance.{instanceOf}
-use Rattle.model.specs.Sittings.{answerTo, markedWith, eventWith, eventOf, told}
-use Rattle.laws.specs.FirstRefusal.{first-alike, alike-behind, first-passed, Alike}
-use Rattle.laws.specs.OnCard.{on-card-cost}
+use Rattle.model.specs.Sittings.{answerTo, markedWith, eventOf, told}
+use Rattle.laws.specs.FirstRefusal.{first-append, first-alike, alike-behind, none-applies, Alike}
+use Rattle.laws.specs.OnCard.{on-card-passed, on-card-cost}
 
 -- The candidate whose seat an act is about, where it is about one.
 abbrev pub concerned : Act → ℕ
@@ -50,11 +52,18 @@ or-same true h = refl
 or-same false h = h refl
 
 -- An open sitting is not unopened.
-pub open-not-unopened : (p : Phase) → isOpened p ≡ true → isUnopened p ≡ false
+open-not-unopened : (p : Phase) → isOpened p ≡ true → isUnopened p ≡ false
 unfolding isOpened isUnopened
 open-not-unopened unopened e = sym e
 open-not-unopened opened e = refl
 open-not-unopened closed e = refl
+
+-- An act that is permitted while the sitting is open, or once it has been opened, finds it not unopened.
+pub while-open : (a : Bool) (p : Phase) → not (a && isOpened p) ≡ false → isUnopened p ≡ false
+while-open a p e = open-not-unopened p (and-right a _ (not-false _ e))
+
+pub once-begun : (p : Phase) (b : Bool) → not (not (isUnopened p) && b) ≡ false → isUnopened p ≡ false
+once-begun p b e = not-true _ (and-left (not (isUnopened p)) b (not-false _ e))
 
 module _ {c : ℕ} {f g : Facts} (agree : AgreeAt c f g) where
   -- No candidate but 0 has a seat in one sitting alone.
@@ -67,27 +76,27 @@ module _ {c : ℕ} {f g : Facts} (agree : AgreeAt c f g) where
 
 -- The answer to an act is the same where the sittings agree as far as it can tell.
 pub answers-agree : (a : Act) (f g : Facts) → AgreeAt (concerned a) f g → answerTo f a ≡ answerTo g a
-unfolding answerTo answerOf actSpec Alike
+unfolding answerTo actSpec Alike
 answers-agree (openSitting d a c p w) f g agree = refl
 answers-agree (seatCandidate d c) f g agree =
     first-alike _ _ _ _ (
       refl,
       (
-        ap (λ (p : Phase). not (supervisor d) || not (isOpened p)) (agree .same-phase),
+        ap (λ (p : Phase). not (supervisor d && isOpened p)) (agree .same-phase),
         λ e.
-            let s = agree .once-opened (open-not-unopened (f .phase) (not-false _ (or-right (not (supervisor d)) _ e))) in
+            let s = agree .once-opened (while-open (supervisor d) _ e) in
             (refl, (or-same (eqb c 0) (λ z. rw (s .same-seated z, s .same-full)), λ e′. refl)),
       ),
     )
 answers-agree (closeSitting d) f g agree =
-    first-alike _ _ _ _ (refl, (ap (λ (p : Phase). not (supervisor d) || not (isOpened p)) (agree .same-phase), λ e. refl))
+    first-alike _ _ _ _ (refl, (ap (λ (p : Phase). not (supervisor d && isOpened p)) (agree .same-phase), λ e. refl))
 answers-agree (submitSheet d c s) f g agree =
     first-alike _ _ _ _ (alike-behind (cardTests c) (submissionTests f d ++ sheetTests (instanceOf c) s) (submissionTests g d ++ sheetTests (instanceOf c) s) _ _ (
       refl,
       (
-        ap (λ (p : Phase). supervisor d || not (isOpened p)) (agree .same-phase),
+        ap (λ (p : Phase). not (not (supervisor d) && isOpened p)) (agree .same-phase),
         λ e.
-            let o = open-not-unopened (f .phase) (not-false _ (or-right (supervisor d) _ e)) in
+            let o = while-open (not (supervisor d)) _ e in
             let same = agree .once-opened o in (
               refl,
               (no-seat-same agree o, λ e′. (refl, (rw (same .same-allowance, same .same-used), λ e″. alike-behind (sheetTests (instanceOf c) s) [] [] _ _ refl))),
@@ -98,9 +107,9 @@ answers-agree (readLeast d) f g agree =
     first-alike _ _ _ _ (
       refl,
       (
-        ap (λ (p : Phase). isUnopened p || (not (supervisor d) && not (isClosed p))) (agree .same-phase),
+        ap (λ (p : Phase). not (not (isUnopened p) && (supervisor d || isClosed p))) (agree .same-phase),
         λ e.
-            let o = or-left _ _ e in
+            let o = once-begun _ _ e in
             (refl, (ap (λ (b : Bool). not (supervisor d) && b) (no-seat-same agree o), λ e′. ap Cost (agree .once-opened o .same-least))),
       ),
     )
@@ -108,9 +117,9 @@ answers-agree (readLowest d c) f g agree =
     first-alike _ _ _ _ (
       refl,
       (
-        ap (λ (p : Phase). isUnopened p || (not (supervisor d) && not (eqb d c))) (agree .same-phase),
+        ap (λ (p : Phase). not (not (isUnopened p) && (supervisor d || eqb d c))) (agree .same-phase),
         λ e.
-            let o = or-left _ _ e in
+            let o = once-begun _ _ e in
             (refl, (no-seat-same agree o, λ e′. ap (λ (l : Option ℕ). Cost (Option·getD l 0)) (lowest-same agree o e′))),
       ),
     )
@@ -118,68 +127,65 @@ answers-agree (readUsed d) f g agree =
     first-alike _ _ _ _ (
       refl,
       (
-        ap (λ (p : Phase). not (supervisor d) || isUnopened p) (agree .same-phase),
-        λ e. ap Cost (agree .once-opened (or-right (not (supervisor d)) _ e) .same-used),
+        ap (λ (p : Phase). not (supervisor d && not (isUnopened p))) (agree .same-phase),
+        λ e. ap Cost (agree .once-opened (not-true _ (and-right (supervisor d) _ (not-false _ e))) .same-used),
       ),
     )
 
 -- What is told of a lowest cost is the same where the sittings agree as far as the act can tell.
 marked-agree :
-    (a : Act) (f g : Facts) → AgreeAt (concerned a) f g → markedWith (actSpec f a) (answerTo f a) ≡ markedWith (actSpec g a) (answerTo f a)
-unfolding answerTo answerOf actSpec markedWith
-marked-agree a f g agree = go a agree (answerTo f a) refl
-  where
-    go : (a : Act) → AgreeAt (concerned a) f g → (r : Answer) → answerTo f a ≡ r → markedWith (actSpec f a) r ≡ markedWith (actSpec g a) r
-    go (openSitting d b c p w) h (Cost n) e = refl
-    go (seatCandidate d c) h (Cost n) e = refl
-    go (closeSitting d) h (Cost n) e = refl
-    go (submitSheet d c s) h (Cost n) e = refl
-    go (readLeast d) h (Cost n) e = refl
-    go (readLowest d c) h (Cost n) e =
-        let (permitted, rest) = first-passed _ _ _ e in
-        let (known, last) = first-passed _ _ _ rest in
-        ap (λ (o : Option ℕ). Option·elim o 0 (λ l. 1)) (lowest-same h (or-left _ _ permitted) known)
-    go (readUsed d) h (Cost n) e = refl
-    go b h (Refused x) e = refl
+    (a : Act) (f g : Facts) → AgreeAt (concerned a) f g → (r : Answer) → answerTo f a ≡ r →
+    markedWith (actSpec a .marked f) r ≡ markedWith (actSpec a .marked g) r
+unfolding answerTo actSpec markedWith
+marked-agree (openSitting d b c p w) f g h (Cost n) e = refl
+marked-agree (seatCandidate d c) f g h (Cost n) e = refl
+marked-agree (closeSitting d) f g h (Cost n) e = refl
+marked-agree (submitSheet d c s) f g h (Cost n) e = refl
+marked-agree (readLeast d) f g h (Cost n) e = refl
+marked-agree (readLowest d c) f g h (Cost n) e =
+    let (permitted, (known, none)) = none-applies _ _ e in
+    ap (λ (o : Option ℕ). Option·elim o 0 (λ l. 1)) (lowest-same h (once-begun _ _ permitted) known)
+marked-agree (readUsed d) f g h (Cost n) e = refl
+marked-agree a f g h (Refused x) e = refl
 
 -- What the caller is told is the same where the sittings agree as far as the act can tell.
 pub told-agree : (a : Act) (f g : Facts) → AgreeAt (concerned a) f g → told f a ≡ told g a
 unfolding told
-told-agree a f g agree = rw (marked-agree a f g agree, answers-agree a f g agree)
+told-agree a f g agree = rw (marked-agree a f g agree _ refl, answers-agree a f g agree)
 
 -- What an act does is the same where the sittings agree as far as it can tell.
 pub events-agree : (a : Act) (f g : Facts) → AgreeAt (concerned a) f g → eventOf f a ≡ eventOf g a
-unfolding eventOf actSpec
-events-agree a f g agree = rw (answers-agree a f g agree) (same a (answerTo g a))
-  where
-    same : (a : Act) (r : Answer) → eventWith (actSpec f a .done) (actSpec f a .refused) r ≡ eventWith (actSpec g a .done) (actSpec g a .refused) r
-    same (openSitting d b c p w) r = refl
-    same (seatCandidate d c) r = refl
-    same (closeSitting d) r = refl
-    same (submitSheet d c s) r = refl
-    same (readLeast d) r = refl
-    same (readLowest d c) r = refl
-    same (readUsed d) r = refl
+unfolding eventOf
+events-agree a f g agree = rw (answers-agree a f g agree)
 
 -- What a refused act does is nothing, or it is a submission that is refused by 11 to 13 and counts.
 pub refused-does :
-    (P : Event → Type 0) (f : Facts) (a : Act) (x : Refusal) → P nothingDone →
+    (P : Event → Type 0) (a : Act) (x : Refusal) → P nothingDone →
     ((d : ℕ) (c s : List ℕ) → a ≡ submitSheet d c s → (leb 11 (refusalNumber x) && leb (refusalNumber x) 13) ≡ true → P submissionCounted) →
-    P (actSpec f a .refused x)
+    P (actSpec a .refused x)
 unfolding actSpec submissionRefused
-refused-does P f (openSitting d a c p w) x quiet counts = quiet
-refused-does P f (seatCandidate d c) x quiet counts = quiet
-refused-does P f (closeSitting d) x quiet counts = quiet
-refused-does P f (submitSheet d c s) x quiet counts = either (leb 11 (refusalNumber x) && leb (refusalNumber x) 13) refl
+refused-does P (openSitting d a c p w) x quiet counts = quiet
+refused-does P (seatCandidate d c) x quiet counts = quiet
+refused-does P (closeSitting d) x quiet counts = quiet
+refused-does P (submitSheet d c s) x quiet counts = either (leb 11 (refusalNumber x) && leb (refusalNumber x) 13) refl
   where
     either : (b : Bool) → (leb 11 (refusalNumber x) && leb (refusalNumber x) 13) ≡ b → P (cond b submissionCounted nothingDone)
     either true e = counts d c s refl e
     either false e = quiet
-refused-does P f (readLeast d) x quiet counts = quiet
-refused-does P f (readLowest d c) x quiet counts = quiet
-refused-does P f (readUsed d) x quiet counts = quiet
+refused-does P (readLeast d) x quiet counts = quiet
+refused-does P (readLowest d c) x quiet counts = quiet
+refused-does P (readUsed d) x quiet counts = quiet
 
 -- The caller of a submission that is answered with a cost has a seat.
 pub submitted-seated : (f : Facts) (d : ℕ) (card s : List ℕ) {n : ℕ} → answerTo f (submitSheet d card s) ≡ Cost n → noSeat f d ≡ false
-unfolding answerTo answerOf actSpec
-submitted-seated f d card s e = first-passed _ _ _ (first-passed _ _ _ (on-card-cost card _ _ e .1) .1) .0
+unfolding answerTo actSpec
+submitted-seated f d card s e = none-applies _ _ (on-card-cost card _ _ e .1) .1 .0
+
+-- 'each answered as marking does': on an accepted card a submission's own tests decide, and then marking's answer.
+pub submission-on-card :
+    (f : Facts) (d : ℕ) (card s : List ℕ) → Accepted card →
+    answerTo f (submitSheet d card s) ≡ firstOf (submissionTests f d) (answer (markSheet card s))
+unfolding answerTo actSpec answer specOf
+submission-on-card f d card s given =
+    on-card-passed card _ _ given ∙ first-append (submissionTests f d) _ _
+    ∙ ap (firstOf (submissionTests f d)) (sym (on-card-passed card _ _ given))

@@ -1,6 +1,6 @@
--- Members of lists, and lists whose elements stand in order.
+-- What holds of each element of a list, members of lists, and lists whose elements stand in order.
 use Prim.Native.Nat.{ℕ, zero, suc, _+_, _≤_, _<_}
-use mathlib.Core.Path.{_≡_, refl, sym, ap, _∙_}
+use mathlib.Core.Path.{_≡_, refl, sym, ap, _∙_, subst}
 use mathlib.Core.Bool.{Bool, true, false, cond}
 use mathlib.Core.Logic.{⊎-elim}
 use mathlib.Core.List.{List, [], _∷_, _++_, map, flatMap, List·Memᴰ, List·Memᴰ·head, List·Memᴰ·tail, List·Memᴰ·not-nil}
@@ -14,7 +14,18 @@ use Rattle.lists.specs.Rising.{rises-to}
 use Rattle.lists.specs.Tests.{allOf, and-left, and-right}
 use Rattle.lists.specs.Lists.{keep}
 
+-- A statement holds of each element of a list.
+abbrev pub Each : {A : Type 0} → (A → Type 0) → List A → Type 0
+Each P [] = Unit {0}
+Each P (x ∷ xs) = P x × Each P xs
+
 module _ {A : Type 0} where
+  -- What holds of each element holds of a member.
+  pub each-member : (P : A → Type 0) (l : List A) {x : A} → Each P l → List·Memᴰ x l → P x
+  each-member P [] each m = absurd (List·Memᴰ·not-nil m)
+  each-member P (y ∷ ys) {x} (first, rest) m =
+      ⊎-elim (λ (same : x ≡ y). subst P (sym same) first) (each-member P ys rest) (List·Memᴰ·cases-cons m)
+
   -- An element at a place below the length is a member.
   pub member-at : (l : List A) (j : ℕ) (d : A) → j < length l → List·Memᴰ (getD l j d) l
   member-at [] j d h = absurd (not-suc-le-zero h)

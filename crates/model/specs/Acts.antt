@@ -1,12 +1,17 @@
--- A sitting (document 02, §4: 'A desk for the sitting'): its acts, who may do each, and what each does. The paper's doer is the caller
--- here, and a hand-in is a submission.
+-- A sitting (document 02, §4: 'A desk for the sitting'): its acts, what each may meet and what each does. The paper's doer is the caller
+-- here, and a hand-in is a submission. `actSpec` has the specification of every act.
 use Prim.Native.Nat.{ℕ}
 use mathlib.Core.Bool.{Bool, true, false, cond, not, _&&_, _||_}
-use mathlib.Core.List.{List}
-use mathlib.Core.Option.{Option}
+use mathlib.Core.List.{List, [], _∷_, _++_}
+use mathlib.Core.Option.{Option, Option·getD, Option·elim}
 use lib.Dec.{leb, eqb}
 use Rattle.model.specs.declared.Refusal.{Refusal}
+use Rattle.model.specs.declared.Refusal.the-variants.{BufferTooShort, NotPermitted, SeatUnavailable, AllowanceSpent}
 use Rattle.model.specs.Answers.{refusalNumber}
+use Rattle.model.specs.Instance.{instanceOf}
+use Rattle.model.specs.Sheets.{sheetCost}
+use Rattle.model.specs.Planners.{exact, plannedCost}
+use Rattle.model.specs.Specs.{Test, _when_, _unless_, Spec, answering, planBuffer, workBuffer, anyShort, cardTests, sheetTests}
 
 -- The acts, each with its caller and what it is handed: the supervisor opens a sitting, seats candidates and closes it; a candidate submits
 -- sheets; either reads the least cost, a seat's lowest cost and, the supervisor alone, the submissions used.
@@ -52,15 +57,23 @@ pub record Facts : Type 0 where
   pub lowest : ℕ → Option ℕ
 
 -- 'Each act names its doer, 0 for the supervisor.'
-abbrev pub supervisor : ℕ → Bool
-supervisor caller = eqb caller 0
+abbrev pub supervisor : (caller : ℕ) → Bool
+supervisor d = eqb d 0
+
+-- Who seats candidates and closes the sitting: the supervisor, while it is open.
+abbrev pub inCharge : Facts → (caller : ℕ) → Bool
+inCharge f d = supervisor d && isOpened (f .phase)
+
+-- The sitting has been opened, and may be closed by now.
+abbrev pub begun : Facts → Bool
+begun f = not (isUnopened (f .phase))
 
 -- 'an allowance of 1 to 1,000 hand-ins'
 abbrev pub allowanceInRange : ℕ → Bool
 allowanceInRange a = leb 1 a && leb a 1000
 
 -- No seat is named by a candidate number that is 'unknown' or 0.
-abbrev pub noSeat : Facts → ℕ → Bool
+abbrev pub noSeat : Facts → (candidate : ℕ) → Bool
 noSeat f c = eqb c 0 || not (f .seated c)
 
 -- What has happened once an act is answered: nothing, an opening with its allowance and the least cost, the seating of a candidate, the
@@ -76,3 +89,73 @@ pub data Event : Type 0 where
 -- 'A sheet refused by 11 to 13 uses up one hand-in too.'
 unfoldable pub submissionRefused : Refusal → Event
 submissionRefused x = cond (leb 11 (refusalNumber x) && leb (refusalNumber x) 13) submissionCounted nothingDone
+
+-- What an act is and does: the card that it is lent, if any; by the facts of the sitting what it answers as a call, and whether a success
+-- tells a lowest cost (1) or not (0); and what has happened after a success with a cost and after a refusal.
+pub record ActSpec : Type 0 where
+  pub cards : List (List ℕ)
+  pub call : Facts → Spec
+  pub marked : Facts → ℕ
+  pub done : ℕ → Event
+  pub refused : Refusal → Event
+
+-- An act whose success tells no lowest cost and does something, and whose refusal does nothing.
+abbrev pub acting : (cards : List (List ℕ)) → (Facts → Spec) → (ℕ → Event) → ActSpec
+acting cs s e = record { cards = cs; call = s; marked = λ f. 0; done = e; refused = λ x. nothingDone }
+
+-- A submission's 15 to 17, which 'for hand-ins .. are tested in this order before 11 to 13'.
+abbrev pub submissionTests : Facts → (caller : ℕ) → List Test
+submissionTests f d =
+    NotPermitted unless (not (supervisor d) && isOpened (f .phase)) ∷
+    SeatUnavailable when noSeat f d ∷
+    AllowanceSpent when leb (f .allowance) (f .used) ∷ []
+
+unfoldable pub actSpec : Act → ActSpec
+-- 'The supervisor opens a sitting with a card, the exact planner's areas and an allowance'; 'opening gives the least cost'; 17 'after 1 to 10'.
+actSpec (openSitting d a c p w) =
+    let i = instanceOf c in
+    let areas = planBuffer exact i p ∷ workBuffer exact i w ∷ [] in
+    acting (c ∷ []) (λ f. record {
+      tests =
+          cardTests c ++
+          (BufferTooShort when anyShort areas ∷ NotPermitted unless supervisor d ∷ AllowanceSpent unless allowanceInRange a ∷ []);
+      cost = plannedCost exact i;
+      buffers = areas;
+    })
+    (openingDone a)
+-- 'The supervisor seats candidates': a seat 'numbered 0, taken twice or beyond the list or the 32nd gets 16'.
+actSpec (seatCandidate d c) =
+    acting []
+    (λ f. answering (NotPermitted unless inCharge f d ∷ SeatUnavailable when (eqb c 0 || (f .seated c || f .full)) ∷ []) 0)
+    (λ n. seatingDone c)
+-- 'closes the sitting'; 15 for 'a second closing too'.
+actSpec (closeSitting d) = acting [] (λ f. answering (NotPermitted unless inCharge f d ∷ []) 0) (λ n. closingDone)
+-- 'A seated candidate hands in sheets, each answered as marking does'; 'A sheet refused by 11 to 13 uses up one hand-in too.'
+actSpec (submitSheet d c s) =
+    record {
+      cards = c ∷ [];
+      call = λ f. answering (cardTests c ++ (submissionTests f d ++ sheetTests (instanceOf c) s)) (sheetCost (instanceOf c) s);
+      marked = λ f. 0;
+      done = submissionMarked d;
+      refused = submissionRefused;
+    }
+-- The supervisor 'reads the least cost'; a seated candidate 'reads the least cost only after closing'.
+actSpec (readLeast d) =
+    acting [] (λ f. answering (
+    NotPermitted unless (begun f && (supervisor d || isClosed (f .phase))) ∷
+    SeatUnavailable when (not (supervisor d) && noSeat f d) ∷ []) (f .least))
+    (λ n. nothingDone)
+-- The supervisor reads 'any seat's lowest'; a seated candidate 'reads the own lowest cost (none is told from a cost of 0)'.
+actSpec (readLowest d c) =
+    record {
+      cards = [];
+      call = λ f. answering (
+          NotPermitted unless (begun f && (supervisor d || eqb d c)) ∷
+          SeatUnavailable when noSeat f c ∷ []) (Option·getD (f .lowest c) 0);
+      marked = λ f. Option·elim (f .lowest c) 0 (λ l. 1);
+      done = λ n. nothingDone;
+      refused = λ x. nothingDone;
+    }
+-- The supervisor reads 'the hand-ins used'.
+actSpec (readUsed d) =
+    acting [] (λ f. answering (NotPermitted unless (supervisor d && begun f) ∷ []) (f .used)) (λ n. nothingDone)

@@ -18,14 +18,14 @@ strictlyAscends l = every (length l - 1) (λ j. ltb (getD l j 0) (getD l (j + 1)
 unfoldable pub gapsGrowBy : (r : ℕ) → List ℕ → Bool
 gapsGrowBy r l = every (length l - 2) (λ j. leb (gapAfter l (j + 1)) (r * gapAfter l j))
 
--- A list of allowed counts and a ratio r keep the rules in a rack of m, a line a rule: 'two to 201 entries', 'begins with 0', 'ends with m',
--- 'strictly ascending', 'r from 1 to 200', 'The first entry after 0 is at most r', 'each gap is at most r times the gap before it'.
+-- 'two to 201 entries', of which the list 'begins with 0 and ends with m'.
+unfoldable pub endsAt : (counts : List ℕ) (m : ℕ) → Bool
+endsAt l m = (leb 2 (length l) && leb (length l) 201) && (eqb (getD l 0 0) 0 && eqb (getD l (length l - 1) 0) m)
+
+-- 'a whole number r from 1 to 200'.
+unfoldable pub ratioInRange : ℕ → Bool
+ratioInRange r = leb 1 r && leb r 200
+
+-- A list of allowed counts and a ratio r keep the rules in a rack of m; 'The first entry after 0 is at most r'.
 unfoldable pub keepsRules : (counts : List ℕ) (r m : ℕ) → Bool
-keepsRules l r m =
-    (leb 2 (length l) && leb (length l) 201) &&
-    (eqb (getD l 0 0) 0 &&
-    (eqb (getD l (length l - 1) 0) m &&
-    (strictlyAscends l &&
-    ((leb 1 r && leb r 200) &&
-    (leb (getD l 1 0) r &&
-    gapsGrowBy r l)))))
+keepsRules l r m = endsAt l m && (strictlyAscends l && (ratioInRange r && (leb (getD l 1 0) r && gapsGrowBy r l)))

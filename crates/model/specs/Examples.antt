@@ -17,7 +17,7 @@ use Rattle.model.specs.Answers.{numberOf, costOf}
 use Rattle.model.specs.Instance.{Instance, instanceOf, cardBytes, cardLength, convexAt, convex, neverFalls, tableInRange}
 use Rattle.model.specs.Instance.{pricesInRange, loadsInRange}
 use Rattle.model.specs.MoreLight.{leastFrom, activeStep}
-use Rattle.model.specs.CountRules.{strictlyAscends, gapsGrowBy, keepsRules}
+use Rattle.model.specs.CountRules.{strictlyAscends, gapsGrowBy, endsAt, ratioInRange, keepsRules}
 use Rattle.model.specs.Counts.{canServe, operatingCost, allCounts, powerOfTwo, coarseCounts, roundedCount, printedCases, caseValue}
 use Rattle.model.specs.Counts.{Case, _to_, roundedByCases}
 use Rattle.model.specs.Sheets.{stateAt, sheetLength, sheetEntries, lightAt, sheetLight, stepCost, changeCost}
@@ -29,8 +29,9 @@ use Rattle.model.specs.Listing.{catalogueLines}
 use Rattle.model.specs.Practice.{xorLeft, xorRight, draw, drawn, practiceDifference, practiceEntry, practiceShow, longestPractice}
 use Rattle.model.specs.Catalogue.{catalogueEntry, followsRule, catalogueBytes}
 use Rattle.model.specs.Calls.{Call, checkCard, runningCost, planShow, makeSheet, markSheet, roundCount, practiceCard}
-use Rattle.model.specs.Calls.{anyShort, cardTests, specOf, firstOf, answerOf}
-use Rattle.model.specs.Calls.{answer, atExit, buffersAtExit, planAtExit, workAtExit, cardAtExit, tableAtExit, outcome}
+use Rattle.model.specs.Specs.{anyShort, cardTests, firstOf, answerOf, atExit}
+use Rattle.model.specs.Calls.{specOf}
+use Rattle.model.specs.Calls.{answer, buffersAtExit, planAtExit, workAtExit, cardAtExit, tableAtExit, outcome}
 
 -- A show: modules, top step, prices, table, loads.
 abbrev pub showOf : (m q up down : ℕ) → (table loads : List ℕ) → Instance
@@ -285,7 +286,7 @@ unfolding sameLists sameList every allOf sum tabulate rows keep littleEndian byt
     sheetLength sheetEntries lightAt sheetLight stepCost changeCost sheetOperatingCost sheetSwitchingCost sheetCost leastOver firstOver
     leastFrom activeStep moduleByte slotRow sheetOf planCost planInRack planServes plansInOrder cheapest cheapestOf leastPlan allowedCounts
     workBytes plannedBy xorLeft xorRight draw drawn practiceDifference practiceEntry practiceShow strictlyAscends
-    gapsGrowBy keepsRules anyShort cardTests specOf firstOf answerOf answer atExit buffersAtExit planAtExit workAtExit cardAtExit tableAtExit
+    gapsGrowBy endsAt ratioInRange keepsRules anyShort cardTests specOf firstOf answer atExit buffersAtExit planAtExit workAtExit cardAtExit tableAtExit
     outcome flatMap headD
     digits decimal costLine planLine stepText slotLine listing refusedLine printedFor printed catalogueEntry followsRule catalogueBytes catalogueLines
 agrees e = sameLists (e .found) (e .expected)

@@ -145,9 +145,3 @@ pricesInRange i = leb (i .powerUp) priceBound && (leb (i .powerDown) priceBound 
 -- The loads keep their bound: 'T loads, each at most m × Q'.
 unfoldable pub loadsInRange : Instance → Bool
 loadsInRange i = every (i .slots) (λ t. leb (i .load t) (i .modules * i .topStep))
-
--- A show is in order if its numbers keep to the bounds of the card's table and its table is convex: refusals 3, 4 and 6 to 8.
-unfoldable pub inOrder : Instance → Bool
-inOrder i =
-    (rackNumber (i .modules) && rackNumber (i .topStep)) &&
-    (leb (i .slots) 1024 && (pricesInRange i && (convex (i .topStep) (i .table) && loadsInRange i)))

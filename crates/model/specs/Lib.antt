@@ -12,6 +12,7 @@ pub mod Planners
 pub mod Explanation
 pub mod Practice
 pub mod Catalogue
+pub mod Specs
 pub mod Acts
 pub mod SittingState
 pub mod Calls

@@ -21,7 +21,8 @@ use Rattle.model.specs.Explanation.{countsOperatingCost, countsSwitching
 use Rattle.model.specs.Explanation.{NoBetterPlan, NoBetterSheet}
 use Rattle.model.specs.Practice.{longestPractice}
 use Rattle.model.specs.Catalogue.{catalogueEntry}
-use Rattle.model.specs.Calls.{answer, Accepted, planShow, markSheet, sheetBytes, frontTests, sizeTests, loadTest, firstOf}
+use Rattle.model.specs.Specs.{sheetBytes, frontTests, sizeTests, loadTest, Passes}
+use Rattle.model.specs.Calls.{answer, Accepted, planShow, markSheet}
 
 -- The sheet that the first T bytes of a plan buffer make.
 abbrev pub madeSheet : List ℕ → List ℕ → List ℕ
@@ -98,7 +99,7 @@ pub record HiddenTillClosed (sitting : Sitting) (caller : ℕ) (reply : Reply) :
 
 -- The fields of a card other than its table are in order: none of refusals 1 to 5 and 8 applies, and the two prices keep their bound.
 pub record OthersInOrder (card : List ℕ) : Type 0 where
-  pub others : firstOf (frontTests card ++ (sizeTests card ++ (loadTest card ∷ []))) (Cost 0) ≡ Cost 0
+  pub others : Passes (frontTests card ++ (sizeTests card ++ (loadTest (instanceOf card) ∷ [])))
   pub power-up : instanceOf card .powerUp ≤ priceBound
   pub power-down : instanceOf card .powerDown ≤ priceBound
 

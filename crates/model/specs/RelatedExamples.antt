@@ -17,8 +17,9 @@ use Rattle.model.specs.Counts.{canServe, allCounts, powerOfTwo, coarseCo
 use Rattle.model.specs.Sheets.{stateAt, stepCost, changeCost, sheetOperatingCost, sheetSwitchingCost, sheetCost}
 use Rattle.model.specs.Plans.{moduleByte, slotRow, sheetOf, planCost, planServes, plansInOrder, cheapest, cheapestOf, leastPlan}
 use Rattle.model.specs.Planners.{Planner, exact, coarse, allowedCounts, workBytes, plannedBy}
-use Rattle.model.specs.Calls.{Gives, planShow, anyShort, cardTests, specOf, firstOf, answerOf, answer}
-use Rattle.model.specs.Calls.{atExit, buffersAtExit, planAtExit}
+use Rattle.model.specs.Specs.{anyShort, cardTests, firstOf, answerOf, atExit}
+use Rattle.model.specs.Calls.{Gives, planShow, specOf, answer}
+use Rattle.model.specs.Calls.{buffersAtExit, planAtExit}
 use Rattle.model.specs.RelatedShows.{Agree, loadsOf, Reversed, LargerRack, Concatenated, PlannedAt, PlannedAs}
 use Rattle.model.specs.Examples.{showOf, cardOf}
 
@@ -121,7 +122,7 @@ concatenated-only m n o l both = (
 
 -- What is no card is given no cost and no plan.
 no-card : (x : ℕ) (r : List ℕ) → (PlannedAt exact [] x → ⊥) × (PlannedAs exact [] r → ⊥)
-unfolding littleEndian instanceOf workBytes cardTests specOf firstOf answerOf answer
+unfolding littleEndian instanceOf workBytes cardTests specOf firstOf answer
 no-card x r = (
   λ given. let wrong : _≡_ {A = ℕ} 0 1 = given [] [] (omega arith) (omega arith) .number-is in omega arith,
   λ given. let wrong : _≡_ {A = ℕ} 1 0 = given [] [] (omega arith) (omega arith) .0 in omega arith,
@@ -144,7 +145,7 @@ given-computed : GivenFrom exact cardLikeA 3 12 32 (3 ∷ 1 ∷ 1 ∷ []) × Giv
 unfolding every allOf sum tabulate rows keep sameList flatMap littleEndian bytesOf instanceOf cardBytes cardLength convexAt convex tableInRange
     pricesInRange loadsInRange canServe allCounts powerOfTwo coarseCounts stateAt stepCost changeCost sheetOperatingCost sheetSwitchingCost
     sheetCost leastOver firstOver leastFrom activeStep moduleByte slotRow sheetOf planCost planServes plansInOrder cheapest cheapestOf leastPlan
-    allowedCounts workBytes plannedBy anyShort cardTests specOf firstOf answerOf answer atExit buffersAtExit planAtExit
+    allowedCounts workBytes plannedBy anyShort cardTests specOf firstOf answer atExit buffersAtExit planAtExit
 given-computed = (
   λ p w room work. rw (le-ltb (length p) 3 room, le-ltb (length w) 12 work) (record { number-is = refl; cost-is = refl }, refl),
   λ p w room work. rw (le-ltb (length p) 1 room, le-ltb (length w) 10 work) (record { number-is = refl; cost-is = refl }, refl),

@@ -12,7 +12,9 @@ use Rattle.model.specs.declared.Sitting.{Sitting}
 use Rattle.model.specs.Acts.{Act, openSitting, seatCandidate, closeSitting, submitSheet, readLeast, readLowest, readUsed}
 use Rattle.model.specs.Acts.{isUnopened, isOpened, isClosed, submissionRefused}
 use Rattle.model.specs.SittingState.{lowerOf, phaseOf, lowestOf, sittingAfter, seatsAfter}
-use Rattle.model.specs.Calls.{actIn, actSpec, cardTests, firstOf, answerOf, outcome}
+use Rattle.model.specs.Acts.{actSpec}
+use Rattle.model.specs.Specs.{cardTests, firstOf, answerOf}
+use Rattle.model.specs.Calls.{actIn, outcome}
 use Rattle.model.specs.Sittings.{answerTo, markedWith, eventWith, eventOf, Told, told, toldBy, replyWith, replyOf, seatsAtExit, toldInTurn}
 use Rattle.model.specs.Sittings.{effectOf, sinceOpening, smallestOf, lowestAmong}
 use Rattle.model.specs.Sittings.{phaseIn, toldFrom}
@@ -56,7 +58,7 @@ shownAs number cost marked z xs = (number ∷ cost ∷ marked ∷ []) ∷ sittin
 -- What an act leaves, computed through every definition.
 actShown : Sitting → List Seat → Act → List (List ℕ)
 unfolding occurs firstPlace changeFirst isUnopened isOpened isClosed submissionRefused eventWith eventOf lowerOf phaseOf lowestOf
-    sittingAfter seatsAfter actSpec cardTests firstOf answerOf answerTo markedWith told
+    sittingAfter seatsAfter actSpec cardTests firstOf answerTo markedWith told
     toldBy replyWith replyOf seatsAtExit Option·elim agrees
 actShown z xs a =
     let r = replyOf z xs a in shownAs (r .number) (r .cost) (r .marked) (r .sitting) (seatsAtExit z xs a)

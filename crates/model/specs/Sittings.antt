@@ -8,6 +8,7 @@ use mathlib.Core.Option.{Option, none, some}
 use lib.ListN.{length}
 use lib.Dec.{leb, eqb}
 use Rattle.lists.specs.Lists.{keep}
+use Rattle.lists.specs.Members.{Each}
 use Rattle.lists.specs.FirstPlace.{occurs, countOf}
 use Rattle.model.specs.declared.Refusal.{Refusal}
 use Rattle.model.specs.declared.Answer.{Answer}
@@ -16,20 +17,19 @@ use Rattle.model.specs.declared.Seat.{Seat}
 use Rattle.model.specs.declared.Sitting.{Sitting}
 use Rattle.model.specs.declared.Reply.{Reply}
 use Rattle.model.specs.Answers.{numberOf, costOf}
-use Rattle.model.specs.Acts.{Act, openSitting, seatCandidate, closeSitting, submitSheet, readLeast, readLowest, readUsed}
-use Rattle.model.specs.Acts.{Phase, unopened, opened, closed, Facts}
+use Rattle.model.specs.Acts.{Act, openSitting, Phase, unopened, opened, closed, Facts, actSpec}
 use Rattle.model.specs.Acts.{Event, nothingDone, openingDone, seatingDone, closingDone, submissionCounted, submissionMarked}
 use Rattle.model.specs.SittingState.{State, factsOf, after, phaseOf, stateOf, sittingAfter, seatsAfter}
-use Rattle.model.specs.Calls.{ActSpec, actSpec, answerOf}
+use Rattle.model.specs.Specs.{answerOf}
 
 -- The answer that the facts of a sitting give to an act.
 unfoldable pub answerTo : Facts → Act → Answer
-answerTo f a = answerOf (actSpec f a .call)
+answerTo f a = answerOf (actSpec a .call f)
 
 -- Whether the answer tells a lowest cost: '(none is told from a cost of 0)'. A refusal tells none.
-unfoldable pub markedWith : ActSpec → Answer → ℕ
-markedWith s (Cost n) = s .marked
-markedWith s (Refused x) = 0
+unfoldable pub markedWith : (marked : ℕ) → Answer → ℕ
+markedWith marked (Cost n) = marked
+markedWith marked (Refused x) = 0
 
 -- What has happened once an act has been answered.
 unfoldable pub eventWith : (done : ℕ → Event) (refused : Refusal → Event) → Answer → Event
@@ -37,7 +37,7 @@ eventWith done refused (Cost n) = done n
 eventWith done refused (Refused x) = refused x
 
 unfoldable pub eventOf : Facts → Act → Event
-eventOf f a = eventWith (actSpec f a .done) (actSpec f a .refused) (answerTo f a)
+eventOf f a = eventWith (actSpec a .done) (actSpec a .refused) (answerTo f a)
 
 -- What the caller of an act is told: the number and the cost, and whether the cost is a lowest cost.
 pub record Told : Type 0 where
@@ -51,7 +51,7 @@ told f a =
     record {
       number = numberOf (answerTo f a);
       cost = costOf (answerTo f a);
-      marked = markedWith (actSpec f a) (answerTo f a);
+      marked = markedWith (actSpec a .marked f) (answerTo f a);
     }
 
 -- The transition: what an act makes of the state, and what it is told there.
@@ -96,19 +96,8 @@ pub data StartsAfresh (z : Sitting) (xs : List Seat) : List Act → Type 0 where
       StartsAfresh z xs (openSitting caller allowance card plan work ∷ acts)
 
 -- 'each is lent the same card': an act on a card is on this one.
-unfoldable pub LentCard : List ℕ → Act → Type 0
-LentCard card (openSitting d a c p w) = c ≡ card
-LentCard card (seatCandidate d c) = Unit {0}
-LentCard card (closeSitting d) = Unit {0}
-LentCard card (submitSheet d c s) = c ≡ card
-LentCard card (readLeast d) = Unit {0}
-LentCard card (readLowest d c) = Unit {0}
-LentCard card (readUsed d) = Unit {0}
-
--- A statement about each act of a list.
-unfoldable pub EachAct : (Act → Type 0) → List Act → Type 0
-EachAct P [] = Unit {0}
-EachAct P (a ∷ more) = P a × EachAct P more
+abbrev pub LentCard : List ℕ → Act → Type 0
+LentCard card a = Each (λ c. c ≡ card) (actSpec a .cards)
 
 -- What an event is to the history: whether it opens or closes the sitting or counts as a submission, the candidates that it seats and the costs
 -- with which it marks a candidate's sheet, each one or none, and the allowance and the least cost of an opening.

@@ -12,9 +12,10 @@ use Rattle.model.specs.Instance.{Instance, instanceOf}
 use Rattle.model.specs.Plans.{sheetOf}
 use Rattle.model.specs.Planners.{exact, workBytes, plannedBy}
 use Rattle.model.specs.Listing.{listing, refusedLine, exactListing, printed, printedFor}
-use Rattle.model.specs.Calls.{planShow, makeSheet, specOf, firstOf, answerOf, answer, sheetBytes, sheetBuffer, planBuffer}
-use Rattle.model.specs.Calls.{anyShort, planAtExit, sheetAtExit}
-use Rattle.laws.specs.Acceptance.{slots-range}
+use Rattle.model.specs.Specs.{firstOf, sheetBytes, sheetBuffer, planBuffer, anyShort}
+use Rattle.model.specs.Calls.{planShow, makeSheet, specOf, answer}
+use Rattle.model.specs.Calls.{planAtExit, sheetAtExit}
+use Rattle.laws.specs.Acceptance.{accepted-bounds}
 use Rattle.theory.specs.SheetLaws.{sheet-length}
 use Rattle.theory.specs.Outcomes.{written-taken, best-fits, sheet-accepted, sheet-at-exit, plan-at-exit, planner-refused, planner-room}
 use Rattle.card.specs.declared.Header.{Header}
@@ -38,7 +39,7 @@ accepted-text s is e room = record { ready = ready s is e; text = room }
 -- The planner's answer depends on the lengths of its buffers alone.
 same-lengths :
     (s p w q v : List ℕ) → length p ≡ length q → length w ≡ length v → answer (planShow exact s p w) ≡ answer (planShow exact s q v)
-unfolding answer answerOf specOf firstOf anyShort
+unfolding answer specOf firstOf anyShort
 same-lengths s p w q v e d = rw (e, d)
 
 -- The program's areas, and the planner's answer.
@@ -114,7 +115,7 @@ module _ {s : List ℕ} {h : Header} {plan out : List ℕ} (p : PlannedText s h 
     print-ready =
         let slots = best-fits exact s (p .ready .accepted) refl .slotwise in
         let entries = sheet-length i (plannedBy exact i) in
-        let few = slots-range s (p .ready .accepted) in
+        let few = accepted-bounds s (p .ready .accepted) .slots in
         let most = rw (m, t) at entries-few in
         rw (plan-is, sheet-is, m)
         (record { rack = record { entries = rw slots entries; slots = omega arith }; area = omega (arith, p .text .area) })

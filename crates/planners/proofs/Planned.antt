@@ -12,7 +12,7 @@ use Rattle.model.specs.Thesis.{countsCost}
 use Rattle.model.specs.Plans.{leastPlan, leastCost}
 use Rattle.model.specs.Planners.{Planner, exact, coarse, listed, allowedCounts, workBytes, plannedBy, plannedCost}
 use Rattle.model.specs.Promises.{KeepsRules}
-use Rattle.laws.specs.Acceptance.{modules-range}
+use Rattle.laws.specs.Acceptance.{accepted-bounds}
 use Rattle.thresholds.specs.Places.{lastPlace, Ascending}
 use Rattle.thresholds.specs.Thresholds.{thresholdPlan}
 use Rattle.theory.specs.Hypotheses.{Plannable}
@@ -76,7 +76,7 @@ module _
   pub over-counts : Searchable s h counts plan work
   over-counts =
       let i = instanceOf s in
-      let asc = planner-rules k i (modules-range s (b .ready .accepted) .0) keeps .ascending in
+      let asc = planner-rules k i (accepted-bounds s (b .ready .accepted) .modules .0) keeps .ascending in
       rw are
       (record {
         on-card = record { ready = b .ready; allowed = asc };
@@ -105,5 +105,5 @@ front-counts kind r old size filled = front-is _ old size filled ∙ ap (allowed
 -- The counts of a header's rack fit into the room for the largest one.
 pub rack-fits : (s : List ℕ) {h : Header} {numbers : List ℕ} → Ready s h → NumberRoom numbers → CountsRoom numbers (h .modules)
 rack-fits s r n =
-    let (some, most) = modules-range s (r .accepted) in
+    let (some, most) = accepted-bounds s (r .accepted) .modules in
     record { some = omega (arith, r .header .modules-is); most = omega (arith, r .header .modules-is); room = omega (arith, n .room) }

@@ -15,7 +15,8 @@ use Rattle.model.specs.declared.Answer.{Answer}
 use Rattle.model.specs.declared.Answer.the-variants.{Cost, Refused}
 use Rattle.model.specs.Instance.{instanceOf}
 use Rattle.model.specs.Planners.{Planner, workBytes, keepsList, plannedBy, plannedCost}
-use Rattle.model.specs.Calls.{planShow, specOf, answer, buffersOf, anyShort, planAtExit, workAtExit, atExit}
+use Rattle.model.specs.Specs.{anyShort, atExit}
+use Rattle.model.specs.Calls.{planShow, specOf, answer, planAtExit, workAtExit}
 use Rattle.model.specs.Promises.{KeepsRules}
 use Rattle.theory.specs.Outcomes.{planner-refused, planner-unlisted, planner-short, planner-cost, best-fits, plan-at-exit, work-at-exit}
 use Rattle.card.specs.declared.Header.{Header}
@@ -58,7 +59,7 @@ module _ (k : Planner) (s p w : List ℕ) where
   plan-refused is e = planned-kept (planner-refused k s p w (refused-answer s is e))
 
   -- The test on the lengths of the buffers finds one that is too short where there is one.
-  pub room-short : anyShort (buffersOf (planShow k s p w)) ≡ not (roomFor k (instanceOf s) (length p) (length w))
+  pub room-short : anyShort (specOf (planShow k s p w) .buffers) ≡ not (roomFor k (instanceOf s) (length p) (length w))
   unfolding specOf anyShort hasRoom
   room-short = either (ltb (length p) (instanceOf s .slots)) (ltb (length w) (workBytes k (instanceOf s)))
     where

@@ -11,8 +11,9 @@ use Rattle.model.specs.declared.Answer.{Answer}
 use Rattle.model.specs.declared.Answer.the-variants.{Cost, Refused}
 use Rattle.model.specs.Instance.{cardBytes, cardLength, loadPlace}
 use Rattle.model.specs.Practice.{practiceShow}
-use Rattle.model.specs.Calls.{practiceCard, anyShort, specOf, firstOf, answerOf, answer}
-use Rattle.model.specs.Calls.{cardBuffer, atExit, buffersAtExit, cardAtExit}
+use Rattle.model.specs.Specs.{anyShort, firstOf, cardBuffer, atExit}
+use Rattle.model.specs.Calls.{practiceCard, specOf, answer}
+use Rattle.model.specs.Calls.{buffersAtExit, cardAtExit}
 use Rattle.laws.specs.Encoding.{card-bytes-length}
 use Rattle.laws.specs.PracticeAccepted.{practice-given}
 use Rattle.practice.specs.declared.FirstDraws.{FirstDraws}
@@ -26,7 +27,7 @@ module _ (start : ℕ) (card : List ℕ) where
 
   -- Start 0 is refused, and the area is as it was.
   pub zero-refused : start ≡ 0 → (Refused ZeroStart ≡ answer (practiceCard start card)) × (card ≡ cardAtExit (practiceCard start card))
-  unfolding answer answerOf specOf firstOf atExit
+  unfolding answer specOf firstOf atExit
   zero-refused e =
       let given : answer (practiceCard start card) ≡ Refused ZeroStart = rw (eq-eqb start 0 e) in
       (sym given, exit-by given)
@@ -36,7 +37,7 @@ module _ (start : ℕ) (card : List ℕ) where
     pub short-refused :
         length card < cardLength (practiceShow start) →
         (Refused BufferTooShort ≡ answer (practiceCard start card)) × (card ≡ cardAtExit (practiceCard start card))
-    unfolding answer answerOf specOf firstOf anyShort atExit
+    unfolding answer specOf firstOf anyShort atExit
     short-refused h =
         let given : answer (practiceCard start card) ≡ Refused BufferTooShort = rw (ne-eqb start 0 some, lt-ltb _ _ h) in
         (sym given, exit-by given)

@@ -12,7 +12,7 @@ use Rattle.lists.specs.Numbers.{le-or-lt}
 use Rattle.model.specs.Instance.{instanceOf}
 use Rattle.model.specs.Counts.{canServe}
 use Rattle.model.specs.Thesis.{switchingPrice}
-use Rattle.laws.specs.Acceptance.{modules-range, top-range, up-range, down-range}
+use Rattle.laws.specs.Acceptance.{accepted-bounds}
 use Rattle.card.specs.declared.Header.{Header}
 use Rattle.counts.specs.Serving.{Served}
 use Rattle.thresholds.specs.Places.{countAtPlace, lastPlace, count-fits, length-fits}
@@ -21,10 +21,10 @@ use Rattle.search.specs.SearchRequires.{OnCard, mostLead}
 
 module _ {s : List ℕ} {h : Header} {counts : List ℕ} (on : OnCard s h counts) where
   pub few-places : length counts ≤ 201
-  few-places = omega (arith, length-fits (on .allowed), modules-range s (on .ready .accepted))
+  few-places = omega (arith, length-fits (on .allowed), accepted-bounds s (on .ready .accepted) .modules)
 
   pub price-most : h .powerUp + h .powerDown ≤ 1000000000
-  price-most = omega (arith, up-range s (on .ready .accepted), down-range s (on .ready .accepted))
+  price-most = omega (arith, accepted-bounds s (on .ready .accepted) .powerUp, accepted-bounds s (on .ready .accepted) .powerDown)
 
   price-is : h .powerUp + h .powerDown ≡ switchingPrice (instanceOf s)
   price-is = omega arith
@@ -38,7 +38,7 @@ module _ {s : List ℕ} {h : Header} {counts : List ℕ} (on : OnCard s h counts
       (le-or-lt (length counts) j)
 
   pub count-most : (j : ℕ) → countAtPlace counts j ≤ 200
-  count-most j = omega (arith, in-rack j, modules-range s (on .ready .accepted) .1)
+  count-most j = omega (arith, in-rack j, accepted-bounds s (on .ready .accepted) .modules .1)
 
   -- What the test on a place's count and the load says.
   module _ {l : ℕ} (j : ℕ) where
@@ -66,7 +66,7 @@ module _ {s : List ℕ} {h : Header} {counts : List ℕ} (on : OnCard s h counts
   pub low-top : (j : ℕ) → countAtPlace counts j * h .topStep ≤ 40000
   low-top j =
       mul-le-mul {n₁ = countAtPlace counts j} {n₂ = 200} {m₂ = 200} (count-most j)
-      (omega (arith, top-range s (on .ready .accepted) .1, on .ready .header .top-is))
+      (omega (arith, accepted-bounds s (on .ready .accepted) .topStep .1, on .ready .header .top-is))
 
   -- Beyond the list a level has no price.
   pub price-beyond : (j : ℕ) → lastPlace counts ≤ j → 0 ≡ levelPrice (instanceOf s) counts j

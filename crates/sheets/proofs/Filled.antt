@@ -10,7 +10,7 @@ use Rattle.lists.specs.Lists.{tabulate, rows, writtenOver, length-rows}
 use Rattle.lists.specs.Parts.{part-length}
 use Rattle.lists.specs.Rows.{row-within, rows-size, next-row}
 use Rattle.model.specs.Instance.{Instance}
-use Rattle.model.specs.Calls.{sheetBytes}
+use Rattle.model.specs.Specs.{sheetBytes}
 use Rattle.model.specs.Plans.{moduleByte, slotRow, sheetOf}
 use Rattle.laws.specs.Operating.{slot-row-length}
 

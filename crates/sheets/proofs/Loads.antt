@@ -16,12 +16,12 @@ use Rattle.model.specs.Instance.{Instance, instanceOf}
 use Rattle.model.specs.Counts.{canServe}
 use Rattle.model.specs.Plans.{planServes}
 use Rattle.model.specs.Thesis.{countAt, slotCost}
-use Rattle.model.specs.Calls.{sheetBytes}
+use Rattle.model.specs.Specs.{sheetBytes}
 use Rattle.card.specs.declared.Header.{Header}
 use Rattle.card.specs.Fields.{LoadThere}
 use Rattle.card.specs.Checking.{Ready}
 use Rattle.card.proofs.FieldsThere.{load-there}
-use Rattle.laws.specs.Acceptance.{modules-range}
+use Rattle.laws.specs.Acceptance.{accepted-bounds}
 use Rattle.counts.specs.Serving.{Served}
 use Rattle.sheets.specs.SheetRequires.{RowFits, PlanSized, PlanReady, RowShort}
 use Rattle.sheets.proofs.SheetBytes.{area-small}
@@ -52,7 +52,7 @@ row-small {s} given below = row-there given below (area-small s (given .accepted
 pub row-short :
     {s : List ℕ} {h : Header} (l : List ℕ) (a : ℕ) → Ready s h → a + h .modules ≤ length l → RowShort (midOf a (a + h .modules - a) l)
 row-short {s} {h} l a given inside =
-    record { short = omega (arith, part-length a (h .modules) l inside, modules-range s (given .accepted) .1) }
+    record { short = omega (arith, part-length a (h .modules) l inside, accepted-bounds s (given .accepted) .modules .1) }
 
 -- The tests of a count against the rack and against a load.
 module _ {s : List ℕ} {h : Header} (given : Ready s h) {n x : ℕ} (x-is : x ≡ n) where

@@ -13,7 +13,7 @@ use Rattle.lists.specs.Parts.{upto-front, upto-part}
 use Rattle.model.specs.Instance.{Instance, instanceOf}
 use Rattle.model.specs.MoreLight.{activeStep}
 use Rattle.model.specs.Plans.{moduleByte}
-use Rattle.laws.specs.Acceptance.{top-range}
+use Rattle.laws.specs.Acceptance.{accepted-bounds}
 use Rattle.laws.specs.Operating.{byte-above, byte-at, byte-off}
 use Rattle.card.specs.declared.Header.{Header}
 use Rattle.card.proofs.Lowest.{active-most}
@@ -24,7 +24,7 @@ use Rattle.counts.proofs.Shares.{rest-below, step-small}
 pub active-fits :
     {s : List ℕ} {h : Header} {n l k j : ℕ} → Served s h n l → (n ≡ 0 → ⊥) → j ≡ activeStep (instanceOf s) k → k ≤ l / n + 1 → Fits w8 j
 active-fits {s} {h} {n} {l} {k} given some is near =
-    record { fits = omega (arith, active-most (given .ready) k, step-small given some, top-range s (given .ready .accepted) .1) }
+    record { fits = omega (arith, active-most (given .ready) k, step-small given some, accepted-bounds s (given .ready .accepted) .topStep .1) }
 
 -- Where no module is active, the row is all off.
 pub row-off :

@@ -17,12 +17,13 @@ use Rattle.lists.specs.Sums.{sum-at-most}
 use Rattle.lists.specs.Parts.{getD-within}
 use Rattle.model.specs.Instance.{Instance, instanceOf}
 use Rattle.model.specs.Sheets.{isEntry, off, isOff, stepOf, sheetEntries, stepCost, changeCost}
-use Rattle.model.specs.Calls.{sheetBytes, Accepted}
+use Rattle.model.specs.Specs.{sheetBytes}
+use Rattle.model.specs.Calls.{Accepted}
 use Rattle.card.specs.declared.Header.{Header}
 use Rattle.card.specs.Fields.{EntryThere}
 use Rattle.card.specs.Checking.{Ready}
 use Rattle.card.proofs.FieldsThere.{entry-there}
-use Rattle.laws.specs.Acceptance.{modules-range, slots-range, table-range, up-range, down-range}
+use Rattle.laws.specs.Acceptance.{accepted-bounds}
 use Rattle.sheets.specs.Marks.{byteCost, bytesCost, stopCost}
 use Rattle.sheets.specs.SheetRequires.{ByteReady, BytesReady, SheetReady}
 
@@ -70,7 +71,7 @@ step-there given active e = rw e (entry-there (given .ready) (active-step active
 
 -- A sheet has at most 200 × 1,024 bytes.
 pub area-small : (s : List ℕ) → Accepted s → sheetBytes (instanceOf s) ≤ 204800
-area-small s accepted = mul-le-mul (modules-range s accepted .1) (slots-range s accepted)
+area-small s accepted = mul-le-mul (accepted-bounds s accepted .modules .1) (accepted-bounds s accepted .slots)
 
 -- The part of a sheet from place a on is ready as the sheet is.
 pub part-ready :
@@ -124,7 +125,7 @@ module _ (s : List ℕ) (h : Header) (prev b : ℕ) (given : ByteReady s h b) wh
   step-most =
       ⊎-elim
       (λ (t : isOff b ≡ true). rw t (omega arith))
-      (λ (t : isOff b ≡ false). rw t (table-range s (given .ready .accepted) b (active-step (eqb-false b off t) _ (given .in-range))))
+      (λ (t : isOff b ≡ false). rw t (accepted-bounds s (given .ready .accepted) .table b (active-step (eqb-false b off t) _ (given .in-range))))
       (true-or-false (isOff b))
 
   change-most : changeCost (instanceOf s) prev b ≤ 500000000
@@ -133,8 +134,8 @@ module _ (s : List ℕ) (h : Header) (prev b : ℕ) (given : ByteReady s h b) wh
     where
       go : (x y : Bool) → cond x (cond y 0 (instanceOf s .powerUp)) (cond y (instanceOf s .powerDown) 0) ≤ 500000000
       go true true = omega arith
-      go true false = up-range s (given .ready .accepted)
-      go false true = down-range s (given .ready .accepted)
+      go true false = accepted-bounds s (given .ready .accepted) .powerUp
+      go false true = accepted-bounds s (given .ready .accepted) .powerDown
       go false false = omega arith
 
   byte-most : byteCost (instanceOf s) prev b ≤ 501000000

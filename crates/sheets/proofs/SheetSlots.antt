@@ -7,7 +7,7 @@ use native.Mathlib.Omega.{arith}
 use Rattle.model.specs.Instance.{instanceOf}
 use Rattle.model.specs.Counts.{operatingCost}
 use Rattle.model.specs.Thesis.{slotCost}
-use Rattle.laws.specs.Acceptance.{modules-range, up-range, down-range}
+use Rattle.laws.specs.Acceptance.{accepted-bounds}
 use Rattle.card.specs.declared.Header.{Header}
 use Rattle.counts.specs.Serving.{Served}
 use Rattle.counts.proofs.Shares.{operating-most}
@@ -17,8 +17,8 @@ module _ {s : List ℕ} {h : Header} {n l : ℕ} (given : Served s h n l) (prev 
   pub switching-most : (h .powerUp + h .powerDown) * (n - prev) ≤ 1000000000 * 200
   switching-most =
       mul-le-mul {n₁ = h .powerUp + h .powerDown} {m₁ = n - prev} {n₂ = 1000000000} {m₂ = 200}
-      (omega (arith, up-range s (given .ready .accepted), down-range s (given .ready .accepted)))
-      (omega (arith, modules-range s (given .ready .accepted) .1))
+      (omega (arith, accepted-bounds s (given .ready .accepted) .powerUp, accepted-bounds s (given .ready .accepted) .powerDown))
+      (omega (arith, accepted-bounds s (given .ready .accepted) .modules .1))
 
   -- Where fewer modules or as many are active, only the operating cost is left.
   pub slot-kept : {operating : ℕ} → operating ≡ operatingCost (instanceOf s) n l → n ≤ prev → operating ≡ slotCost (instanceOf s) prev n l

@@ -14,7 +14,7 @@ use Rattle.lists.specs.Sums.{sum, sum-ext, sum-add, sum-const, sum-at-most, sum
 use Rattle.model.specs.Instance.{Instance, instanceOf}
 use Rattle.model.specs.Sheets.{stateAt, stepCost, changeCost, sheetOperatingCost, sheetSwitchingCost, sheetCost}
 use Rattle.card.specs.declared.Header.{Header}
-use Rattle.laws.specs.Acceptance.{modules-range, down-range}
+use Rattle.laws.specs.Acceptance.{accepted-bounds}
 use Rattle.sheets.specs.Marks.{byteCost, bytesCost, allOff, byteAt, stopCost, rowStopCost}
 use Rattle.sheets.specs.SheetRequires.{BytesReady, RowPriced, SheetReady}
 use Rattle.sheets.proofs.SheetBytes.{area-small, part-ready, stop-each, bytes-most}
@@ -142,8 +142,8 @@ module _ {s : List ℕ} {h : Header} {sheet : List ℕ} (given : SheetReady s h 
     last-priced =
         let accepted = given .sized .ready .accepted in
         record {
-          short = omega (arith, last-length sheet _ _ header-rows, modules-range s accepted .1);
-          priced = omega (arith, down-range s accepted);
+          short = omega (arith, last-length sheet _ _ header-rows, accepted-bounds s accepted .modules .1);
+          priced = omega (arith, accepted-bounds s accepted .powerDown);
         }
 
     module _

@@ -7,7 +7,7 @@ use lib.ListN.{length, getD}
 use Rattle.model.specs.Instance.{instanceOf}
 use Rattle.model.specs.Sheets.{isEntry, sheetEntries}
 use Rattle.model.specs.Plans.{planServes}
-use Rattle.model.specs.Calls.{sheetBytes}
+use Rattle.model.specs.Specs.{sheetBytes}
 use Rattle.card.specs.declared.Header.{Header}
 use Rattle.card.specs.Checking.{Ready}
 use Rattle.counts.specs.Serving.{Served}

@@ -1,5 +1,4 @@
 mod Phases
-mod Rules
 mod Replies
 mod Lowest
 mod Submissions

@@ -11,7 +11,7 @@ use Rattle.model.specs.declared.Sitting.{Sitting}
 use Rattle.model.specs.declared.Reply.{Reply}
 use Rattle.model.specs.Acts.{readLowest}
 use Rattle.model.specs.SittingState.{lowestOf, lowerOf, markedRecord, sittingAfter}
-use Rattle.model.specs.Calls.{actSpec}
+use Rattle.model.specs.Acts.{actSpec}
 use Rattle.model.specs.Sittings.{answerTo, markedWith, eventWith, eventOf, told, replyWith}
 use Rattle.seats.specs.declared.View.{View}
 use Rattle.sitting.specs.Seen.{seen, eventSeen, replySeen, replyGiving}

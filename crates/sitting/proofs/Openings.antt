@@ -15,8 +15,10 @@ use Rattle.model.specs.Instance.{instanceOf}
 use Rattle.model.specs.Planners.{exact, plannedCost}
 use Rattle.model.specs.Acts.{openSitting, allowanceInRange}
 use Rattle.model.specs.SittingState.{factsOf, stateOf, sittingAfter}
-use Rattle.model.specs.Calls.{Call, planShow, actIn, actSpec, specOf, firstOf, answerOf, answer, Accepted}
-use Rattle.model.specs.Calls.{atExit, buffersAtExit, planAtExit, workAtExit}
+use Rattle.model.specs.Acts.{actSpec}
+use Rattle.model.specs.Specs.{firstOf, atExit}
+use Rattle.model.specs.Calls.{Call, planShow, actIn, specOf, answer, Accepted}
+use Rattle.model.specs.Calls.{buffersAtExit, planAtExit, workAtExit}
 use Rattle.model.specs.Sittings.{answerTo, markedWith, eventWith, eventOf, told, toldBy, replyWith, replyOf}
 use Rattle.laws.specs.OnCard.{on-card-refused, on-card-passed}
 use Rattle.theory.specs.Outcomes.{planner-cost}
@@ -45,31 +47,31 @@ module _ (z : Sitting) (d l : ℕ) (s p w : List ℕ) where
 
   -- An opening on a card that is refused is refused with the same number.
   pub opening-on : {c : Checked} {x : Refusal} → c ≡ checkedOf s → c ≡ Invalid x → Opened (opens z d l s p w) (Refused x) p w
-  unfolding answer answerOf specOf actSpec
+  unfolding answer specOf actSpec
   opening-on is e = opening-kept (on-card-refused s _ _ (refused-answer s is e))
 
   module _ (given : Accepted s) where
     -- A buffer is too short.
     pub opening-short :
         roomFor exact (instanceOf s) (length p) (length w) ≡ false → Opened (opens z d l s p w) (Refused BufferTooShort) p w
-    unfolding answer answerOf specOf actSpec firstOf
+    unfolding answer specOf actSpec firstOf
     opening-short less = opening-kept (on-card-passed s _ _ given ∙ rw (room-short exact s p w, less))
 
     module _ (room : roomFor exact (instanceOf s) (length p) (length w) ≡ true) where
       -- The caller is not the supervisor.
       pub opening-barred : (d ≡ 0 → ⊥) → Opened (opens z d l s p w) (Refused NotPermitted) p w
-      unfolding answer answerOf specOf actSpec firstOf
+      unfolding answer specOf actSpec firstOf
       opening-barred by = opening-kept (on-card-passed s _ _ given ∙ rw (room-short exact s p w, room, ne-eqb d 0 by))
 
       module _ (by : d ≡ 0) where
         -- The allowance is out of range.
         pub opening-spent : allowanceInRange l ≡ false → Opened (opens z d l s p w) (Refused AllowanceSpent) p w
-        unfolding answer answerOf specOf actSpec firstOf
+        unfolding answer specOf actSpec firstOf
         opening-spent range = opening-kept (on-card-passed s _ _ given ∙ rw (room-short exact s p w, room, eq-eqb d 0 by, range))
 
         -- Where none of them applies, an opening answers the least cost, and leaves what the exact planner does.
         opening-cost : allowanceInRange l ≡ true → answer (opens z d l s p w) ≡ Cost (plannedCost exact (instanceOf s))
-        unfolding answer answerOf specOf actSpec firstOf
+        unfolding answer specOf actSpec firstOf
         opening-cost range = on-card-passed s _ _ given ∙ rw (room-short exact s p w, room, eq-eqb d 0 by, range)
 
         pub opening-planned :

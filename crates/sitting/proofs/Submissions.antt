@@ -1,12 +1,10 @@
 -- The answer to a submission, by its tests, and what a submission does, by its answer.
 use Prim.Native.Nat.{ℕ, _+_}
 use mathlib.Core.Path.{_≡_, refl, sym, ap, _∙_}
-use mathlib.Core.Bool.{true, false, cond, not, _||_}
+use mathlib.Core.Bool.{true, false}
 use mathlib.Core.List.{List, [], _∷_}
 use mathlib.Core.Logic.{⊎-elim}
-use lib.Dec.{eqb, leb, ltb}
 use Rattle.model.specs.declared.Refusal.{Refusal}
-use Rattle.model.specs.declared.Refusal.the-variants.{NotPermitted, SeatUnavailable, AllowanceSpent}
 use Rattle.model.specs.declared.Answer.{Answer}
 use Rattle.model.specs.declared.Answer.the-variants.{Cost, Refused}
 use Rattle.model.specs.declared.Seat.{Seat}
@@ -15,9 +13,12 @@ use Rattle.model.specs.declared.Reply.{Reply}
 use Rattle.model.specs.Instance.{instanceOf}
 use Rattle.model.specs.Acts.{submitSheet, Event, nothingDone, submissionMarked, submissionRefused}
 use Rattle.model.specs.SittingState.{emptySeat, markedRecord, sittingAfter}
-use Rattle.model.specs.Calls.{Test, checkCard, markSheet, cardTests, sheetTests, actSpec, specOf, firstOf, answerOf, answer, Accepted}
+use Rattle.model.specs.Specs.{Test, cardTests, sheetTests, firstOf}
+use Rattle.model.specs.Acts.{actSpec}
+use Rattle.model.specs.Calls.{checkCard, markSheet, specOf, answer, Accepted}
 use Rattle.model.specs.Sittings.{answerTo, markedWith, eventWith, eventOf, told, replyWith}
 use Rattle.lists.specs.Numbers.{true-or-false}
+use Rattle.lists.specs.Members.{Each}
 use Rattle.laws.specs.OnCard.{on-card-refused, on-card-passed}
 use Rattle.laws.specs.SittingLaws.{refused-does}
 use Rattle.card.specs.declared.Checked.{Checked}
@@ -27,16 +28,12 @@ use Rattle.card.proofs.Groups.{refused-answer}
 use Rattle.seats.specs.declared.View.{View}
 use Rattle.sitting.specs.declared.Outcome.{Outcome}
 use Rattle.sitting.specs.Seen.{seen, placeFor, recordFor, eventSeen, replySeen, outcomeOf, replyGiving, unchangedOf, withSubmissions, Uncounted, Answered}
-use Rattle.sitting.proofs.Phases.{open-phase}
 
--- What f makes of the refusal of each test of a list is b.
-unfoldable Each : {B : Type 0} (f : Answer → B) (b : B) → List Test → Type 0
-Each f b [] = Unit
-Each f b (t ∷ ts) = (f (Refused (t .refusal)) ≡ b) × Each f b ts
-
--- So it is of the first that applies, if it is of the answer where none applies.
-first-each : {B : Type 0} (f : Answer → B) (b : B) (ts : List Test) (a : Answer) → f a ≡ b → Each f b ts → f (firstOf ts a) ≡ b
-unfolding Each firstOf
+-- What f makes of the answer is b, if it makes b of the refusal of each test and of the answer where none applies.
+first-each :
+    {B : Type 0} (f : Answer → B) (b : B) (ts : List Test) (a : Answer) → f a ≡ b → Each (λ t. f (Refused (t .refusal)) ≡ b) ts →
+    f (firstOf ts a) ≡ b
+unfolding firstOf
 first-each f b [] a last each = last
 first-each f b (t ∷ ts) a last (this, rest) =
     ⊎-elim
@@ -51,7 +48,7 @@ refusedEvent (Refused x) = submissionRefused x
 
 -- A submission on a card that is refused does not count.
 card-not-counted : (s : List ℕ) {x : Refusal} → answer (checkCard s) ≡ Refused x → submissionRefused x ≡ nothingDone
-unfolding answer answerOf specOf cardTests Each refusedEvent submissionRefused
+unfolding answer specOf cardTests refusedEvent submissionRefused
 card-not-counted s e =
     sym (ap refusedEvent e) ∙
     first-each refusedEvent nothingDone (cardTests s) (Cost _) refl
@@ -69,26 +66,17 @@ module _ (z : Sitting) (v : View) (d : ℕ) (s x : List ℕ) where
   pub card-answered :
       {c : Checked} {y : Refusal} {b : Answer} {n : ℕ} → Uncounted y z b n → c ≡ checkedOf s → c ≡ Invalid y →
       Answered z v (submitSheet d s x) b n
-  unfolding answerTo answerOf actSpec
+  unfolding answerTo actSpec
   card-answered u is e =
       let refused = refused-answer s is e in
       refused-answered u (on-card-refused s _ _ refused) (card-not-counted s refused)
 
   module _ (given : Accepted s) where
-    -- On an accepted card the submission's own tests decide, and then those of marking.
-    pub submit-tests :
-        answerTo (seen z v) (submitSheet d s x) ≡
-        cond (eqb d 0 || not (eqb (z .state) 1)) (Refused NotPermitted)
-        (cond (eqb d 0 || not (ltb (v .at) (v .n))) (Refused SeatUnavailable)
-        (cond (leb (z .allowance) (z .submissions)) (Refused AllowanceSpent) (answer (markSheet s x))))
-    unfolding answerTo answer answerOf specOf actSpec firstOf seen
-    submit-tests = on-card-passed s _ _ given ∙ rw (open-phase (z .state), on-card-passed s (sheetTests (instanceOf s) x) _ given)
-
     -- A submission that is answered as marking counts.
     pub marked-answered :
         {a : Answer} → a ≡ answer (markSheet s x) → answerTo (seen z v) (submitSheet d s x) ≡ answer (markSheet s x) →
         Answered z v (submitSheet d s x) a (z .submissions + 1)
-    unfolding Each eventSeen eventOf eventWith actSpec submissionRefused sittingAfter answer answerOf specOf
+    unfolding eventSeen eventOf eventWith actSpec submissionRefused sittingAfter answer specOf
     marked-answered is e =
         let used : Answer → ℕ = λ b. sittingAfter (eventWith (submissionMarked d) submissionRefused b) z .submissions in
         record {
@@ -104,7 +92,7 @@ refused-parts :
 unfolding placeFor recordFor sittingAfter withSubmissions actSpec
 refused-parts z v d s x y =
     refused-does (λ e. (placeFor v e ≡ v .len) × ((recordFor v e ≡ emptySeat) × (sittingAfter e z ≡ withSubmissions z (sittingAfter e z .submissions))))
-    (seen z v) (submitSheet d s x) y (refl, (refl, refl)) (λ e c b same counted. (refl, (refl, refl)))
+    (submitSheet d s x) y (refl, (refl, refl)) (λ e c b same counted. (refl, (refl, refl)))
 
 module _ (z : Sitting) (v : View) (d : ℕ) (s x : List ℕ) {a : Answer} {n : ℕ} (answered : Answered z v (submitSheet d s x) a n) where
   module _ {after : Sitting} (after-is : after ≡ withSubmissions z n) where

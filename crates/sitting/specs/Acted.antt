@@ -15,11 +15,11 @@ use Rattle.model.specs.declared.Answer.the-variants.{Cost, Refused}
 use Rattle.model.specs.declared.Seat.{Seat}
 use Rattle.model.specs.declared.Sitting.{Sitting}
 use Rattle.model.specs.Acts.{Act, seatCandidate, submitSheet, Event, nothingDone, seatingDone, submissionMarked, submissionRefused}
-use Rattle.model.specs.Calls.{actSpec, answerOf}
+use Rattle.model.specs.Acts.{actSpec}
 use Rattle.model.specs.SittingState.{Place, isFor, emptyPlace, factsOf, seatsOf, beyondSeats, isOf, lowestOf, placeOf, stateOf}
 use Rattle.model.specs.SittingState.{emptySeat, seatedRecord, markedRecord, seatsAfter}
 use Rattle.model.specs.Sittings.{answerTo, eventWith, eventOf, eventIn, toldBy, replyOf, seatsAtExit}
-use Rattle.laws.specs.FirstRefusal.{first-passed}
+use Rattle.laws.specs.FirstRefusal.{none-applies}
 use Rattle.laws.specs.SittingLaws.{submitted-seated, concerned, AgreeAt, events-agree, told-agree, refused-does}
 use Rattle.seats.specs.declared.View.{View}
 use Rattle.seats.specs.Scanned.{scanned}
@@ -74,10 +74,10 @@ Puts v xs e = set xs (placeFor v e) (recordFor v e) ≡ seatsAfter e xs
 -- Seating sets the first empty record, or nothing where it is refused.
 seating-put : (z : Sitting) (xs : List Seat) (d c : ℕ) (r : Answer) → answerTo (factsOf (stateOf z xs)) (seatCandidate d c) ≡ r →
     Puts (scanned c xs) xs (eventWith (λ n. seatingDone c) (λ x. nothingDone) r)
-unfolding eventWith placeFor recordFor seatsAfter scanned answerTo answerOf actSpec
+unfolding eventWith placeFor recordFor seatsAfter scanned answerTo actSpec
 seating-put z xs d c (Refused x) e = set-out xs (length xs) emptySeat (le-refl (length xs))
 seating-put z xs d c (Cost n) e =
-    let known = first-passed _ _ _ (first-passed _ _ _ e .1) .0 in
+    let (permitted, (known, none)) = none-applies _ _ e in
     let free = not-false _ (or-right (occurs (isFor c) (map placeOf (seatsOf xs))) _ (or-right (eqb c 0) _ known)) in
     changed-set (isOf 0) (seatedRecord c) xs (sym (occurs-map placeOf (isOf 0) (isFor 0) (λ s. refl) (seatsOf xs)) ∙ free)
 
@@ -87,7 +87,7 @@ submission-put : (z : Sitting) (xs : List Seat) (d : ℕ) (card sheet : List ℕ
 unfolding eventWith actSpec placeFor recordFor seatsAfter scanned
 submission-put z xs d card sheet (Refused x) e =
     let none = set-out xs (length xs) emptySeat (le-refl (length xs)) in
-    refused-does (Puts (scanned d xs) xs) (factsOf (stateOf z xs)) (submitSheet d card sheet) x none (λ f c s same counted. none)
+    refused-does (Puts (scanned d xs) xs) (submitSheet d card sheet) x none (λ f c s same counted. none)
 submission-put z xs d card sheet (Cost n) e =
     changed-set (isOf d) (markedRecord n) xs
     (sym (occurs-map placeOf (isOf d) (isFor d) (λ s. refl) (seatsOf xs)) ∙ not-false _ (or-right (eqb d 0) _ (submitted-seated _ d card sheet e)))

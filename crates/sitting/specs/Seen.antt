@@ -39,7 +39,7 @@ unseated v c = eqb c 0 || not (ltb (v .at) (v .n))
 
 -- A caller may read a candidate's lowest cost: the supervisor, and the candidate, once the sitting is opened.
 unfoldable pub mayRead : Sitting → (caller candidate : ℕ) → Bool
-mayRead z d c = not (isUnopened (phaseOf (z .state)) || (not (supervisor d) && not (eqb d c)))
+mayRead z d c = not (isUnopened (phaseOf (z .state))) && (supervisor d || eqb d c)
 
 -- The place that an event changes: the first empty record, the candidate's, or none, which is said by the length of the list.
 unfoldable pub placeFor : View → Event → ℕ

@@ -4,6 +4,7 @@ use Prim.Native.Nat.{ℕ, _*_, _≤_}
 use mathlib.Core.Path.{_≡_, refl}
 use mathlib.Core.Bool.{true}
 use mathlib.Core.List.{List, [], _∷_, _++_, flatMap}
+use mathlib.Core.Option.{Option·elim}
 use native.Mathlib.Omega.{arith}
 use lib.Dec.{leb, lit<}
 use lib.ListN.{getD, take, drop, replicate}
@@ -13,10 +14,12 @@ use Rattle.lists.specs.Sums.{sum}
 use Rattle.lists.specs.Ranges.{leastOver, firstOver}
 use Rattle.lists.specs.Lists.{tabulate, rows, keep, sameList}
 use Rattle.lists.specs.Bytes.{littleEndian, bytesOf}
+use Rattle.lists.specs.Members.{Each}
+use Rattle.lists.specs.FirstPlace.{occurs, firstPlace, changeFirst}
 use Rattle.model.specs.Instance.{Instance, instanceOf, headLength, loadPlace, tableSize, tableOf, cardLength, loadsInRange}
 use Rattle.model.specs.MoreLight.{leastFrom, activeStep}
 use Rattle.model.specs.Counts.{canServe, operatingCost, allCounts, powerOfTwo, coarseCounts}
-use Rattle.model.specs.CountRules.{strictlyAscends, gapsGrowBy, keepsRules}
+use Rattle.model.specs.CountRules.{strictlyAscends, gapsGrowBy, endsAt, ratioInRange, keepsRules}
 use Rattle.model.specs.Sheets.{off, stateAt, sheetLength, sheetEntries, lightAt, sheetLight, serves, stepCost, changeCost}
 use Rattle.model.specs.Sheets.{sheetOperatingCost, sheetSwitchingCost, sheetCost, activeAt, countsOf}
 use Rattle.model.specs.Thesis.{countAt, slotCost, countsCost}
@@ -31,14 +34,17 @@ use Rattle.theory.specs.Counterexamples.{exampleE, steadySheet, steady-s
 use Rattle.model.specs.Planners.{exact, listed, allowedCounts, plannedCost}
 use Rattle.model.specs.Explanation.{countsOperatingCost, countsSwitchingCost, excessOperatingCost, excessSwitchingCost, excessOfCounts}
 use Rattle.model.specs.Explanation.{NoBetterSpread, NoBetterChoice}
-use Rattle.model.specs.Acts.{readLowest}
-use Rattle.model.specs.SittingState.{phaseOf}
-use Rattle.model.specs.Sittings.{replyOf, toldInTurn, leftBy, StartsAfresh, from-unopened, LentCard, EachAct, toldFrom}
+use Rattle.model.specs.Acts.{readLowest, isUnopened, isOpened, isClosed, submissionRefused, actSpec}
+use Rattle.model.specs.declared.Reply.{Reply}
+use Rattle.model.specs.SittingState.{lowerOf, phaseOf, lowestOf, sittingAfter, seatsAfter}
+use Rattle.model.specs.Sittings.{answerTo, markedWith, eventWith, eventOf, told, toldBy, replyWith, replyOf, seatsAtExit}
+use Rattle.model.specs.Sittings.{toldInTurn, leftBy, StartsAfresh, from-unopened, LentCard, toldFrom}
 use Rattle.model.specs.Catalogue.{catalogueEntry, catalogueBytes}
-use Rattle.model.specs.Calls.{catalogueTable, specOf, firstOf, answerOf, answer, anyShort, atExit}
+use Rattle.model.specs.Specs.{firstOf, anyShort, atExit}
+use Rattle.model.specs.Calls.{catalogueTable, specOf, answer}
 use Rattle.model.specs.Calls.{buffersAtExit, tableAtExit}
 use Rattle.model.specs.Promises.{OthersInOrder}
-use Rattle.model.specs.Examples.{cardA}
+use Rattle.model.specs.Examples.{cardA, agrees}
 use Rattle.model.specs.SittingExamples.{sittingOf, odd, wholeSitting}
 use Rattle.theory.specs.SittingRuns.{any-sequence}
 use Rattle.theory.specs.SittingBounds.{lowest-at-least}
@@ -70,7 +76,7 @@ abbrev wideCounts : List ℕ
 wideCounts = 0 ∷ 2 ∷ 6 ∷ 8 ∷ []
 
 wide-rules : InRules wideCounts 2 (exampleE .modules)
-unfolding every strictlyAscends gapsGrowBy keepsRules
+unfolding every strictlyAscends gapsGrowBy endsAt ratioInRange keepsRules
 wide-rules = rules-hold wideCounts 2 (exampleE .modules) refl .0
 
 -- The moved sheet costs 10 and its counts 7, and the least cost over the wide counts is 6.
@@ -117,7 +123,7 @@ list-ratio-applied = list-ratio example-plannable wideCounts 2 wide-rules steady
 
 -- The plan limited to the list 0 2 4 8 with the ratio 2 costs at most twice as much too: 8 ≤ 10.
 pub planner-bound-applied : plannedCost (listed (0 ∷ 2 ∷ 4 ∷ 8 ∷ []) 2) exampleE ≤ 2 * sheetCost exampleE steadySheet
-unfolding every strictlyAscends gapsGrowBy keepsRules
+unfolding every strictlyAscends gapsGrowBy endsAt ratioInRange keepsRules
 planner-bound-applied = planner-bound (listed (0 ∷ 2 ∷ 4 ∷ 8 ∷ []) 2) example-plannable refl steadySheet steady-serves
 
 -- The coarse plan costs at most twice as much as the steady sheet: 8 ≤ 10.
@@ -168,19 +174,28 @@ whole-starts : StartsAfresh (sittingOf 0 0 0 0) (odd ∷ odd ∷ []) wholeSittin
 unfolding phaseOf
 whole-starts = from-unopened wholeSitting refl
 
-whole-lent : EachAct (LentCard cardA) wholeSitting
-unfolding EachAct LentCard
-whole-lent = (tt, (refl, (tt, (tt, (tt, (tt, (tt, (tt, (refl, (refl, (refl, (tt, (tt, (tt, (refl, (refl, (refl, (tt, (tt, (tt, (tt, (tt, (refl, (tt, (tt, (tt, (refl, (tt, (tt, (refl, (tt, tt)))))))))))))))))))))))))))))))
+whole-lent : Each (LentCard cardA) wholeSitting
+unfolding actSpec
+whole-lent = (tt, ((refl, tt), (tt, (tt, (tt, (tt, (tt, (tt, ((refl, tt), ((refl, tt), ((refl, tt), (tt, (tt, (tt, ((refl, tt), ((refl, tt), ((refl, tt), (tt, (tt, (tt, (tt, (tt, ((refl, tt), (tt, (tt, (tt, ((refl, tt), (tt, (tt, ((refl, tt), (tt, tt)))))))))))))))))))))))))))))))
 
 -- So the theorems on sequences speak of it.
 pub sequence-applied : toldInTurn (sittingOf 0 0 0 0) (odd ∷ odd ∷ []) wholeSitting ≡ toldFrom 2 [] wholeSitting
 sequence-applied = any-sequence whole-starts
 
-pub lowest-applied :
+-- What the supervisor reads of candidate 7 after it.
+abbrev lowestOfSeven : Reply
+lowestOfSeven =
     let left = leftBy (sittingOf 0 0 0 0) (odd ∷ odd ∷ []) wholeSitting in
-    let reply = replyOf (left .0) (left .1) (readLowest 0 5) in
-    reply .marked ≡ 1 → plannedCost exact (instanceOf cardA) ≤ reply .cost
-lowest-applied = lowest-at-least cardA whole-starts whole-lent 0 5
+    replyOf (left .0) (left .1) (readLowest 0 7)
+
+-- The candidate's sheet of 37 points is told as the lowest, and the least cost is not above it: 32 ≤ 37.
+lowest-told : (lowestOfSeven .marked ≡ 1) × (lowestOfSeven .cost ≡ 37)
+unfolding agrees occurs firstPlace changeFirst isUnopened isOpened isClosed submissionRefused eventWith eventOf lowerOf phaseOf lowestOf
+    sittingAfter seatsAfter actSpec answerTo markedWith told toldBy replyWith replyOf seatsAtExit Option·elim leftBy
+lowest-told = (refl, refl)
+
+pub lowest-applied : plannedCost exact (instanceOf cardA) ≤ lowestOfSeven .cost
+lowest-applied = lowest-at-least cardA whole-starts whole-lent 0 7 (lowest-told .0)
 
 -- Card A with the catalogue module's table: what the catalogue call wrote for top step 2 stands where its table stands.
 abbrev catalogueA : List ℕ
@@ -190,6 +205,6 @@ catalogueA = take headLength cardA ++ (catalogueBytes 2 ++ drop (loadPlace 2 0) 
 pub catalogue-applied :
     (instanceOf catalogueA .topStep ≡ 2) ×
     (tableOf catalogueA ≡ take (tableSize 2) (tableAtExit (catalogueTable 2 (replicate 12 7)))) × OthersInOrder catalogueA
-unfolding every rows sameList littleEndian bytesOf instanceOf catalogueEntry catalogueBytes specOf firstOf answerOf answer anyShort atExit
+unfolding every rows sameList littleEndian bytesOf instanceOf catalogueEntry catalogueBytes specOf firstOf answer anyShort atExit
     buffersAtExit tableAtExit cardLength loadsInRange
 catalogue-applied = (refl, refl, record { others = refl; power-up = omega arith; power-down = omega arith })

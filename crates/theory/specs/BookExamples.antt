@@ -9,13 +9,14 @@ use Rattle.lists.specs.Sums.{sum}
 use Rattle.lists.specs.Ranges.{leastOver, firstOver}
 use Rattle.lists.specs.Lists.{tabulate, equal-tabulate, rows, keep}
 use Rattle.lists.specs.Bytes.{littleEndian, bytesOf}
-use Rattle.model.specs.Instance.{Instance, instanceOf, cardBytes, inOrder, convexAt, convex, tableInRange, pricesInRange, loadsInRange}
+use Rattle.model.specs.Instance.{Instance, instanceOf, cardBytes, convexAt, convex, tableInRange, pricesInRange, loadsInRange}
 use Rattle.model.specs.MoreLight.{leastFrom, activeStep}
 use Rattle.model.specs.Counts.{canServe, allCounts, powerOfTwo, coarseCounts}
 use Rattle.model.specs.Sheets.{stateAt, sheetLength, sheetEntries, lightAt, sheetLight, serves, stepCost, changeCost}
 use Rattle.model.specs.Sheets.{sheetOperatingCost, sheetSwitchingCost, sheetCost}
 use Rattle.model.specs.Plans.{moduleByte, slotRow, sheetOf, planCost, planServes, plansInOrder, cheapest, cheapestOf, leastPlan}
 use Rattle.model.specs.Planners.{Planner, exact, coarse, allowedCounts, plannedBy, plannedCost}
+use Rattle.model.specs.Specs.{ShowInOrder, firstOf}
 use Rattle.model.specs.Calls.{Accepted}
 use Rattle.model.specs.Promises.{KeepsRules}
 use Rattle.model.specs.RelatedShows.{Agree, loadsOf, Reversed, LargerRack, Concatenated, PlannedAt, PlannedAs}
@@ -60,7 +61,7 @@ module _ (f : Rates) where
 
   -- What is computed of a show in order gives what a planner gives its card.
   given :
-      (k : Planner) (m : ℕ) (l : List ℕ) {x : ℕ} {p : List ℕ} → inOrder (show m l) ≡ true → KeepsRules k (instanceOf (card f m l)) →
+      (k : Planner) (m : ℕ) (l : List ℕ) {x : ℕ} {p : List ℕ} → ShowInOrder (show m l) → KeepsRules k (instanceOf (card f m l)) →
       plannedCost k (instanceOf (card f m l)) ≡ x → plannedBy k (instanceOf (card f m l)) ≡ p → Given k (card f m l) x p
   given k m l order keeps cost plan =
       let c = card f m l in
@@ -68,23 +69,23 @@ module _ (f : Rates) where
       record { accepted = accepted; cost = rw cost at (planned-at k c accepted keeps); plan = rw plan at (planned-as k c accepted keeps) }
 
   -- What is read from the card of a show in order is the show.
-  written : (m : ℕ) (l : List ℕ) → inOrder (show m l) ≡ true → SameShow (show m l) (instanceOf (card f m l))
+  written : (m : ℕ) (l : List ℕ) → ShowInOrder (show m l) → SameShow (show m l) (instanceOf (card f m l))
   written m l order = card-bytes-show (show m l) (in-order-fits (show m l) order)
 
-  loads : (m : ℕ) (l : List ℕ) → inOrder (show m l) ≡ true → loadsOf (instanceOf (card f m l)) ≡ l
+  loads : (m : ℕ) (l : List ℕ) → ShowInOrder (show m l) → loadsOf (instanceOf (card f m l)) ≡ l
   unfolding loadsOf
   loads m l order = same-loads (written m l order) ∙ sym (equal-tabulate refl (λ k h. refl))
 
   -- Cards with the same rates agree.
   agree :
-      (m n : ℕ) (l r : List ℕ) → inOrder (show m l) ≡ true → inOrder (show n r) ≡ true →
+      (m n : ℕ) (l r : List ℕ) → ShowInOrder (show m l) → ShowInOrder (show n r) →
       Agree (instanceOf (card f m l)) (instanceOf (card f n r))
   agree m n l r e e′ =
       let same : Agree (show m l) (show n r) = record { topStep = refl; powerUp = refl; powerDown = refl; table = λ k h. refl } in
       agree-on (agree-back (written m l e .agree)) (agree-on same (written n r e′ .agree))
 
   reversed-cards :
-      (m : ℕ) (l : List ℕ) → inOrder (show m l) ≡ true → inOrder (show m (reverse l)) ≡ true →
+      (m : ℕ) (l : List ℕ) → ShowInOrder (show m l) → ShowInOrder (show m (reverse l)) →
       Reversed (instanceOf (card f m l)) (instanceOf (card f m (reverse l)))
   reversed-cards m l e e′ =
       record {
@@ -94,7 +95,7 @@ module _ (f : Rates) where
       }
 
   larger-cards :
-      (m n : ℕ) (l : List ℕ) → m ≤ n → inOrder (show m l) ≡ true → inOrder (show n l) ≡ true →
+      (m n : ℕ) (l : List ℕ) → m ≤ n → ShowInOrder (show m l) → ShowInOrder (show n l) →
       LargerRack (instanceOf (card f m l)) (instanceOf (card f n l))
   larger-cards m n l more e e′ =
       record {
@@ -104,7 +105,7 @@ module _ (f : Rates) where
       }
 
   concatenated-cards :
-      (m : ℕ) (l r : List ℕ) → inOrder (show m l) ≡ true → inOrder (show m r) ≡ true → inOrder (show m (l ++ r)) ≡ true →
+      (m : ℕ) (l r : List ℕ) → ShowInOrder (show m l) → ShowInOrder (show m r) → ShowInOrder (show m (l ++ r)) →
       Concatenated (instanceOf (card f m l)) (instanceOf (card f m r)) (instanceOf (card f m (l ++ r)))
   concatenated-cards m l r e e′ e″ =
       record {
@@ -156,9 +157,9 @@ pub record Book : Type 0 where
 
 pub book-examples : Book
 unfolding every sum tabulate rows keep flatMap littleEndian bytesOf instanceOf cardBytes convexAt convex tableInRange pricesInRange
-    loadsInRange inOrder canServe allCounts powerOfTwo coarseCounts stateAt sheetLength sheetEntries lightAt sheetLight serves stepCost
+    loadsInRange canServe allCounts powerOfTwo coarseCounts stateAt sheetLength sheetEntries lightAt sheetLight serves stepCost
     changeCost sheetOperatingCost sheetSwitchingCost sheetCost moduleByte slotRow sheetOf planCost planServes plansInOrder cheapest
-    cheapestOf leastPlan leastOver firstOver leastFrom activeStep allowedCounts plannedBy
+    cheapestOf leastPlan leastOver firstOver leastFrom activeStep allowedCounts plannedBy firstOf
 book-examples =
     record {
       reversed = (

@@ -14,7 +14,7 @@ use Rattle.model.specs.Plans.{Allowed, LeastPlan, sheetOf, planCost, leastPlan,
 use Rattle.model.specs.Planners.{Planner, ratioOf, plannedBy, plannedCost}
 use Rattle.model.specs.Calls.{Accepted}
 use Rattle.model.specs.Promises.{KeepsRules}
-use Rattle.laws.specs.Acceptance.{modules-range, top-range, load-range, table-convex}
+use Rattle.laws.specs.Acceptance.{accepted-bounds}
 use Rattle.laws.specs.CountMembers.{all-member}
 use Rattle.thresholds.specs.Places.{lastPlace, Ascending, count-fits}
 use Rattle.thresholds.specs.Thresholds.{thresholdPlan}
@@ -26,7 +26,7 @@ use Rattle.theory.specs.Least.{searched-least, searched-cost}
 use Rattle.theory.specs.ThresholdPlans.{threshold-searched}
 use Rattle.theory.specs.Enumeration.{least-plan, least-plan-unique}
 use Rattle.theory.specs.Ratio.{ratio}
-use Rattle.theory.specs.CountLists.{InRules, rules-grow, ratio-some, all-rules, coarse-rules, planner-rules}
+use Rattle.theory.specs.CountLists.{InRules, rules-grow, all-rules, coarse-rules, planner-rules}
 
 module _ {i : Instance} (ready : Plannable i) where
   -- Plans over any list of allowed counts.
@@ -112,7 +112,7 @@ module _ {i : Instance} (ready : Plannable i) where
   list-ratio counts r rules s e =
       let asc = rules .ascending in
       let fit = sheet-counts-fit i s (ready .steps) e in
-      let bound = ratio i counts 0 asc (ready .loads) r (ratio-some rules) (rules-grow rules) (countsOf i s) (fit .in-rack) (fit .served) in
+      let bound = ratio i counts 0 asc (ready .loads) r (rules-grow rules) (countsOf i s) (fit .in-rack) (fit .served) in
       omega (arith, searched-plan counts asc .1, mul-le-mul-left r (sheet-at-least i (ready .convex) s e))
 
   -- Condition 3, exact: no sheet that serves costs less than the least plan over all counts (thesis 3.8), whose ratio is 1.
@@ -133,8 +133,8 @@ planner-bound k {i} ready keeps = list-ratio ready _ (ratioOf k) (planner-rules 
 pub accepted-plannable : (c : List ℕ) → Accepted c → Plannable (instanceOf c)
 accepted-plannable c e =
     record {
-      some = modules-range c e .0;
-      steps = omega (arith, top-range c e .1);
-      loads = load-range c e;
-      convex = convex-test _ _ .0 (table-convex c e);
+      some = accepted-bounds c e .modules .0;
+      steps = omega (arith, accepted-bounds c e .topStep .1);
+      loads = accepted-bounds c e .load;
+      convex = convex-test _ _ .0 (accepted-bounds c e .convexity);
     }

@@ -17,13 +17,13 @@ use Rattle.lists.specs.Lists.{length-tabulate, getD-tabulate}
 use Rattle.lists.specs.Members.{InOrder, in-order-at, in-order-le}
 use Rattle.model.specs.Instance.{Instance}
 use Rattle.model.specs.Counts.{allCounts, coarseCounts}
-use Rattle.model.specs.CountRules.{gapAfter, strictlyAscends, gapsGrowBy, keepsRules}
+use Rattle.model.specs.CountRules.{gapAfter, strictlyAscends, gapsGrowBy, endsAt, ratioInRange, keepsRules}
 use Rattle.model.specs.Plans.{Member}
 use Rattle.model.specs.Planners.{Planner, exact, coarse, listed, allowedCounts, ratioOf}
 use Rattle.model.specs.Promises.{KeepsRules}
 use Rattle.laws.specs.CountMembers.{all-member, coarse-member, all-in-order, coarse-in-order}
 use Rattle.laws.specs.RoundedCounts.{next-power}
-use Rattle.thresholds.specs.Places.{countAtPlace, lastPlace, Ascending, GrowsBy}
+use Rattle.thresholds.specs.Places.{countAtPlace, lastPlace, Ascending, GrowsBy, ratio-some}
 
 -- The rules of 02 §8 for a list of allowed counts and a ratio r in a rack of m as propositions, without the bounds 201 and 200.
 pub record InRules (counts : List ℕ) (r m : ℕ) : Type 0 where
@@ -42,14 +42,9 @@ rules-grow {counts} {r} rules (suc j) h =
     omega (arith, rules-grow rules j (omega arith), rules .gaps j (omega arith), ap (λ (n : ℕ). r * n) rise) in
     rw (add-one j) at next
 
--- The ratio is at least 1, since the first entry after 0 is at most that.
-pub ratio-some : {counts : List ℕ} {r m : ℕ} → InRules counts r m → 1 ≤ r
-ratio-some rules =
-    let asc = rules .ascending in omega (arith, asc .rises 0 (omega (arith, asc .two)), asc .first, rules .first)
-
 -- A list and a ratio that keep the rules by the test keep them.
 pub rules-hold : (l : List ℕ) (r m : ℕ) → keepsRules l r m ≡ true → InRules l r m × (length l ≤ 201) × (r ≤ 200)
-unfolding keepsRules strictlyAscends gapsGrowBy
+unfolding keepsRules endsAt ratioInRange strictlyAscends gapsGrowBy
 rules-hold l r m e =
     let rises : strictlyAscends l ≡ true = search (and-left, and-right) in
     let grow : gapsGrowBy r l ≡ true = search (and-left, and-right) in
@@ -71,7 +66,7 @@ rules-hold l r m e =
 
 -- A list and a ratio that keep the rules keep them by the test, within the bounds 201 and 200.
 pub rules-kept : {l : List ℕ} {r m : ℕ} → InRules l r m → length l ≤ 201 → r ≤ 200 → keepsRules l r m ≡ true
-unfolding keepsRules strictlyAscends gapsGrowBy
+unfolding keepsRules endsAt ratioInRange strictlyAscends gapsGrowBy
 rules-kept {l} {r} {m} rules short most =
     let asc = rules .ascending in
     rw (
@@ -80,7 +75,7 @@ rules-kept {l} {r} {m} rules short most =
       eq-eqb _ _ (asc .first),
       eq-eqb _ _ (asc .last),
       every-all (length l - 1) (λ j. ltb (getD l j 0) (getD l (j + 1) 0)) (λ j h. lt-ltb _ _ (asc .rises j (omega arith))),
-      le-leb _ _ (ratio-some rules),
+      le-leb _ _ (ratio-some asc (rules-grow rules)),
       le-leb _ _ most,
       le-leb _ _ (rules .first),
     )

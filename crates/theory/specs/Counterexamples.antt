@@ -16,7 +16,7 @@ use Rattle.model.specs.Instance.{Instance, instanceOf, topStepPlace, headLength
 use Rattle.model.specs.MoreLight.{leastFrom, activeStep}
 use Rattle.model.specs.Counts.{canServe, operatingCost, allCounts, powerOfTwo, coarseCounts, roundedCount}
 use Rattle.model.specs.Counts.{printedCases, caseValue, roundedByCases}
-use Rattle.model.specs.CountRules.{gapAfter, strictlyAscends, gapsGrowBy, keepsRules}
+use Rattle.model.specs.CountRules.{gapAfter, strictlyAscends, gapsGrowBy, endsAt, ratioInRange, keepsRules}
 use Rattle.model.specs.Sheets.{off, stateAt, sheetLength, sheetEntries, lightAt, sheetLight, serves, stepCost, changeCost}
 use Rattle.model.specs.Sheets.{sheetOperatingCost, sheetSwitchingCost, sheetCost, activeAt, countsOf}
 use Rattle.model.specs.Thesis.{countAt, slotCost, countsCost}
@@ -213,7 +213,7 @@ first-above-ratio = (wider-gaps .0, wider-gaps .1, λ j h. absurd (omega arith),
 
 -- So it may over a list with a gap of more than twice the gap before it, with all other rules kept: here 8 against 2.
 pub gap-above-ratio : Plannable (level 8 0 2) × Ascending wideGap 8 × (countAtPlace wideGap 1 ≤ 2) × BoundFails (level 8 0 2) wideGap 2
-unfolding every strictlyAscends gapsGrowBy keepsRules
+unfolding every strictlyAscends gapsGrowBy endsAt ratioInRange keepsRules
 gap-above-ratio = (
   level-plannable 8 0 2 (omega arith) (omega arith),
   rules-hold wideGap 7 8 refl .0 .ascending,
@@ -223,7 +223,7 @@ gap-above-ratio = (
 
 -- Over a list that keeps all rules the least plan may cost exactly the ratio times as much as a sheet that serves: here 2 against 1.
 pub ratio-attained : Plannable (level 2 0 1) × InRules (noneOrAll 2) 2 2 × BoundAttained (level 2 0 1) (noneOrAll 2) 2
-unfolding every strictlyAscends gapsGrowBy keepsRules
+unfolding every strictlyAscends gapsGrowBy endsAt ratioInRange keepsRules
 ratio-attained = (level-plannable 2 0 1 (omega arith) (omega arith), rules-hold (noneOrAll 2) 2 2 refl .0, bounds-computed .2)
 
 -- More modules may cost more in total, though their average falls: here 2 against 1.

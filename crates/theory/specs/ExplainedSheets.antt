@@ -18,13 +18,14 @@ use Rattle.model.specs.Sheets.{serves}
 use Rattle.model.specs.Plans.{sheetOf}
 use Rattle.model.specs.Planners.{Planner, exact, workBytes, plannedBy}
 use Rattle.model.specs.Explanation.{excessOperatingCost, excessSwitchingCost, excessOfCounts}
-use Rattle.model.specs.Calls.{checkCard, planShow, markSheet, explainSheet, sheetTests, specOf, firstOf, answerOf}
-use Rattle.model.specs.Calls.{answer, Accepted, workBuffer, anyShort, atExit, buffersAtExit}
-use Rattle.model.specs.Calls.{makeSheet, sheetBytes, sheetAtExit, planAtExit}
+use Rattle.model.specs.Specs.{sheetTests, firstOf, workBuffer, anyShort, atExit, sheetBytes}
+use Rattle.model.specs.Calls.{checkCard, planShow, markSheet, explainSheet, specOf}
+use Rattle.model.specs.Calls.{answer, Accepted, buffersAtExit}
+use Rattle.model.specs.Calls.{makeSheet, sheetAtExit, planAtExit}
 use Rattle.model.specs.ExplainedPoints.{explainedWork, pointsWith, pointsOf}
 use Rattle.model.specs.Promises.{madeSheet, ExplainsMarked, NoneNegative, AboveLeast, ZeroExactly}
 use Rattle.laws.specs.AnswerNumber.{number-zero}
-use Rattle.laws.specs.FirstRefusal.{first-passed, first-refused, first-through}
+use Rattle.laws.specs.FirstRefusal.{none-applies, first-refused, first-through}
 use Rattle.laws.specs.OnCard.{on-card-refused, on-card-passed, on-card-cost}
 use Rattle.theory.specs.Hypotheses.{Plannable, PlanFits}
 use Rattle.theory.specs.SheetLaws.{plan-sheet-serves}
@@ -45,35 +46,35 @@ module _ (c s w : List ℕ) where
 
   -- Where the card is refused, so is the explanation, with the same number.
   pub explain-refused : {x : Refusal} → answer (checkCard c) ≡ Refused x → answer (explainSheet c s w) ≡ Refused x
-  unfolding answer answerOf specOf
+  unfolding answer specOf
   explain-refused = on-card-refused c _ _
 
   pub explain-short : Accepted c → length w < workBytes exact (instanceOf c) → answer (explainSheet c s w) ≡ Refused BufferTooShort
-  unfolding answer answerOf specOf firstOf anyShort
+  unfolding answer specOf firstOf anyShort
   explain-short given less = on-card-passed c _ _ given ∙ rw (lt-ltb _ _ less)
 
   -- An explanation that answers a cost is on an accepted card, and its work buffer has at least the bytes asked for.
   explained-room : {n : ℕ} → answer (explainSheet c s w) ≡ Cost n → Accepted c × (workBytes exact (instanceOf c) ≤ length w)
-  unfolding answer answerOf specOf anyShort
-  explained-room e = let (given, own) = on-card-cost c _ _ e in (given, ltb-false _ _ (or-left _ _ (first-passed _ _ _ own .0)))
+  unfolding answer specOf anyShort
+  explained-room e = let (given, own) = on-card-cost c _ _ e in (given, ltb-false _ _ (or-left _ _ (none-applies _ _ own .0)))
 
   module _ (given : Accepted c) (room : workBytes exact (instanceOf c) ≤ length w) where
     -- On an accepted card, with a work buffer that is long enough, marking's refusals decide.
     as-marking : answer (explainSheet c s w) ≡ firstOf (sheetTests (instanceOf c) s) (Cost 0)
-    unfolding answer answerOf specOf firstOf anyShort
+    unfolding answer specOf firstOf anyShort
     as-marking = on-card-passed c _ _ given ∙ rw (le-ltb _ _ room)
 
     pub explain-unmarked : {x : Refusal} → answer (markSheet c s) ≡ Refused x → answer (explainSheet c s w) ≡ Refused x
-    unfolding answer answerOf specOf
+    unfolding answer specOf
     explain-unmarked e = as-marking ∙ first-refused (sheetTests (instanceOf c) s) _ refl (sym (on-card-passed c _ _ given) ∙ e)
 
     pub explain-marked : {n : ℕ} → answer (markSheet c s) ≡ Cost n → answer (explainSheet c s w) ≡ Cost 0
-    unfolding answer answerOf specOf
+    unfolding answer specOf
     explain-marked e = as-marking ∙ first-through (sheetTests (instanceOf c) s) _ _ (sym (on-card-passed c _ _ given) ∙ e)
 
     -- An explanation that answers a cost is of a sheet that marking accepts.
     explained-marked : {n : ℕ} → answer (explainSheet c s w) ≡ Cost n → numberOf (answer (markSheet c s)) ≡ 0
-    unfolding answer answerOf specOf
+    unfolding answer specOf
     explained-marked e = ap numberOf (on-card-passed c _ _ given ∙ first-through (sheetTests (instanceOf c) s) _ _ (sym as-marking ∙ e))
 
 -- The number of an explanation is that of its answer.

@@ -17,7 +17,7 @@ use Rattle.model.specs.Planners.{Planner, exact, coarse, listed, allowedCounts,
 use Rattle.model.specs.Calls.{Accepted}
 use Rattle.model.specs.Promises.{KeepsRules, CountsWithin}
 use Rattle.model.specs.RelatedShows.{PlannedAt, PlannedAs}
-use Rattle.laws.specs.Acceptance.{modules-range}
+use Rattle.laws.specs.Acceptance.{accepted-bounds}
 use Rattle.thresholds.specs.Places.{countAtPlace, lastPlace, length-fits}
 use Rattle.theory.specs.CountLists.{InRules, rules-grow, rules-hold, rules-kept, planner-rules}
 use Rattle.theory.specs.SheetLaws.{sheet-counts-fit}
@@ -48,7 +48,7 @@ SamePlan k l c = (x : ℕ) × (p : List ℕ) × PlannedAt k c x × PlannedAs k c
 listed-same : (k : Planner) (c : List ℕ) → Accepted c → KeepsRules k (instanceOf c) → SamePlan k (asListed k (instanceOf c)) c
 unfolding allowedCounts plannedBy
 listed-same k c given keeps =
-    let (some, most) = modules-range c given in
+    let (some, most) = accepted-bounds c given .modules in
     let l = asListed k (instanceOf c) in
     let own = listed-keeps k (instanceOf c) some most keeps in
     (_, _, planned-at k c given keeps, planned-as k c given keeps, planned-at l c given own, planned-as l c given own)

@@ -17,7 +17,8 @@ use Rattle.model.specs.declared.Answer.the-variants.{Cost, Refused}
 use Rattle.model.specs.Instance.{instanceOf, cardLength, rackNumber}
 use Rattle.model.specs.Instance.{headLength, versionPlace, modulesPlace, topStepPlace, slotsPlace, loadPlace}
 use Rattle.model.specs.Planners.{exact}
-use Rattle.model.specs.Calls.{Test, _when_, cardTests, specOf, firstOf, answerOf, answer}
+use Rattle.model.specs.Specs.{Test, _when_, cardTests, firstOf}
+use Rattle.model.specs.Calls.{specOf, answer}
 use Rattle.model.specs.Listing.{printed, printedFor}
 use Rattle.laws.specs.FirstRefusal.{first-hit, first-skip}
 use Rattle.theory.specs.Outcomes.{planner-refused}
@@ -97,7 +98,7 @@ module _ (x : List ℕ) (long : bytesRead ≤ length x) where
 
 -- What follows the first 2,870 bytes is without effect on what the program prints.
 pub long-printed : (x : List ℕ) → bytesRead ≤ length x → printed x ≡ printed (take bytesRead x)
-unfolding printed printedFor answer answerOf specOf
+unfolding printed printedFor answer specOf
 long-printed x long =
     let r = long-refused x long in
     let whole = planner-refused exact x (replicate 1024 0) (replicate 65536 0) (r .one) in

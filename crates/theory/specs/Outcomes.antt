@@ -18,13 +18,13 @@ use Rattle.model.specs.Instance.{Instance, instanceOf}
 use Rattle.model.specs.Sheets.{serves, sheetCost}
 use Rattle.model.specs.Plans.{sheetOf, planCost, planInRack}
 use Rattle.model.specs.Planners.{Planner, exact, coarse, listed, workBytes, keepsList, plannedBy, plannedCost}
-use Rattle.model.specs.Calls.{Test, _when_, checkCard, planShow, makeSheet, markSheet, listTests, specOf}
-use Rattle.model.specs.Calls.{Buffer, planBuffer, workBuffer, sheetBuffer, sheetBytes, buffersOf, anyShort}
-use Rattle.model.specs.Calls.{firstOf, answerOf, answer, Accepted}
-use Rattle.model.specs.Calls.{atExit, buffersAtExit, planAtExit, workAtExit, sheetAtExit}
+use Rattle.model.specs.Specs.{Test, _when_, listTests, Buffer, planBuffer, workBuffer, sheetBuffer, sheetBytes, anyShort, firstOf, atExit}
+use Rattle.model.specs.Calls.{checkCard, planShow, makeSheet, markSheet, specOf}
+use Rattle.model.specs.Calls.{answer, Accepted}
+use Rattle.model.specs.Calls.{buffersAtExit, planAtExit, workAtExit, sheetAtExit}
 use Rattle.model.specs.Promises.{KeepsRules}
 use Rattle.laws.specs.AnswerNumber.{number-zero}
-use Rattle.laws.specs.FirstRefusal.{first-passed}
+use Rattle.laws.specs.FirstRefusal.{none-applies}
 use Rattle.laws.specs.OnCard.{on-card-refused, on-card-passed, on-card-accepted, on-card-cost}
 use Rattle.theory.specs.Hypotheses.{PlanFits}
 use Rattle.theory.specs.SheetLaws.{serves-parts, sheet-length, plan-sheet-serves}
@@ -41,17 +41,15 @@ written-taken b k e size = rw e (take-at (b .writes) _ k size)
 module _ (c s : List ℕ) where
   -- Marking that answers a cost is of a sheet that serves, on an accepted card.
   marked-serves : {n : ℕ} → answer (markSheet c s) ≡ Cost n → Accepted c × (serves (instanceOf c) s ≡ true)
-  unfolding answer answerOf specOf
+  unfolding answer specOf
   marked-serves e =
       let (given, own) = on-card-cost c _ _ e in
-      let size = first-passed _ _ _ own in
-      let entries = first-passed _ _ _ (size .1) in
-      let light = first-passed _ _ _ (entries .1) in
-      (given, serves-parts (instanceOf c) s .1 (not-false _ (size .0), not-false _ (entries .0), not-false _ (light .0)))
+      let (size, (entries, (light, none))) = none-applies _ _ own in
+      (given, serves-parts (instanceOf c) s .1 (not-false _ size, not-false _ entries, not-false _ light))
 
   -- A sheet that serves is marked with its cost on an accepted card.
   serves-marked : Accepted c → serves (instanceOf c) s ≡ true → answer (markSheet c s) ≡ Cost (sheetCost (instanceOf c) s)
-  unfolding answer answerOf specOf firstOf
+  unfolding answer specOf firstOf
   serves-marked given e =
       let (size, entries, light) = serves-parts (instanceOf c) s .0 e in on-card-passed c _ _ given ∙ rw (size, entries, light)
 
@@ -72,34 +70,32 @@ module _ (c p s : List ℕ) where
 
   -- A sheet call that answers a cost is on an accepted card.
   pub made-on : {n : ℕ} → answer (makeSheet c p s) ≡ Cost n → Accepted c
-  unfolding answer answerOf specOf
+  unfolding answer specOf
   made-on = on-card-accepted c _ _
 
   -- Where the sheet call answers a cost, its buffer has at least the bytes asked for.
   pub made-room : {n : ℕ} → answer (makeSheet c p s) ≡ Cost n → sheetBytes (instanceOf c) ≤ length s
-  unfolding answer answerOf specOf anyShort
-  made-room e = ltb-false _ _ (or-left _ _ (first-passed _ _ _ (on-card-cost c _ _ e .1) .0))
+  unfolding answer specOf anyShort
+  made-room e = ltb-false _ _ (or-left _ _ (none-applies _ _ (on-card-cost c _ _ e .1) .0))
 
   -- Where the sheet call answers a cost, the plan has a sheet that can be written.
   pub made-fits : {n : ℕ} → answer (makeSheet c p s) ≡ Cost n → PlanFits (instanceOf c) p
-  unfolding answer answerOf specOf planInRack
+  unfolding answer specOf planInRack
   made-fits e =
       let (given, own) = on-card-cost c _ _ e in
-      let size = first-passed _ _ _ (first-passed _ _ _ own .1) in
-      let entries = first-passed _ _ _ (size .1) in
-      let light = first-passed _ _ _ (entries .1) in
+      let (room, (size, (entries, (light, none)))) = none-applies _ _ own in
       record {
         steps = accepted-plannable c given .steps;
-        slotwise = eqb-true _ _ (not-false _ (size .0));
-        in-rack = λ t h. leb-true _ _ (every-at (instanceOf c .slots) _ (not-false _ (entries .0)) t h);
-        served = not-false _ (light .0);
+        slotwise = eqb-true _ _ (not-false _ size);
+        in-rack = λ t h. leb-true _ _ (every-at (instanceOf c .slots) _ (not-false _ entries) t h);
+        served = not-false _ light;
       }
 
   -- Where the plan has a sheet that can be written and the buffer is long enough, the sheet call answers the plan's cost.
   fits-made :
       Accepted c → PlanFits (instanceOf c) p → sheetBytes (instanceOf c) ≤ length s →
       answer (makeSheet c p s) ≡ Cost (planCost (instanceOf c) p)
-  unfolding answer answerOf specOf firstOf anyShort planInRack
+  unfolding answer specOf firstOf anyShort planInRack
   fits-made given fit room =
       let i = instanceOf c in
       let rack = every-all (i .slots) (λ t. leb (getD p t 0) (i .modules)) (λ t h. le-leb _ _ (fit .in-rack t h)) in
@@ -166,43 +162,43 @@ module _ (k : Planner) (c p w : List ℕ) where
 
   -- A planner that answers a cost is on an accepted card.
   pub planner-on : {n : ℕ} → answer (planShow k c p w) ≡ Cost n → Accepted c
-  unfolding answer answerOf specOf
+  unfolding answer specOf
   planner-on = on-card-accepted c _ _
 
   -- On a card that is refused a planner is refused too, with the same number.
   pub planner-refused : {x : Refusal} → answer (checkCard c) ≡ Refused x → answer (planShow k c p w) ≡ Refused x
-  unfolding answer answerOf specOf
+  unfolding answer specOf
   planner-refused = on-card-refused c _ _
 
   -- A planner that answers a cost keeps the rules.
   pub planner-keeps : {n : ℕ} → answer (planShow k c p w) ≡ Cost n → KeepsRules k (instanceOf c)
-  unfolding answer answerOf specOf
-  planner-keeps e = not-false _ (first-passed _ _ _ (sym (planner-list k _ _ _) ∙ on-card-cost c _ _ e .1) .0)
+  unfolding answer specOf
+  planner-keeps e = not-false _ (none-applies _ _ (sym (planner-list k _ _ _) ∙ on-card-cost c _ _ e .1) .0)
 
   -- Where a planner answers a cost, its buffers have at least the bytes asked for.
   pub planner-room :
       {n : ℕ} → answer (planShow k c p w) ≡ Cost n → (instanceOf c .slots ≤ length p) × (workBytes k (instanceOf c) ≤ length w)
-  unfolding answer answerOf specOf anyShort
+  unfolding answer specOf anyShort
   planner-room e =
-      let none = first-passed _ _ _ (first-passed _ _ _ (sym (planner-list k _ _ _) ∙ on-card-cost c _ _ e .1) .1) .0 in
-      let first = or-left _ _ none in
-      (ltb-false _ _ first, ltb-false _ _ (or-left _ _ (rw first at none)))
+      let (keeps, (room, none)) = none-applies _ _ (sym (planner-list k _ _ _) ∙ on-card-cost c _ _ e .1) in
+      let first = or-left _ _ room in
+      (ltb-false _ _ first, ltb-false _ _ (or-left _ _ (rw first at room)))
 
   -- On an accepted card a list against the rules is refused by 18, whatever the buffers are.
   pub planner-unlisted :
       Accepted c → keepsList k (instanceOf c) ≡ false → answer (planShow k c p w) ≡ Refused CountList
-  unfolding answer answerOf specOf firstOf
+  unfolding answer specOf firstOf
   planner-unlisted given against = on-card-passed c _ _ given ∙ planner-list k _ _ _ ∙ rw against
 
   -- The answer on an accepted card of a planner that keeps the rules, by the buffers.
   module _ (given : Accepted c) (keeps : KeepsRules k (instanceOf c)) where
-    pub planner-short : anyShort (buffersOf (planShow k c p w)) ≡ true → answer (planShow k c p w) ≡ Refused BufferTooShort
-    unfolding answer answerOf specOf firstOf
+    pub planner-short : anyShort (specOf (planShow k c p w) .buffers) ≡ true → answer (planShow k c p w) ≡ Refused BufferTooShort
+    unfolding answer specOf firstOf
     planner-short short = on-card-passed c _ _ given ∙ planner-list k _ _ _ ∙ rw (keeps, short)
 
     pub planner-cost :
-        anyShort (buffersOf (planShow k c p w)) ≡ false → answer (planShow k c p w) ≡ Cost (plannedCost k (instanceOf c))
-    unfolding answer answerOf specOf firstOf
+        anyShort (specOf (planShow k c p w) .buffers) ≡ false → answer (planShow k c p w) ≡ Cost (plannedCost k (instanceOf c))
+    unfolding answer specOf firstOf
     planner-cost room = on-card-passed c _ _ given ∙ planner-list k _ _ _ ∙ rw (keeps, room)
 
     -- The planner answers its cost wherever the buffers have the bytes asked for.

@@ -16,7 +16,7 @@ use Rattle.model.specs.Instance.{Instance}
 use Rattle.model.specs.Counts.{canServe, operatingCost}
 use Rattle.model.specs.Thesis.{switchingPrice, countAt, slotCost, countsCost}
 use Rattle.model.specs.Plans.{planServes}
-use Rattle.thresholds.specs.Places.{countAtPlace, Ascending, GrowsBy, count-fits}
+use Rattle.thresholds.specs.Places.{countAtPlace, Ascending, GrowsBy, ratio-some, count-fits}
 use Rattle.theory.specs.Columns.{column, searchedCost}
 use Rattle.theory.specs.Hypotheses.{LoadsFit, costOfFirst}
 use Rattle.theory.specs.SlotColumns.{column-best, column-rises, column-slope}
@@ -24,7 +24,7 @@ use Rattle.theory.specs.Average.{average-falls}
 use Rattle.theory.specs.Potential.{Gradual, Block, width, lineAt, LineBelow, line-of-counts, value-below, move}
 
 module _ (i : Instance) (counts : List ℕ) (start : ℕ) (asc : Ascending counts (i .modules)) (loads : LoadsFit i)
-    (r : ℕ) (one : 1 ≤ r) (gaps : GrowsBy r counts) where
+    (r : ℕ) (gaps : GrowsBy r counts) where
   -- The column after t slots.
   abbrev after : ℕ → ℕ → ℕ
   after t = column i counts start t
@@ -74,7 +74,7 @@ module _ (i : Instance) (counts : List ℕ) (start : ℕ) (asc : Ascending count
         (s : Block counts (point x)) (f g : ℕ → ℕ) → ((k : ℕ) → k < length counts → x ≤ countAtPlace counts k → f k ≤ g k) →
         lineAt s f ≤ lineAt s g
     line-le s f g le =
-        let high = mul-le-mul-left (s .under) (le (s .place + 1) (s .inside) (omega (arith, mul-le-mul-right x one))) in
+        let high = mul-le-mul-left (s .under) (le (s .place + 1) (s .inside) (omega (arith, mul-le-mul-right x (ratio-some asc gaps)))) in
         ⊎-elim
         (λ (above : x ≤ countAtPlace counts (s .place)). omega (arith, mul-le-mul-left (s .over) (le (s .place) (omega arith) above)))
         (λ (less : countAtPlace counts (s .place) < x). rw (upper-alone s less) (omega arith))

@@ -8,12 +8,13 @@ use mathlib.Core.List.{List, [], _∷_, _++_, map, List·Memᴰ, List·Memᴰ·h
 use mathlib.Core.List.{List·Memᴰ·cases-cons, Memᴰ·map, Memᴰ·append-right}
 use native.Mathlib.Nat.{le-refl, le-of-lt}
 use native.Mathlib.Omega.{arith}
-use lib.ListN.{length, getD}
-use lib.Dec.{ltb, eqb}
-use borrow.Author.Tests.{ltb-true, eqb-false, not-true}
+use lib.ListN.{length}
+use lib.Dec.{eqb}
+use borrow.Author.Tests.{ltb-true, lt-ltb, eqb-false, not-true}
 use Rattle.lists.specs.Numbers.{true-or-false}
-use Rattle.lists.specs.Tests.{every, every-at, allOf}
-use Rattle.lists.specs.Members.{InOrder, next, in-order-at, rising-in-order, all-of-at}
+use Rattle.lists.specs.Tests.{every, every-at, every-all, allOf}
+use Rattle.lists.specs.Members.{each-member, InOrder, next, in-order-at, rising-in-order, all-of-at}
+use Rattle.model.specs.CountRules.{strictlyAscends}
 use Rattle.model.specs.declared.Refusal.{Refusal}
 use Rattle.model.specs.declared.Seat.{Seat}
 use Rattle.model.specs.declared.Sitting.{Sitting}
@@ -24,9 +25,11 @@ use Rattle.model.specs.Planners.{exact, coarse, listed}
 use Rattle.model.specs.Calls.{Call, checkCard, runningCost, planShow, makeSheet, markSheet, roundCount, practiceCard, catalogueTable}
 use Rattle.model.specs.Calls.{explainSheet, actIn}
 use Rattle.model.specs.Acts.{openSitting, seatCandidate, closeSitting, submitSheet, readLeast, readLowest, readUsed}
-use Rattle.model.specs.Calls.{Test, _when_, cardTests, actSpec, specOf, firstOf, answerOf, answer, Buffer, atExit, lent, buffersAtExit}
+use Rattle.model.specs.Specs.{Test, _when_, cardTests, firstOf, Buffer, atExit}
+use Rattle.model.specs.Acts.{actSpec}
+use Rattle.model.specs.Calls.{specOf, answer, lent, buffersAtExit}
 use Rattle.laws.specs.AnswerNumber.{number-zero}
-use Rattle.laws.specs.FirstRefusal.{first-hit, first-skip, first-passed, first-through}
+use Rattle.laws.specs.FirstRefusal.{first-hit, first-skip, none-applies, first-through}
 
 -- The numbers of a call's tests, in the order in which they are made.
 abbrev pub testNumbers : Call → List ℕ
@@ -40,64 +43,48 @@ pub data OwnOrder : Call → Type 0 where
   start-first : (s : ℕ) (c : List ℕ) → OwnOrder (practiceCard s c)
   allowance-first : (z : Sitting) (xs : List Seat) (d : ℕ) (c s : List ℕ) → OwnOrder (actIn z xs (submitSheet d c s))
 
--- A list that rises at each place is in order.
-ascends : (l : List ℕ) → every (length l - 1) (λ j. ltb (getD l j 0) (getD l (j + 1) 0)) ≡ true → InOrder _<_ l
-ascends l e = rising-in-order l (λ j h. ltb-true _ _ (every-at (length l - 1) _ e j (omega arith)))
+-- In a list in order each number is below the next one.
+rises : {l : List ℕ} → InOrder _<_ l → strictlyAscends l ≡ true
+unfolding strictlyAscends
+rises {l} order = every-all (length l - 1) _ (λ j h. lt-ltb _ _ (in-order-at order 0 j (j + 1) (omega arith) (omega arith)))
 
--- The tests of every other call stand in the order of their numbers.
+-- Of each call: 9 is not among the numbers of its tests, and they rise where no paragraph sets their order.
+numbers-seen : (c : Call) → (allOf (λ n. not (eqb n 9)) (testNumbers c) ≡ true) × (OwnOrder c ⊎ (strictlyAscends (testNumbers c) ≡ true))
+unfolding specOf actSpec cardTests allOf every strictlyAscends
+numbers-seen (checkCard c) = (refl, inr refl)
+numbers-seen (runningCost c n l) = (refl, inr refl)
+numbers-seen (planShow exact c p w) = (refl, inr refl)
+numbers-seen (planShow coarse c p w) = (refl, inr refl)
+numbers-seen (planShow (listed l r) c p w) = (refl, inl (list-first l r c p w))
+numbers-seen (makeSheet c p s) = (refl, inr refl)
+numbers-seen (markSheet c s) = (refl, inr refl)
+numbers-seen (roundCount n m) = (refl, inr refl)
+numbers-seen (practiceCard s c) = (refl, inl (start-first s c))
+numbers-seen (catalogueTable q f) = (refl, inr refl)
+numbers-seen (explainSheet c s w) = (refl, inr refl)
+numbers-seen (actIn z xs (openSitting d a c p w)) = (refl, inr refl)
+numbers-seen (actIn z xs (seatCandidate d c)) = (refl, inr refl)
+numbers-seen (actIn z xs (closeSitting d)) = (refl, inr refl)
+numbers-seen (actIn z xs (submitSheet d c s)) = (refl, inl (allowance-first z xs d c s))
+numbers-seen (actIn z xs (readLeast d)) = (refl, inr refl)
+numbers-seen (actIn z xs (readLowest d c)) = (refl, inr refl)
+numbers-seen (actIn z xs (readUsed d)) = (refl, inr refl)
+
+-- The tests of every call but these stand in the order of their numbers.
 pub refusals-ascend : (c : Call) → OwnOrder c ⊎ InOrder _<_ (testNumbers c)
-unfolding specOf actSpec cardTests every
-refusals-ascend (checkCard c) = inr (ascends _ refl)
-refusals-ascend (runningCost c n l) = inr (ascends _ refl)
-refusals-ascend (planShow exact c p w) = inr (ascends _ refl)
-refusals-ascend (planShow coarse c p w) = inr (ascends _ refl)
-refusals-ascend (planShow (listed l r) c p w) = inl (list-first l r c p w)
-refusals-ascend (makeSheet c p s) = inr (ascends _ refl)
-refusals-ascend (markSheet c s) = inr (ascends _ refl)
-refusals-ascend (roundCount n m) = inr (ascends _ refl)
-refusals-ascend (practiceCard s c) = inl (start-first s c)
-refusals-ascend (catalogueTable q f) = inr (ascends _ refl)
-refusals-ascend (explainSheet c s w) = inr (ascends _ refl)
-refusals-ascend (actIn z xs (openSitting d a c p w)) = inr (ascends _ refl)
-refusals-ascend (actIn z xs (seatCandidate d c)) = inr (ascends _ refl)
-refusals-ascend (actIn z xs (closeSitting d)) = inr (ascends _ refl)
-refusals-ascend (actIn z xs (submitSheet d c s)) = inl (allowance-first z xs d c s)
-refusals-ascend (actIn z xs (readLeast d)) = inr (ascends _ refl)
-refusals-ascend (actIn z xs (readLowest d c)) = inr (ascends _ refl)
-refusals-ascend (actIn z xs (readUsed d)) = inr (ascends _ refl)
-
--- No list in order has a number that is not below the next one.
-falls : (k : ℕ) (l : List ℕ) → k + 1 < length l → getD l (k + 1) 0 ≤ getD l k 0 → InOrder _<_ l → ⊥
-falls k l h down order = let less = in-order-at order 0 k (k + 1) (omega arith) h in omega arith
+unfolding strictlyAscends
+refusals-ascend c =
+    let l = testNumbers c in
+    ⊎-elim inl
+    (λ (e : strictlyAscends l ≡ true). inr (rising-in-order l (λ j h. ltb-true _ _ (every-at (length l - 1) _ e j (omega arith)))))
+    (numbers-seen c .1)
 
 -- And those of these calls do not.
 pub own-order-falls : {c : Call} → OwnOrder c → InOrder _<_ (testNumbers c) → ⊥
-unfolding specOf actSpec cardTests
-own-order-falls (list-first l r c p w) = falls 8 _ (omega arith) (omega arith)
-own-order-falls (start-first s c) = falls 0 _ (omega arith) (omega arith)
-own-order-falls (allowance-first z xs d c s) = falls 10 _ (omega arith) (omega arith)
-
--- Refusal 9 stands in no call's list.
-nine-unlisted : (c : Call) → allOf (λ n. not (eqb n 9)) (testNumbers c) ≡ true
-unfolding specOf actSpec cardTests allOf
-nine-unlisted (checkCard c) = refl
-nine-unlisted (runningCost c n l) = refl
-nine-unlisted (planShow exact c p w) = refl
-nine-unlisted (planShow coarse c p w) = refl
-nine-unlisted (planShow (listed l r) c p w) = refl
-nine-unlisted (makeSheet c p s) = refl
-nine-unlisted (markSheet c s) = refl
-nine-unlisted (roundCount n m) = refl
-nine-unlisted (practiceCard s c) = refl
-nine-unlisted (catalogueTable q f) = refl
-nine-unlisted (explainSheet c s w) = refl
-nine-unlisted (actIn z xs (openSitting d a c p w)) = refl
-nine-unlisted (actIn z xs (seatCandidate d c)) = refl
-nine-unlisted (actIn z xs (closeSitting d)) = refl
-nine-unlisted (actIn z xs (submitSheet d c s)) = refl
-nine-unlisted (actIn z xs (readLeast d)) = refl
-nine-unlisted (actIn z xs (readLowest d c)) = refl
-nine-unlisted (actIn z xs (readUsed d)) = refl
+unfolding specOf actSpec cardTests every strictlyAscends
+own-order-falls (list-first l r c p w) order = true≢false (sym (rises order))
+own-order-falls (start-first s c) order = true≢false (sym (rises order))
+own-order-falls (allowance-first z xs d c s) order = true≢false (sym (rises order))
 
 -- The test that gives a refusal applies, and stands in the list behind tests that do not.
 first-found :
@@ -139,27 +126,20 @@ first-least (z ∷ zs) a {x} {y} (next above order) e m h =
     (List·Memᴰ·cases-cons m))
     (true-or-false (z .applies))
 
--- Where the answer is a cost, no test of the list applies.
-none-applies : (ts : List Test) (a : Answer) {n : ℕ} {t : Test} → firstOf ts a ≡ Cost n → List·Memᴰ t ts → t .applies ≡ false
-none-applies [] a e m = absurd (List·Memᴰ·not-nil m)
-none-applies (y ∷ ys) a {t = t} e m =
-    let (first, rest) = first-passed y ys a e in
-    ⊎-elim (λ (same : t ≡ y). ap (λ (u : Test). u .applies) same ∙ first) (none-applies ys a rest) (List·Memᴰ·cases-cons m)
-
 module _ (c : Call) where
   -- A refusal that is answered is that of the first of the call's tests that applies.
   pub answered-first :
       {x : Refusal} → answer c ≡ Refused x →
       (before : List Test) × (after : List Test) × (specOf c .tests ≡ before ++ (x when true ∷ after)) ×
       ((t : Test) → List·Memᴰ t before → t .applies ≡ false)
-  unfolding answer answerOf
+  unfolding answer
   answered-first e = first-found (specOf c .tests) (specOf c .cost) e
 
   -- Where no paragraph of document 02 sets an order, a refusal that is answered is the lowest of the call's that applies.
   pub lowest-least :
       (OwnOrder c → ⊥) → {x : Refusal} → answer c ≡ Refused x → (t : Test) → List·Memᴰ t (specOf c .tests) →
       t .applies ≡ true → refusalNumber x ≤ refusalNumber (t .refusal)
-  unfolding answer answerOf
+  unfolding answer
   lowest-least plain e t m h =
       ⊎-elim
       (λ (own : OwnOrder c). absurd (plain own))
@@ -175,18 +155,18 @@ module _ (c : Call) where
       go (Refused x) given nine =
           let (before, after, split, none) = answered-first given in
           let listed : List·Memᴰ (x when true) (specOf c .tests) = rw split (Memᴰ·append-right before (List·Memᴰ·head refl)) in
-          eqb-false (refusalNumber x) 9 (not-true _ (all-of-at _ _ (nine-unlisted c) (Memᴰ·map (λ (t : Test). refusalNumber (t .refusal)) listed))) nine
+          eqb-false (refusalNumber x) 9 (not-true _ (all-of-at _ _ (numbers-seen c .0) (Memᴰ·map (λ (t : Test). refusalNumber (t .refusal)) listed))) nine
 
   -- An answer with number 0 is the cost of the call.
   pub succeeded : numberOf (answer c) ≡ 0 → answer c ≡ Cost (specOf c .cost)
-  unfolding answer answerOf
+  unfolding answer
   succeeded e = first-through (specOf c .tests) (Cost (specOf c .cost)) _ (number-zero _ e)
 
   -- Where a cost is answered, none of the call's tests applies, and the cost is that of the call.
   pub accepted-none :
       {n : ℕ} → answer c ≡ Cost n → ((t : Test) → List·Memᴰ t (specOf c .tests) → t .applies ≡ false) × (n ≡ specOf c .cost)
-  unfolding answer answerOf
-  accepted-none e = (λ t. none-applies (specOf c .tests) _ e, let full = succeeded (ap numberOf e) in cc)
+  unfolding answer
+  accepted-none e = (λ t. each-member _ (specOf c .tests) (none-applies _ _ e), let full = succeeded (ap numberOf e) in cc)
 
 -- 'A refusal .. alters no lent byte': every lent buffer is at exit as it was lent.
 pub refused-unchanged : (c : Call) {x : Refusal} → answer c ≡ Refused x → buffersAtExit c ≡ lent c

@@ -10,15 +10,17 @@ use native.Mathlib.Omega.{arith}
 use lib.Dec.{leb}
 use lib.ListN.{length, getD, length-append, length-reverse, List·getD-append}
 use lib.Seq.{getD-append-add}
-use borrow.Author.Tests.{le-leb}
+use borrow.Author.Tests.{le-leb, le-ltb, not-false}
 use Rattle.lists.specs.Numbers.{le-or-lt}
-use Rattle.lists.specs.Tests.{every-all, and-left, and-right, and-both}
+use Rattle.lists.specs.Tests.{every-all, and-right, and-both}
 use Rattle.lists.specs.Lists.{equal-tabulate, from-back, getD-reverse}
-use Rattle.model.specs.Instance.{Instance, instanceOf, cardBytes, inOrder, rackNumber, pricesInRange, convex, loadsInRange}
+use Rattle.model.specs.Instance.{Instance, instanceOf, cardBytes, rackNumber, pricesInRange, loadsInRange}
+use Rattle.model.specs.Specs.{ShowInOrder}
 use Rattle.model.specs.Calls.{Accepted}
 use Rattle.model.specs.RelatedShows.{Agree, loadsOf, Reversed, LargerRack, Concatenated}
-use Rattle.laws.specs.Acceptance.{modules-range, slots-range, load-range}
-use Rattle.laws.specs.Encoding.{accepted-in-order, in-order-fits, in-order-accepted, card-bytes-show}
+use Rattle.laws.specs.FirstRefusal.{none-applies, first-none}
+use Rattle.laws.specs.Acceptance.{accepted-in-order, accepted-bounds}
+use Rattle.laws.specs.Encoding.{in-order-fits, in-order-accepted, card-bytes-show}
 use Rattle.theory.specs.AgreeingShows.{agree-back, agree-on, loads-slots, loads-at, same-loads}
 
 -- The show with the table and the prices of i, a rack of m modules and other loads.
@@ -56,15 +58,13 @@ within-append most a b first second t h =
 
 module _ (i : Instance) (m : ℕ) (l : List ℕ) where
   loads-in-order :
-      inOrder i ≡ true → rackNumber m ≡ true → length l ≤ 1024 → Within (m * i .topStep) l →
-      inOrder (withLoads i m l) ≡ true
-  unfolding inOrder pricesInRange loadsInRange
+      ShowInOrder i → rackNumber m ≡ true → length l ≤ 1024 → Within (m * i .topStep) l → ShowInOrder (withLoads i m l)
+  unfolding pricesInRange loadsInRange
   loads-in-order e rack short fit =
       let loads = every-all (length l) (λ t. leb (getD l t 0) (m * i .topStep)) (λ t h. le-leb _ _ (fit t h)) in
-      let prices : pricesInRange i ≡ true = search (and-left, and-right) in
-      let convexity : convex (i .topStep) (i .table) ≡ true = search (and-left, and-right) in
-      let top : rackNumber (i .topStep) ≡ true = search (and-left, and-right) in
-      and-both (and-both rack top) (and-both (le-leb _ _ short) (and-both prices (and-both convexity loads)))
+      let (sizes, (slots, (prices, (convexity, none)))) = none-applies _ _ e in
+      let top = and-right (rackNumber (i .modules)) _ (not-false _ sizes) in
+      first-none _ _ (rw (rack, top), (le-ltb _ _ short, (prices, (convexity, (rw loads, tt)))))
 
 module _ (c : List ℕ) (C : Accepted c) where
   abbrev show : Instance
@@ -95,15 +95,15 @@ module _ (c : List ℕ) (C : Accepted c) where
       )
 
   rack-number : rackNumber (show .modules) ≡ true
-  rack-number = let (low, high) = modules-range c C in and-both (le-leb _ _ low) (le-leb _ _ high)
+  rack-number = let (low, high) = accepted-bounds c C .modules in and-both (le-leb _ _ low) (le-leb _ _ high)
 
   loads-length : length (loadsOf show) ≤ 1024
-  loads-length = rw (loads-slots show refl) at (slots-range c C)
+  loads-length = rw (loads-slots show refl) at (accepted-bounds c C .slots)
 
   loads-fit : Within (show .modules * show .topStep) (loadsOf show)
   loads-fit t h =
       let inside : t < show .slots = rw (loads-slots show refl) h in
-      rw (loads-at show refl t inside) at (load-range c C t inside)
+      rw (loads-at show refl t inside) at (accepted-bounds c C .load t inside)
 
   -- An accepted card has an accepted card that is its show backwards.
   pub reversed-card : (d : List ℕ) × Accepted d × Reversed show (instanceOf d)
@@ -121,7 +121,7 @@ module _ (c : List ℕ) (C : Accepted c) where
   pub larger-card :
       (m : ℕ) → show .modules ≤ m → m ≤ 200 → (d : List ℕ) × Accepted d × LargerRack show (instanceOf d) × (instanceOf d .modules ≡ m)
   larger-card m more most =
-      let (low, high) = modules-range c C in
+      let (low, high) = accepted-bounds c C .modules in
       let rack = and-both (le-leb 1 m (omega arith)) (le-leb m 200 most) in
       let wider : Within (m * show .topStep) (loadsOf show) = λ t h. le-trans (loads-fit t h) (mul-le-mul-right (show .topStep) more) in
       let (d, card) = card-for m (loadsOf show) rack loads-length wider in

@@ -2,7 +2,7 @@
 -- allowance.
 use Prim.Native.Nat.{ℕ, zero, suc, _≤_}
 use mathlib.Core.Path.{_≡_, refl, sym, ap, _∙_, subst}
-use mathlib.Core.Bool.{Bool, true, false, _||_, true≢false}
+use mathlib.Core.Bool.{Bool, true, false, not, _&&_, true≢false}
 use mathlib.Core.List.{List, [], _∷_, map}
 use mathlib.Core.Option.{Option, none, some, Option·getD, Option·elim, Option·none-ne-some, Option·some-injective}
 use mathlib.Core.Logic.{⊎-elim}
@@ -10,7 +10,7 @@ use native.Mathlib.Omega.{arith}
 use lib.ListN.{getD}
 use lib.Dec.{eqb}
 use Rattle.lists.specs.Numbers.{true-or-false}
-use Rattle.lists.specs.Tests.{or-left}
+use Rattle.lists.specs.Members.{Each}
 use Rattle.lists.specs.FirstPlace.{firstPlace, changeFirst}
 use Rattle.model.specs.declared.Refusal.the-variants.{NotPermitted}
 use Rattle.model.specs.declared.Answer.{Answer}
@@ -25,12 +25,14 @@ use Rattle.model.specs.Acts.{Act, openSitting, seatCandidate, closeSitting, sub
 use Rattle.model.specs.Acts.{opened, isUnopened, isClosed, Facts}
 use Rattle.model.specs.Acts.{Event, openingDone, seatingDone, closingDone, submissionMarked, submissionCounted, nothingDone}
 use Rattle.model.specs.SittingState.{Place, State, isFor, emptyPlace, seatedPlace, markedPlace, lowerOf, factsOf, after, phaseOf, stateOf}
-use Rattle.model.specs.Calls.{planShow, markSheet, actIn, submissionTests, actSpec, specOf, firstOf, answerOf, answer, Accepted}
-use Rattle.model.specs.Sittings.{answerTo, markedWith, eventWith, eventOf, told, toldBy, replyWith, replyOf, seatsAtExit, leftBy, LentCard, EachAct}
+use Rattle.model.specs.Specs.{Passes}
+use Rattle.model.specs.Acts.{submissionTests, actSpec}
+use Rattle.model.specs.Calls.{planShow, markSheet, actIn, specOf, answer, Accepted}
+use Rattle.model.specs.Sittings.{answerTo, markedWith, eventWith, eventOf, told, toldBy, replyWith, replyOf, seatsAtExit, leftBy, LentCard}
 use Rattle.model.specs.Sittings.{StartsAfresh, from-unopened, from-opening}
-use Rattle.laws.specs.FirstRefusal.{first-hit, first-append, first-passed, first-through}
-use Rattle.laws.specs.OnCard.{on-card-passed, on-card-cost}
-use Rattle.laws.specs.SittingLaws.{refused-does}
+use Rattle.laws.specs.FirstRefusal.{first-hit, first-append, none-applies, first-through}
+use Rattle.laws.specs.OnCard.{on-card-cost}
+use Rattle.laws.specs.SittingLaws.{once-begun, refused-does, submission-on-card}
 use Rattle.theory.specs.Condition3.{planner-bound, accepted-plannable}
 use Rattle.theory.specs.Outcomes.{mark-accepts, mark-number, planner-cost}
 use Rattle.theory.specs.Refusals.{succeeded}
@@ -40,10 +42,10 @@ use Rattle.theory.specs.SittingRuns.{left-state}
 
 -- 'reads the least cost only after closing': until then every caller but the supervisor is refused by 15.
 pub least-hidden : (f : Facts) (d : ℕ) → isClosed (f .phase) ≡ false → eqb d 0 ≡ false → answerTo f (readLeast d) ≡ Refused NotPermitted
-unfolding answerTo answerOf actSpec
+unfolding answerTo actSpec
 least-hidden f d before candidate = first-hit _ _ _ (rw (candidate, before) (either (isUnopened (f .phase))))
   where
-    either : (b : Bool) → (b || true) ≡ true
+    either : (b : Bool) → not (not b && false) ≡ true
     either true = refl
     either false = refl
 
@@ -51,25 +53,23 @@ least-hidden f d before candidate = first-hit _ _ _ (rw (candidate, before) (eit
 pub opened-planned :
     (z : Sitting) (xs : List Seat) (d a : ℕ) (c p w : List ℕ) → numberOf (answer (actIn z xs (openSitting d a c p w))) ≡ 0 →
     answer (planShow exact c p w) ≡ answer (actIn z xs (openSitting d a c p w))
-unfolding answer answerOf specOf actSpec
+unfolding answer specOf actSpec
 opened-planned z xs d a c p w e =
     let opened = succeeded (actIn z xs (openSitting d a c p w)) e in
     let (given, own) = on-card-cost c _ _ opened in
-    planner-cost exact c p w given refl (first-passed _ _ _ own .0) ∙ sym opened
+    planner-cost exact c p w given refl (none-applies _ _ own .0) ∙ sym opened
 
 -- 'each answered as marking does': a submission that 1 to 8 and 15 to 17 let pass is answered as marking answers it.
 pub submission-as-marking :
-    (f : Facts) (d : ℕ) (card s : List ℕ) → Accepted card → firstOf (submissionTests f d) (Cost 0) ≡ Cost 0 →
+    (f : Facts) (d : ℕ) (card s : List ℕ) → Accepted card → Passes (submissionTests f d) →
     answerTo f (submitSheet d card s) ≡ answer (markSheet card s)
-unfolding answerTo answer answerOf specOf actSpec
 submission-as-marking f d card s given passed =
-    on-card-passed card _ _ given ∙ first-append (submissionTests f d) _ _ ∙ first-through (submissionTests f d) _ _ passed
-    ∙ sym (on-card-passed card _ _ given)
+    submission-on-card f d card s given ∙ first-through (submissionTests f d) _ _ passed
 
 -- A sheet that is marked in a sitting costs at least the least cost of its card (condition 3).
 submitted-least :
     (f : Facts) (d : ℕ) (card s : List ℕ) {n : ℕ} → answerTo f (submitSheet d card s) ≡ Cost n → plannedCost exact (instanceOf card) ≤ n
-unfolding answerTo answerOf actSpec
+unfolding answerTo actSpec
 submitted-least f d card s {n} e =
     let (given, own) = on-card-cost card _ _ e in
     let passed = first-through (submissionTests f d) (Cost 0) _ (sym (first-append (submissionTests f d) _ _) ∙ own) in
@@ -78,35 +78,28 @@ submitted-least f d card s {n} e =
     let cost : sheetCost (instanceOf card) s ≡ n = ap costOf (sym (mark-accepts card s given .1 serving) ∙ marked) in
     omega (arith, planner-bound exact (accepted-plannable card given) refl s serving)
 
--- A statement about every seat of a list.
-EverySeat : (Place → Type 0) → List Place → Type 0
-EverySeat P [] = Unit {0}
-EverySeat P (p ∷ ps) = P p × EverySeat P ps
-
 module _ (P : Place → Type 0) where
   -- What holds of every seat holds of each, and of an empty one beyond them.
-  every-seat-at : P emptyPlace → (ps : List Place) → EverySeat P ps → (k : ℕ) → P (getD ps k emptyPlace)
-  unfolding EverySeat
-  every-seat-at e [] h k = e
-  every-seat-at e (p ∷ ps) (first, rest) zero = first
-  every-seat-at e (p ∷ ps) (first, rest) (suc k) = every-seat-at e ps rest k
+  each-seat-at : P emptyPlace → (ps : List Place) → Each P ps → (k : ℕ) → P (getD ps k emptyPlace)
+  each-seat-at e [] h k = e
+  each-seat-at e (p ∷ ps) (first, rest) zero = first
+  each-seat-at e (p ∷ ps) (first, rest) (suc k) = each-seat-at e ps rest k
 
   -- It holds of every seat after an opening, if it holds of an empty one.
-  every-seat-emptied : P emptyPlace → (ps : List Place) → EverySeat P (map (λ p. emptyPlace) ps)
-  unfolding EverySeat
-  every-seat-emptied e [] = tt
-  every-seat-emptied e (p ∷ ps) = (e, every-seat-emptied e ps)
+  each-seat-emptied : P emptyPlace → (ps : List Place) → Each P (map (λ p. emptyPlace) ps)
+  each-seat-emptied e [] = tt
+  each-seat-emptied e (p ∷ ps) = (e, each-seat-emptied e ps)
 
   -- It holds of every seat after a change that keeps it.
-  every-seat-changed :
-      (f : Place → Bool) (g : Place → Place) → ((p : Place) → P p → P (g p)) → (ps : List Place) → EverySeat P ps →
-      EverySeat P (changeFirst f g ps)
-  unfolding EverySeat changeFirst
-  every-seat-changed f g kept [] h = h
-  every-seat-changed f g kept (p ∷ ps) (first, rest) =
+  each-seat-changed :
+      (f : Place → Bool) (g : Place → Place) → ((p : Place) → P p → P (g p)) → (ps : List Place) → Each P ps →
+      Each P (changeFirst f g ps)
+  unfolding changeFirst
+  each-seat-changed f g kept [] h = h
+  each-seat-changed f g kept (p ∷ ps) (first, rest) =
       ⊎-elim
       (λ (t : f p ≡ true). rw t (kept p first, rest))
-      (λ (t : f p ≡ false). rw t (first, every-seat-changed f g kept ps rest))
+      (λ (t : f p ≡ false). rw t (first, each-seat-changed f g kept ps rest))
       (true-or-false (f p))
 
 -- A seat's lowest cost is at least a bound, if it has one.
@@ -126,7 +119,7 @@ lower-not-below {l} {n} new p before v e = go (p .lowest) before (Option·some-i
 -- is below the bound.
 record Bounded (l : ℕ) (s : State) : Type 0 where
   within : isUnopened (s .phase) ≡ false → s .used ≤ s .allowance
-  above : isUnopened (s .phase) ≡ false → EverySeat (NotBelow l) (s .places)
+  above : isUnopened (s .phase) ≡ false → Each (NotBelow l) (s .places)
 
 -- What has happened marks no sheet below a bound.
 MarksAtLeast : ℕ → Event → Type 0
@@ -143,7 +136,7 @@ unfolding after
 opening-bounded l s a n =
     record {
       within = λ o. omega arith;
-      above = λ o. every-seat-emptied (NotBelow l) (λ v e. absurd (Option·none-ne-some v e)) (s .places);
+      above = λ o. each-seat-emptied (NotBelow l) (λ v e. absurd (Option·none-ne-some v e)) (s .places);
     }
 
 -- It holds after everything that can happen, if no sheet is marked below the bound.
@@ -156,18 +149,18 @@ event-bounded (counted-possible o spare) marks b = record { within = λ o′. om
 event-bounded {l} {s} (seating-possible c o real absent free) marks b =
     record {
       within = b .within;
-      above = λ o′. every-seat-changed (NotBelow l) (isFor 0) (seatedPlace c) (λ p h v e. absurd (Option·none-ne-some v e)) (s .places) (b .above o);
+      above = λ o′. each-seat-changed (NotBelow l) (isFor 0) (seatedPlace c) (λ p h v e. absurd (Option·none-ne-some v e)) (s .places) (b .above o);
     }
 event-bounded {l} {s} (marked-possible c n o spare real found) marks b =
     record {
       within = λ o′. omega arith;
-      above = λ o′. every-seat-changed (NotBelow l) (isFor c) (markedPlace n) (lower-not-below marks) (s .places) (b .above o);
+      above = λ o′. each-seat-changed (NotBelow l) (isFor c) (markedPlace n) (lower-not-below marks) (s .places) (b .above o);
     }
 
 -- Runs of acts none of which marks a sheet below a bound.
 module _ (l : ℕ) (Fine : Act → Type 0)
     (marks : (f : Facts) (a : Act) → Fine a → (r : Answer) → answerTo f a ≡ r →
-    MarksAtLeast l (eventWith (actSpec f a .done) (actSpec f a .refused) r)) where
+    MarksAtLeast l (eventWith (actSpec a .done) (actSpec a .refused) r)) where
   -- An act keeps what holds.
   act-bounded :
       (z : Sitting) (xs : List Seat) (a : Act) → Fine a → Bounded l (stateOf z xs) → Bounded l (stateOf (replyOf z xs a .sitting) (seatsAtExit z xs a))
@@ -177,18 +170,18 @@ module _ (l : ℕ) (Fine : Act → Type 0)
       (event-bounded (acts-possible (stateOf z xs) a _ refl) (marks (factsOf (stateOf z xs)) a fine _ refl) b)
 
   run-bounded :
-      (acts : List Act) → EachAct Fine acts → (z : Sitting) (xs : List Seat) → Bounded l (stateOf z xs) →
+      (acts : List Act) → Each Fine acts → (z : Sitting) (xs : List Seat) → Bounded l (stateOf z xs) →
       Bounded l (stateOf (leftBy z xs acts .0) (leftBy z xs acts .1))
-  unfolding leftBy EachAct
+  unfolding leftBy
   run-bounded [] fine z xs b = b
   run-bounded (a ∷ more) (fine, rest) z xs b =
       run-bounded more rest (replyOf z xs a .sitting) (seatsAtExit z xs a) (act-bounded z xs a fine b)
 
   -- It holds after every list of acts that starts afresh.
   afresh-bounded :
-      {z : Sitting} {xs : List Seat} {acts : List Act} → StartsAfresh z xs acts → EachAct Fine acts →
+      {z : Sitting} {xs : List Seat} {acts : List Act} → StartsAfresh z xs acts → Each Fine acts →
       Bounded l (stateOf (leftBy z xs acts .0) (leftBy z xs acts .1))
-  unfolding leftBy EachAct isUnopened eventOf eventWith actSpec
+  unfolding leftBy isUnopened eventOf eventWith actSpec
   afresh-bounded {z} {xs} (from-unopened acts e) fine =
       let never : isUnopened (phaseOf (z .state)) ≡ false → ⊥ = λ o. true≢false (sym (ap isUnopened e) ∙ o) in
       run-bounded acts fine z xs (record { within = λ o. absurd (never o); above = λ o. absurd (never o) })
@@ -211,20 +204,19 @@ none-below-zero (submissionMarked c n) = omega arith
 -- No act that is lent a card marks a sheet below the least cost of this card.
 none-below-least :
     (card : List ℕ) (f : Facts) (a : Act) → LentCard card a → (r : Answer) → answerTo f a ≡ r →
-    MarksAtLeast (plannedCost exact (instanceOf card)) (eventWith (actSpec f a .done) (actSpec f a .refused) r)
-unfolding MarksAtLeast eventWith actSpec LentCard
+    MarksAtLeast (plannedCost exact (instanceOf card)) (eventWith (actSpec a .done) (actSpec a .refused) r)
+unfolding MarksAtLeast eventWith actSpec
 none-below-least card f (openSitting d a c p w) lent (Cost n) e = tt
 none-below-least card f (seatCandidate d c) lent (Cost n) e = tt
 none-below-least card f (closeSitting d) lent (Cost n) e = tt
-none-below-least card f (submitSheet d c s) lent (Cost n) e = rw (sym lent) (submitted-least f d c s e)
+none-below-least card f (submitSheet d c s) (lent, rest) (Cost n) e = rw (sym lent) (submitted-least f d c s e)
 none-below-least card f (readLeast d) lent (Cost n) e = tt
 none-below-least card f (readLowest d c) lent (Cost n) e = tt
 none-below-least card f (readUsed d) lent (Cost n) e = tt
-none-below-least card f a lent (Refused x) e = refused-does (MarksAtLeast _) f a x tt (λ d c s same counted. tt)
+none-below-least card f a lent (Refused x) e = refused-does (MarksAtLeast _) a x tt (λ d c s same counted. tt)
 
 -- Every act is fine where nothing is asked of it.
-each-act : (acts : List Act) → EachAct (λ a. Unit {0}) acts
-unfolding EachAct
+each-act : (acts : List Act) → Each (λ a. Unit {0}) acts
 each-act [] = tt
 each-act (a ∷ more) = (tt, each-act more)
 
@@ -238,7 +230,7 @@ submissions-within {acts = acts} start o =
 -- A lowest cost that is read is not below the bound.
 read-bounded :
     {l : ℕ} {s : State} → Bounded l s → (d c : ℕ) → toldBy s (readLowest d c) .marked ≡ 1 → l ≤ toldBy s (readLowest d c) .cost
-unfolding toldBy told markedWith answerTo answerOf actSpec Option·elim
+unfolding toldBy told markedWith answerTo actSpec Option·elim
 read-bounded {l} {s} b d c e = go (answerTo (factsOf s) (readLowest d c)) refl e
   where
     lowest : Option ℕ
@@ -247,18 +239,18 @@ read-bounded {l} {s} b d c e = go (answerTo (factsOf s) (readLowest d c)) refl e
     read : (o : Option ℕ) → lowest ≡ o → isUnopened (s .phase) ≡ false → _≡_ {A = ℕ} (Option·elim o 0 (λ v. 1)) 1 → l ≤ Option·getD o 0
     read none is o marked = absurd (omega arith)
     read (some v) is o marked =
-        every-seat-at (NotBelow l) (λ u h. absurd (Option·none-ne-some u h)) (s .places) (b .above o) (firstPlace (isFor c) (s .places)) v is
+        each-seat-at (NotBelow l) (λ u h. absurd (Option·none-ne-some u h)) (s .places) (b .above o) (firstPlace (isFor c) (s .places)) v is
 
-    go : (r : Answer) → answerTo (factsOf s) (readLowest d c) ≡ r → markedWith (actSpec (factsOf s) (readLowest d c)) r ≡ 1 → l ≤ costOf r
+    go : (r : Answer) → answerTo (factsOf s) (readLowest d c) ≡ r → markedWith (actSpec (readLowest d c) .marked (factsOf s)) r ≡ 1 → l ≤ costOf r
     go (Refused x) is marked = absurd (omega arith)
     go (Cost n) is marked =
-        let permitted = first-passed _ _ _ is in
+        let (permitted, rest) = none-applies _ _ is in
         let cost : Option·getD lowest 0 ≡ n = ap costOf (sym (first-through _ (Cost (Option·getD lowest 0)) _ is) ∙ is) in
-        omega (arith, read lowest refl (or-left _ _ (permitted .0)) marked)
+        omega (arith, read lowest refl (once-begun _ _ permitted) marked)
 
 -- A candidate's lowest cost that is read is at least the least cost of the card that the acts are lent (by condition 3).
 pub lowest-at-least :
-    (card : List ℕ) {z : Sitting} {xs : List Seat} {acts : List Act} → StartsAfresh z xs acts → EachAct (LentCard card) acts → (d c : ℕ) →
+    (card : List ℕ) {z : Sitting} {xs : List Seat} {acts : List Act} → StartsAfresh z xs acts → Each (LentCard card) acts → (d c : ℕ) →
     let reply = replyOf (leftBy z xs acts .0) (leftBy z xs acts .1) (readLowest d c) in
     reply .marked ≡ 1 → plannedCost exact (instanceOf card) ≤ reply .cost
 unfolding replyOf replyWith

@@ -13,10 +13,11 @@ use Rattle.model.specs.declared.Answer.{Answer}
 use Rattle.model.specs.declared.Answer.the-variants.{Cost, Refused}
 use Rattle.model.specs.declared.Seat.{Seat}
 use Rattle.model.specs.declared.Sitting.{Sitting}
-use Rattle.model.specs.Acts.{unopened, opened, closed, isOpened, isClosed, Facts}
+use Rattle.model.specs.Acts.{unopened, opened, closed, isOpened, isClosed}
 use Rattle.model.specs.Acts.{Act, closeSitting, readLeast, readLowest, readUsed}
 use Rattle.model.specs.SittingState.{phaseOf, factsOf, stateOf, seatsAfter}
-use Rattle.model.specs.Calls.{actIn, actSpec, specOf, answer, Gives}
+use Rattle.model.specs.Acts.{actSpec}
+use Rattle.model.specs.Calls.{actIn, specOf, answer, Gives}
 use Rattle.model.specs.Sittings.{answerTo, eventWith, eventOf, told, toldBy, replyWith, replyOf, seatsAtExit}
 use Rattle.laws.specs.SittingLaws.{refused-does}
 
@@ -27,14 +28,14 @@ module _ (z : Sitting) (xs : List Seat) where
   reply-gives a = record { number-is = refl; cost-is = refl }
 
   -- What a refused act does leaves every record of the list.
-  refused-leaves : (f : Facts) (a : Act) (x : Refusal) → seatsAfter (actSpec f a .refused x) xs ≡ xs
+  refused-leaves : (a : Act) (x : Refusal) → seatsAfter (actSpec a .refused x) xs ≡ xs
   unfolding seatsAfter
-  refused-leaves f a x = refused-does (λ e. seatsAfter e xs ≡ xs) f a x refl (λ d c s same counted. refl)
+  refused-leaves a x = refused-does (λ e. seatsAfter e xs ≡ xs) a x refl (λ d c s same counted. refl)
 
   -- 'A refusal .. alters no lent byte': a refused act leaves the list of seats.
   pub refused-seats : (a : Act) {x : Refusal} → answer (actIn z xs a) ≡ Refused x → seatsAtExit z xs a ≡ xs
   unfolding seatsAtExit answer specOf answerTo eventOf eventWith
-  refused-seats a {x} e = rw e (refused-leaves _ a x)
+  refused-seats a {x} e = rw e (refused-leaves a x)
 
   -- Closing and reading the submissions used are not lent the list: their replies are the same with every list.
   pub close-unlent : (d : ℕ) → replyOf z [] (closeSitting d) ≡ replyOf z xs (closeSitting d)
@@ -46,13 +47,13 @@ module _ (z : Sitting) (xs : List Seat) where
   used-unlent d = refl
 
   -- The acts that are lent the list to be read, or not at all, leave it.
-  leaves : (a : Act) → ((n : ℕ) → seatsAfter (actSpec (factsOf (stateOf z xs)) a .done n) xs ≡ xs) → seatsAtExit z xs a ≡ xs
+  leaves : (a : Act) → ((n : ℕ) → seatsAfter (actSpec a .done n) xs ≡ xs) → seatsAtExit z xs a ≡ xs
   unfolding seatsAtExit eventOf eventWith
   leaves a done = either (answerTo (factsOf (stateOf z xs)) a)
     where
-      either : (r : Answer) → seatsAfter (eventWith (actSpec (factsOf (stateOf z xs)) a .done) (actSpec (factsOf (stateOf z xs)) a .refused) r) xs ≡ xs
+      either : (r : Answer) → seatsAfter (eventWith (actSpec a .done) (actSpec a .refused) r) xs ≡ xs
       either (Cost n) = done n
-      either (Refused x) = refused-leaves _ a x
+      either (Refused x) = refused-leaves a x
 
   pub close-leaves : (d : ℕ) → seatsAtExit z xs (closeSitting d) ≡ xs
   unfolding seatsAfter actSpec

@@ -18,11 +18,12 @@ use Rattle.model.specs.Acts.{Act, openSitting, seatCandidate, closeSitting, sub
 use Rattle.model.specs.Acts.{isUnopened, Facts, supervisor, noSeat}
 use Rattle.model.specs.Acts.{Event, nothingDone, openingDone, seatingDone, closingDone, submissionCounted, submissionMarked}
 use Rattle.model.specs.SittingState.{State, isFor, factsOf}
-use Rattle.model.specs.Calls.{Test, cardTests, sheetTests, submissionTests, actSpec, firstOf, answerOf}
+use Rattle.model.specs.Specs.{Test, cardTests, sheetTests, firstOf}
+use Rattle.model.specs.Acts.{submissionTests, actSpec}
 use Rattle.model.specs.Sittings.{answerTo, eventWith}
-use Rattle.laws.specs.FirstRefusal.{first-hit, first-skip, first-append, first-passed}
+use Rattle.laws.specs.FirstRefusal.{first-hit, first-skip, first-append, none-applies}
 use Rattle.laws.specs.OnCard.{on-card-cost}
-use Rattle.laws.specs.SittingLaws.{open-not-unopened, refused-does}
+use Rattle.laws.specs.SittingLaws.{while-open, refused-does}
 
 -- A refusal that is found behind some tests shows that none of those applies, where it differs from each of them in a test on the number.
 passed-over :
@@ -48,25 +49,19 @@ pub record Counts (f : Facts) (d : ℕ) : Type 0 where
 module _ (f : Facts) (d : ℕ) where
   counts : (a : Answer) {n : ℕ} → firstOf (submissionTests f d) a ≡ Cost n → Counts f d
   counts a e =
-      let permitted = first-passed _ _ _ e in
-      let seated = first-passed _ _ _ (permitted .1) in
-      let spared = first-passed _ _ _ (seated .1) in
-      record {
-        open-still = open-not-unopened (f .phase) (not-false _ (or-right (supervisor d) _ (permitted .0)));
-        seat-known = seated .0;
-        not-spent = leb-false _ _ (spared .0);
-      }
+      let (permitted, (seated, (spared, none))) = none-applies _ _ e in
+      record { open-still = while-open (not (supervisor d)) _ permitted; seat-known = seated; not-spent = leb-false _ _ spared }
 
   module _ (card s : List ℕ) where
     -- A submission that is answered with a cost counts.
     pub marked-counts : {n : ℕ} → answerTo f (submitSheet d card s) ≡ Cost n → Counts f d
-    unfolding answerTo answerOf actSpec
+    unfolding answerTo actSpec
     marked-counts e = counts _ (sym (first-append (submissionTests f d) _ _) ∙ on-card-cost card _ _ e .1)
 
     -- 'A sheet refused by 11 to 13 uses up one hand-in too.'
     pub refused-counts :
         {x : Refusal} → answerTo f (submitSheet d card s) ≡ Refused x → (leb 11 (refusalNumber x) && leb (refusalNumber x) 13) ≡ true → Counts f d
-    unfolding answerTo answerOf actSpec cardTests allOf
+    unfolding answerTo actSpec cardTests allOf
     refused-counts e counted =
         counts _ (on-card-cost card (submissionTests f d) _
         (passed-over (λ n. not (leb 11 n && leb n 13)) (cardTests card ++ submissionTests f d) (sheetTests (instanceOf card) s) _ refl (ap not counted) e) .1)
@@ -88,17 +83,15 @@ pub data Possible (s : State) : Event → Type 0 where
 -- What an act does can happen.
 pub acts-possible :
     (s : State) (a : Act) (r : Answer) → answerTo (factsOf s) a ≡ r →
-    Possible s (eventWith (actSpec (factsOf s) a .done) (actSpec (factsOf s) a .refused) r)
-unfolding answerTo answerOf actSpec eventWith
+    Possible s (eventWith (actSpec a .done) (actSpec a .refused) r)
+unfolding answerTo actSpec eventWith
 acts-possible s (openSitting d a c p w) (Cost n) e = opening-possible a n
 acts-possible s (seatCandidate d c) (Cost n) e =
-    let permitted = first-passed _ _ _ e in
-    let free = first-passed _ _ _ (permitted .1) .0 in
+    let (permitted, (free, none)) = none-applies _ _ e in
     let taken = or-right (eqb c 0) _ free in
-    seating-possible c (open-not-unopened (s .phase) (not-false _ (or-right (not (supervisor d)) _ (permitted .0)))) (or-left _ _ free)
+    seating-possible c (while-open (supervisor d) _ permitted) (or-left _ _ free)
     (or-left _ _ taken) (not-false _ (or-right (occurs (isFor c) (s .places)) _ taken))
-acts-possible s (closeSitting d) (Cost n) e =
-    closing-possible (open-not-unopened (s .phase) (not-false _ (or-right (not (supervisor d)) _ (first-passed _ _ _ e .0))))
+acts-possible s (closeSitting d) (Cost n) e = closing-possible (while-open (supervisor d) _ (none-applies _ _ e .0))
 acts-possible s (submitSheet d c b) (Cost n) e =
     let counts = marked-counts (factsOf s) d c b e in
     marked-possible d n (counts .open-still) (counts .not-spent) (or-left _ _ (counts .seat-known))
@@ -107,6 +100,6 @@ acts-possible s (readLeast d) (Cost n) e = nothing-possible
 acts-possible s (readLowest d c) (Cost n) e = nothing-possible
 acts-possible s (readUsed d) (Cost n) e = nothing-possible
 acts-possible s a (Refused x) e =
-    refused-does (Possible s) (factsOf s) a x nothing-possible (λ d c b same counted.
+    refused-does (Possible s) a x nothing-possible (λ d c b same counted.
     let counts = refused-counts (factsOf s) d c b (ap (answerTo (factsOf s)) (sym same) ∙ e) counted in
     counted-possible (counts .open-still) (counts .not-spent))

@@ -12,7 +12,7 @@ use Rattle.model.specs.Acts.{Act, openSitting}
 use Rattle.model.specs.Acts.{isUnopened, Event, nothingDone, openingDone}
 use Rattle.model.specs.SittingState.{factsOf, after, phaseOf, seatsOf, placeOf, stateOf}
 use Rattle.model.specs.Sittings.{next, answerTo, eventWith, eventOf, told, toldBy, replyWith, replyOf, seatsAtExit, eventIn, toldInTurn, StartsAfresh, from-unopened, from-opening}
-use Rattle.model.specs.Calls.{actSpec}
+use Rattle.model.specs.Acts.{actSpec}
 use Rattle.model.specs.Sittings.{phaseIn, factsIn, toldFrom}
 use Rattle.laws.specs.SittingLaws.{concerned, events-agree, told-agree}
 use Rattle.laws.specs.SittingRecords.{state-after}

@@ -36,6 +36,12 @@ module _ {counts : List ℕ} {m : ℕ} (asc : Ascending counts m) where
   in-order : InOrder _<_ counts
   in-order = rising-in-order counts (asc .rises)
 
+  -- A ratio by which the counts grow is at least 1, since the first count after 0 is at most that.
+  pub ratio-some : {r : ℕ} → GrowsBy r counts → 1 ≤ r
+  ratio-some gaps =
+      let more : 1 < length counts = omega (arith, asc .two) in
+      omega (arith, asc .rises 0 more, rw (asc .first) at (gaps 0 more))
+
   -- A higher place has no lower count.
   pub count-rises : (j k : ℕ) → j ≤ k → k < length counts → countAtPlace counts j ≤ countAtPlace counts k
   count-rises = in-order-le in-order

@@ -3,7 +3,7 @@ use native.Mathlib.Omega.{arith}
 use lib.ListN.{length}
 use borrow.Author.Needs.{needs}
 use borrow.Author.Tests.{lt-leb}
-use Rattle.count_rules.specs.RuleRequires.{endsAt}
+use Rattle.model.specs.CountRules.{endsAt}
 use Rattle.count_rules.proofs.Rules.{too-many, not-from-zero, from-zero}
 use Rattle.count_rules.proofs.ends_at.Statement.{statement}
 use Rattle.count_rules.proofs.ends_at.Tie as tie

@@ -1,5 +1,5 @@
 use borrow.Author.Tests.{lt-leb, le-leb}
-use Rattle.count_rules.specs.RuleRequires.{ratioInRange}
+use Rattle.model.specs.CountRules.{ratioInRange}
 use Rattle.count_rules.proofs.ratio_in_range.Statement.{statement}
 use Rattle.count_rules.proofs.ratio_in_range.Tie as tie
 

@@ -1,5 +1,5 @@
 use native.Mathlib.Omega.{arith}
-use Rattle.laws.specs.Acceptance.{up-range}
+use Rattle.laws.specs.Acceptance.{accepted-bounds}
 use Rattle.sheets.proofs.SheetBytes.{step-there, cost-stopped, cost-started, cost-kept}
 use borrow.Author.Needs.{needs}
 use Rattle.sheets.proofs.byte_cost.Statement.{statement}
@@ -20,7 +20,7 @@ entry-requires c κs = search step-there
 add-result : tie.Need-add-result
 add-result c =
     let start = c .before .before .before .before .before .before in
-    record { fits = omega (arith, up-range _ (start .pre .ready .accepted)) }
+    record { fits = omega (arith, accepted-bounds _ (start .pre .ready .accepted) .powerUp) }
 
 returns-2 : tie.Need-returns-2
 returns-2 c = search cost-started

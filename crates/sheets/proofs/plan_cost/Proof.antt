@@ -6,7 +6,7 @@ use borrow.Author.Needs.{needs}
 use Rattle.lists.specs.Summing.{Summed, summed-none, summed-more, summed-all, summed-room}
 use Rattle.model.specs.Instance.{instanceOf}
 use Rattle.model.specs.Thesis.{countAt, countsCost}
-use Rattle.laws.specs.Acceptance.{slots-range}
+use Rattle.laws.specs.Acceptance.{accepted-bounds}
 use Rattle.sheets.proofs.Loads.{in-slots, no-more-slots, slot-load-there, slotAt, slot-served, slot-at-most, slot-is, count-next}
 use Rattle.sheets.proofs.plan_cost.Statement.{statement}
 use Rattle.sheets.proofs.plan_cost.Tie as tie
@@ -36,7 +36,7 @@ add-cost c =
     let loop = c .before .before .before .before .before in
     let given = loop .before .before .before .pre in
     let room = summed-room {y = c .slot-cost .result} (loop .loop .inv .0) (search in-slots) (search slot-is) (slot-at-most given) in
-    record { fits = omega (arith, room, slots-range _ (given .sized .ready .accepted)) }
+    record { fits = omega (arith, room, accepted-bounds _ (given .sized .ready .accepted) .slots) }
 
 loop-less : tie.Need-loop-less Inv-loop μ-loop
 loop-less c = omega arith

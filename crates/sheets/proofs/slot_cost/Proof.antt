@@ -1,5 +1,5 @@
 use native.Mathlib.Omega.{arith}
-use Rattle.laws.specs.Acceptance.{up-range, down-range}
+use Rattle.laws.specs.Acceptance.{accepted-bounds}
 use Rattle.counts.proofs.Shares.{operating-most}
 use Rattle.sheets.proofs.SheetSlots.{switching-most, slot-kept, slot-raised}
 use borrow.Author.Needs.{needs}
@@ -15,7 +15,7 @@ returns c = search slot-kept
 add-price : tie.Need-add-price
 add-price c =
     let accepted = c .before .before .before .before .pre .ready .accepted in
-    record { fits = omega (arith, up-range _ accepted, down-range _ accepted) }
+    record { fits = omega (arith, accepted-bounds _ accepted .powerUp, accepted-bounds _ accepted .powerDown) }
 
 mul-result : tie.Need-mul-result
 mul-result c =

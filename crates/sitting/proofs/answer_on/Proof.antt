@@ -1,28 +1,33 @@
 use Rattle.model.specs.Acts.{submissionRefused}
+use Rattle.model.specs.Specs.{firstOf}
+use Rattle.laws.specs.SittingLaws.{submission-on-card}
+use Rattle.sitting.specs.Seen.{seen}
+use Rattle.sitting.proofs.Phases.{open-phase}
 use borrow.Author.Tests.{eq-eqb, ne-eqb, lt-ltb, le-ltb, le-leb, lt-leb}
-use Rattle.sitting.proofs.Submissions.{refused-answered, submit-tests, marked-answered}
+use Rattle.sitting.proofs.Submissions.{refused-answered, marked-answered}
 use borrow.Author.Needs.{needs}
 use Rattle.sitting.proofs.answer_on.Statement.{statement}
 use Rattle.sitting.proofs.answer_on.Tie as tie
 
 returns : tie.Need-returns
-unfolding submissionRefused
-returns c = search (refused-answered, submit-tests, eq-eqb)
+unfolding submissionRefused firstOf seen
+returns c = search (refused-answered, submission-on-card, eq-eqb)
 
 returns-2 : tie.Need-returns-2
-unfolding submissionRefused
-returns-2 c = search (refused-answered, submit-tests, ne-eqb)
+unfolding submissionRefused firstOf seen
+returns-2 c = search (refused-answered, submission-on-card, ← open-phase, ne-eqb)
 
 returns-3 : tie.Need-returns-3
-unfolding submissionRefused
-returns-3 c = search (refused-answered, submit-tests, eq-eqb, ne-eqb, le-ltb)
+unfolding submissionRefused firstOf seen
+returns-3 c = search (refused-answered, submission-on-card, ← open-phase, eq-eqb, ne-eqb, le-ltb)
 
 returns-4 : tie.Need-returns-4
-unfolding submissionRefused
-returns-4 c = search (refused-answered, submit-tests, eq-eqb, ne-eqb, lt-ltb, le-leb)
+unfolding submissionRefused firstOf seen
+returns-4 c = search (refused-answered, submission-on-card, ← open-phase, eq-eqb, ne-eqb, lt-ltb, le-leb)
 
 returns-5 : tie.Need-returns-5
-returns-5 c = search (marked-answered, submit-tests, eq-eqb, ne-eqb, lt-ltb, lt-leb)
+unfolding firstOf seen
+returns-5 c = search (marked-answered, submission-on-card, ← open-phase, eq-eqb, ne-eqb, lt-ltb, lt-leb)
 
 pub answer-on-spec : {M : Type 1} → statement M
 answer-on-spec =
