@@ -70,16 +70,6 @@ module _ {A : Type 0} (f : A → Bool) where
       (λ (t : f x ≡ false). rw (t, zero-add (countOf f xs)) (occurs-count xs))
       (true-or-false (f x))
 
-  -- The test holds at the element of the first place, where there is one.
-  pub place-holds : (d : A) (xs : List A) → occurs f xs ≡ true → f (getD xs (firstPlace f xs) d) ≡ true
-  unfolding occurs firstPlace
-  place-holds d [] e = absurd (true≢false (sym e))
-  place-holds d (x ∷ xs) e =
-      ⊎-elim
-      (λ (t : f x ≡ true). rw t t)
-      (λ (t : f x ≡ false). rw t (place-holds d xs (rw t at e)))
-      (true-or-false (f x))
-
   module _ (g : A → A) where
     -- A change keeps the length.
     pub length-change : (xs : List A) → length (changeFirst f g xs) ≡ length xs
@@ -91,15 +81,14 @@ module _ {A : Type 0} (f : A → Bool) where
         (λ (t : f x ≡ false). rw t (ap suc (length-change xs)))
         (true-or-false (f x))
 
-    -- Where the test holds at an element, the list is set at the first place.
-    pub change-sets :
-        (d : A) (xs : List A) → occurs f xs ≡ true → changeFirst f g xs ≡ set xs (firstPlace f xs) (g (getD xs (firstPlace f xs) d))
-    unfolding occurs firstPlace changeFirst
-    change-sets d [] e = refl
-    change-sets d (x ∷ xs) e =
+    -- The changed list is the list set at the first place; a list without such an element stays, since its length is no place of it.
+    pub change-sets : (d : A) (xs : List A) → changeFirst f g xs ≡ set xs (firstPlace f xs) (g (getD xs (firstPlace f xs) d))
+    unfolding firstPlace changeFirst
+    change-sets d [] = refl
+    change-sets d (x ∷ xs) =
         ⊎-elim
         (λ (t : f x ≡ true). rw t)
-        (λ (t : f x ≡ false). rw t (ap (λ (l : List A). x ∷ l) (change-sets d xs (rw t at e))))
+        (λ (t : f x ≡ false). rw t (ap (λ (l : List A). x ∷ l) (change-sets d xs)))
         (true-or-false (f x))
 
     -- Where the change takes the test away, the test holds at one element less.

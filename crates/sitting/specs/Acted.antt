@@ -65,7 +65,7 @@ changed-set f g xs found =
     let s = g (getD (seatsOf xs) k emptySeat) in
     ap (λ (l : List Seat). set l k s) (sym (take-append-drop 32 xs))
     ∙ set-append-left (seatsOf xs) (beyondSeats xs) k s (place-inside f (seatsOf xs) found)
-    ∙ ap (λ (l : List Seat). l ++ beyondSeats xs) (sym (change-sets f g emptySeat (seatsOf xs) found))
+    ∙ ap (λ (l : List Seat). l ++ beyondSeats xs) (sym (change-sets f g emptySeat (seatsOf xs)))
 
 -- By a view an event sets in a list what it makes of the list.
 abbrev Puts : View → List Seat → Event → Type 0
