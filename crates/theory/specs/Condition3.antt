@@ -112,7 +112,7 @@ module _ {i : Instance} (ready : Plannable i) where
   list-ratio counts r rules s e =
       let asc = rules .ascending in
       let fit = sheet-counts-fit i s (ready .steps) e in
-      let bound = ratio i counts 0 asc (ready .loads) r (rules-grow rules) (countsOf i s) (fit .in-rack) (fit .served) in
+      let bound = ratio i counts 0 asc r (rules-grow rules) (countsOf i s) (fit .in-rack) (fit .served) in
       omega (arith, searched-plan counts asc .1, mul-le-mul-left r (sheet-at-least i (ready .convex) s e))
 
   -- Condition 3, exact: no sheet that serves costs less than the least plan over all counts (thesis 3.8), whose ratio is 1.

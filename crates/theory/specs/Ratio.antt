@@ -138,9 +138,16 @@ module _ (i : Instance) (counts : List ℕ) (start : ℕ) (asc : Ascending count
         omega arith in
         rw bound at served-so
 
-    -- The least cost over the list, from any start, is at most r times what any plan that serves costs with the price of the start.
-    pub ratio : searchedCost i counts start ≤ r * (countsCost i start p + switchingPrice i * start)
-    unfolding searchedCost countsCost
-    ratio =
-        let end = line-after (i .slots) (le-refl (i .slots)) in
-        omega (arith, value-below asc (gradual (i .slots) (le-refl (i .slots))) end 0 0 (omega arith) (omega arith) (min-le-right _ _))
+-- The least cost over the list, from any start, is at most r times what any plan that serves costs with the price of the start.
+pub ratio :
+    (i : Instance) (counts : List ℕ) (start : ℕ) → Ascending counts (i .modules) → (r : ℕ) → GrowsBy r counts →
+    (p : List ℕ) → ((t : ℕ) → t < i .slots → getD p t 0 ≤ i .modules) → planServes i p ≡ true →
+    searchedCost i counts start ≤ r * (countsCost i start p + switchingPrice i * start)
+unfolding searchedCost countsCost planServes canServe
+ratio i counts start asc r gaps p in-rack served =
+    let loads : LoadsFit i =
+    λ t h. le-trans (leb-true _ _ (every-at (i .slots) _ served t h)) (mul-le-mul-right (i .topStep) (in-rack t h)) in
+    let full = le-refl (i .slots) in
+    let end = line-after i counts start asc loads r gaps p in-rack served (i .slots) full in
+    let slow = gradual i counts start asc loads r gaps (i .slots) full in
+    omega (arith, value-below asc slow end 0 0 (omega arith) (omega arith) (min-le-right _ _))
