@@ -26,7 +26,7 @@ countsSwitchingCost i p =
     (λ t. i .powerUp * (countAt 0 p (suc t) - countAt 0 p t) + i .powerDown * (countAt 0 p t - countAt 0 p (suc t)))
 
 -- 'Spread: its running cost less the least running cost for its own counts.' Of a sheet that serves a show which can be planned nothing is cut
--- off, here and in the next two (`spread-whole`, `swaps-whole` and `counts-whole` in theory).
+-- off, here and in the next two (`spread-whole`, `switching-at-least` and `counts-whole` in theory).
 unfoldable pub excessOperatingCost : Instance → (sheet : List ℕ) → ℕ
 excessOperatingCost i s = sheetOperatingCost i s - countsOperatingCost i (countsOf i s)
 

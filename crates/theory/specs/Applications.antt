@@ -29,11 +29,11 @@ use Rattle.theory.specs.Hypotheses.{Plannable}
 use Rattle.theory.specs.SheetLaws.{sheet-at-least}
 use Rattle.theory.specs.CountLists.{InRules, rules-hold, all-rules}
 use Rattle.theory.specs.Condition3.{threshold-plan, exact-least, list-ratio, coarse-twice, planner-bound}
-use Rattle.theory.specs.Explanations.{spread-zero, swaps-zero}
+use Rattle.theory.specs.Explanations.{spread-zero, swaps-zero, counts-zero}
 use Rattle.theory.specs.Counterexamples.{exampleE, steadySheet, steady-serves}
 use Rattle.model.specs.Planners.{exact, listed, allowedCounts, plannedCost}
 use Rattle.model.specs.Explanation.{countsOperatingCost, countsSwitchingCost, excessOperatingCost, excessSwitchingCost, excessOfCounts}
-use Rattle.model.specs.Explanation.{NoBetterSpread, NoBetterChoice}
+use Rattle.model.specs.Explanation.{NoBetterSpread, NoBetterChoice, NoBetterPlan}
 use Rattle.model.specs.Acts.{readLowest, isUnopened, isOpened, isClosed, submissionRefused, actSpec}
 use Rattle.model.specs.declared.Reply.{Reply}
 use Rattle.model.specs.SittingState.{lowerOf, phaseOf, lowestOf, sittingAfter, seatsAfter}
@@ -92,21 +92,19 @@ pub sheet-at-least-applied : countsCost exampleE 0 (countsOf exampleE movedSheet
 sheet-at-least-applied = sheet-at-least exampleE (example-plannable .convex) movedSheet moved-serves
 
 -- The moved sheet costs 10, which is 5 above the least: 3 points are swaps, and 2 are counts.
-moved-points :
-    (excessOperatingCost exampleE movedSheet ≡ 0) × (excessSwitchingCost exampleE movedSheet ≡ 3) × (excessOfCounts exampleE movedSheet ≡ 2)
+moved-points : (excessSwitchingCost exampleE movedSheet ≡ 3) × (excessOfCounts exampleE movedSheet ≡ 2)
 unfolding every sum tabulate rows keep flatMap canServe operatingCost allCounts allowedCounts stateAt stepCost changeCost sheetOperatingCost
     sheetSwitchingCost sheetCost activeAt countsOf countAt moduleByte slotRow sheetOf planCost planServes plansInOrder cheapest cheapestOf
-    leastPlan leastOver firstOver leastFrom activeStep countsOperatingCost countsSwitchingCost excessOperatingCost excessSwitchingCost
-    excessOfCounts
-moved-points = (refl, refl, refl)
+    leastPlan leastOver firstOver leastFrom activeStep countsSwitchingCost excessSwitchingCost excessOfCounts
+moved-points = (refl, refl)
 
--- So no sheet that serves with the same modules active in the same slots costs less than the moved one.
-pub spread-zero-applied : NoBetterSpread exampleE movedSheet
-spread-zero-applied = spread-zero example-plannable movedSheet moved-serves .0 (moved-points .0)
-
--- And some pattern with the same counts has a lower switching cost.
+-- So some pattern with the same counts has a lower switching cost.
 pub swaps-zero-applied : NoBetterChoice exampleE movedSheet → ⊥
-swaps-zero-applied least = absurd (omega (arith, swaps-zero example-plannable movedSheet moved-serves .1 least, moved-points .1))
+swaps-zero-applied least = absurd (omega (arith, swaps-zero example-plannable movedSheet moved-serves .1 least, moved-points .0))
+
+-- And some plan that serves costs less than its counts.
+pub counts-zero-applied : NoBetterPlan exampleE movedSheet → ⊥
+counts-zero-applied least = absurd (omega (arith, counts-zero example-plannable movedSheet .1 least, moved-points .1))
 
 -- Of example E the plan by thresholds, found in four rounds, is the least plan.
 pub threshold-plan-applied : thresholdPlan exampleE (allCounts 8) 0 4 ≡ leastPlan exampleE (allCounts 8)
@@ -130,7 +128,7 @@ planner-bound-applied = planner-bound (listed (0 ∷ 2 ∷ 4 ∷ 8 ∷ []) 2) ex
 pub coarse-twice-applied : leastCost exampleE (coarseCounts (exampleE .modules)) ≤ 2 * sheetCost exampleE steadySheet
 coarse-twice-applied = coarse-twice example-plannable steadySheet steady-serves
 
--- A show of one slot with load 6 on 4 modules, where step 2 is cheap and the steps below are dear.
+-- A show of one slot with load 5 on 4 modules, where step 2 is cheap and the steps below are dear.
 abbrev falling : Instance
 falling =
     record {
@@ -140,7 +138,7 @@ falling =
       powerUp = 0;
       powerDown = 0;
       table = λ k. getD (20 ∷ 10 ∷ 1 ∷ []) k 0;
-      load = λ t. 6;
+      load = λ t. 5;
     }
 
 falling-plannable : Plannable falling
@@ -156,14 +154,19 @@ falling-plannable =
 abbrev threeAtTop : List ℕ
 threeAtTop = 2 ∷ 2 ∷ 2 ∷ off ∷ []
 
--- The sheet costs 3, and the least cost over the coarse counts is 4; with just the load it would be 22.
+-- The sheet costs 3, none of it spread, and the least cost over the coarse counts is 4; with just the load it would be 31.
 falling-computed :
-    (serves falling threeAtTop ≡ true) × (sheetCost falling threeAtTop ≡ 3) ×
+    (serves falling threeAtTop ≡ true) × (excessOperatingCost falling threeAtTop ≡ 0) × (sheetCost falling threeAtTop ≡ 3) ×
     (leastCost falling (coarseCounts (falling .modules)) ≡ 4)
-unfolding every sum tabulate rows keep flatMap canServe allCounts powerOfTwo coarseCounts stateAt sheetLength sheetEntries lightAt
-    sheetLight serves stepCost changeCost sheetOperatingCost sheetSwitchingCost sheetCost moduleByte slotRow sheetOf planCost planServes
-    plansInOrder cheapest cheapestOf leastPlan leastOver firstOver leastFrom activeStep
-falling-computed = (refl, refl, refl)
+unfolding every sum tabulate rows keep flatMap canServe operatingCost allCounts powerOfTwo coarseCounts stateAt sheetLength sheetEntries
+    lightAt sheetLight serves stepCost changeCost sheetOperatingCost sheetSwitchingCost sheetCost activeAt countsOf countAt moduleByte slotRow
+    sheetOf planCost planServes plansInOrder cheapest cheapestOf leastPlan leastOver firstOver leastFrom activeStep countsOperatingCost
+    excessOperatingCost
+falling-computed = (refl, refl, refl, refl)
+
+-- No sheet that serves with the same three modules active costs less; with just the load it costs 12.
+pub spread-zero-applied : NoBetterSpread falling threeAtTop
+spread-zero-applied = spread-zero falling-plannable threeAtTop (falling-computed .0) .0 (falling-computed .1)
 
 -- On a table that falls the coarse plan costs at most twice as much too: 4 ≤ 6.
 pub falling-twice-applied : leastCost falling (coarseCounts (falling .modules)) ≤ 2 * sheetCost falling threeAtTop

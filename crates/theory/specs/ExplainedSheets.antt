@@ -28,9 +28,9 @@ use Rattle.laws.specs.AnswerNumber.{number-zero}
 use Rattle.laws.specs.FirstRefusal.{none-applies, first-refused, first-through}
 use Rattle.laws.specs.OnCard.{on-card-refused, on-card-passed, on-card-cost}
 use Rattle.theory.specs.Hypotheses.{Plannable, PlanFits}
-use Rattle.theory.specs.SheetLaws.{plan-sheet-serves}
+use Rattle.theory.specs.SheetLaws.{switching-at-least, plan-sheet-serves}
 use Rattle.theory.specs.Condition3.{accepted-plannable, planned-fits}
-use Rattle.theory.specs.Explanations.{spread-whole, swaps-whole, counts-whole, points-together, spread-zero, swaps-zero, counts-zero, all-zero}
+use Rattle.theory.specs.Explanations.{spread-whole, counts-whole, points-together, spread-zero, swaps-zero, counts-zero, all-zero}
 use Rattle.theory.specs.Explanations.{plan-points, exact-points}
 use Rattle.theory.specs.Refusals.{succeeded}
 use Rattle.theory.specs.RearrangedSheets.{swaps-zero-sheets}
@@ -119,7 +119,7 @@ module _ (c s w : List ℕ) where
   none-negative =
       record {
         spread-whole = λ e. rw (points-are e) (omega (arith, spread-whole (ready e) s (accepted e .1)));
-        swaps-whole = λ e. rw (points-are e) (omega (arith, swaps-whole (ready e) s (accepted e .1)));
+        swaps-whole = λ e. rw (points-are e) (omega (arith, switching-at-least (instanceOf c) s));
         counts-whole = λ e. rw (points-are e) (omega (arith, counts-whole (ready e) s (accepted e .1)));
       }
 
@@ -137,7 +137,7 @@ module _ (c s w : List ℕ) where
         spread-zero = λ e. rw (points-are e) (spread-zero (ready e) s (accepted e .1));
         swaps-zero = λ e. rw (points-are e) (swaps-zero (ready e) s (accepted e .1));
         swaps-zero-sheets = λ e. rw (points-are e) (swaps-zero-sheets (ready e) s (accepted e .1));
-        counts-zero = λ e. rw (points-are e) (counts-zero (ready e) s (accepted e .1));
+        counts-zero = λ e. rw (points-are e) (counts-zero (ready e) s);
         all-zero = λ e. rw (points-are e) (all-zero (ready e) s (accepted e .1));
       }
 

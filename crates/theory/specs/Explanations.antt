@@ -16,7 +16,7 @@ use Rattle.model.specs.Sheets.{isOff, stateAt, sheetLength, serves, changeCost,
 use Rattle.model.specs.Sheets.{activeAt, countsOf}
 use Rattle.model.specs.Plans.{sheetOf, planCost}
 use Rattle.model.specs.Planners.{exact, allowedCounts, plannedBy, plannedCost}
-use Rattle.model.specs.Explanation.{countsOperatingCost, countsSwitchingCost, excessOperatingCost, excessSwitchingCost, excessOfCounts}
+use Rattle.model.specs.Explanation.{countsOperatingCost, excessOperatingCost, excessSwitchingCost, excessOfCounts}
 use Rattle.model.specs.Explanation.{SameActive, NoBetterSpread, NoBetterChoice, NoBetterPlan, NoBetterSheet}
 use Rattle.theory.specs.Hypotheses.{PlanFits, Plannable}
 use Rattle.theory.specs.CountCosts.{counts-cost-parts}
@@ -52,6 +52,19 @@ plan-points {i} p fit =
     rw (plan-counts i p fit) (omega (arith, plan-operating-cost i p fit), omega (arith, plan-switching-cost i p fit))
 
 module _ {i : Instance} (ready : Plannable i) where
+  -- 'the least running cost for its own counts': no sheet that serves with the counts of s costs less to operate than they do.
+  pub running-least :
+      (s r : List ℕ) → serves i r ≡ true → countsOf i r ≡ countsOf i s → countsOperatingCost i (countsOf i s) ≤ sheetOperatingCost i r
+  running-least s r f same = rw same at (operating-at-least i (ready .convex) r f)
+
+  -- The excess of the counts is 0 exactly if no plan that serves costs less than they do.
+  pub counts-zero : (s : List ℕ) → excessOfCounts i s ≡ 0 ↔ NoBetterPlan i s
+  unfolding excessOfCounts allowedCounts
+  counts-zero s = (
+    λ none r a. omega (arith, exact-plan ready .least r a),
+    λ least. omega (arith, least _ (exact-plan ready .allowed)),
+  )
+
   -- A sheet that serves.
   module _ (s : List ℕ) (e : serves i s ≡ true) where
     -- Its counts are a plan whose sheet can be written.
@@ -61,14 +74,6 @@ module _ {i : Instance} (ready : Plannable i) where
     -- Its operating cost is at least that of its counts.
     pub spread-whole : countsOperatingCost i (countsOf i s) ≤ sheetOperatingCost i s
     spread-whole = operating-at-least i (ready .convex) s e
-
-    -- 'the least running cost for its own counts': no sheet that serves with these counts costs less to operate.
-    pub running-least : (r : List ℕ) → serves i r ≡ true → countsOf i r ≡ countsOf i s → countsOperatingCost i (countsOf i s) ≤ sheetOperatingCost i r
-    running-least r f same = rw same at (operating-at-least i (ready .convex) r f)
-
-    -- Its switching cost is at least that of its counts.
-    pub swaps-whole : countsSwitchingCost i (countsOf i s) ≤ sheetSwitchingCost i s
-    swaps-whole = switching-at-least i s
 
     -- Its counts as a plan cost at least the least cost.
     pub counts-whole : plannedCost exact i ≤ planCost i (countsOf i s)
@@ -82,7 +87,7 @@ module _ {i : Instance} (ready : Plannable i) where
         omega (
           arith,
           spread-whole,
-          swaps-whole,
+          switching-at-least i s,
           counts-whole,
           plan-cost-counts i (countsOf i s) counts-fit,
           counts-cost-parts i (countsOf i s) (counts-length i s),
@@ -110,14 +115,6 @@ module _ {i : Instance} (ready : Plannable i) where
           let plan = countsOf i s in
           let below = least (sheetOf i plan) (eq-eqb _ _ (sheet-length i plan)) (plan-counts i plan counts-fit) in
           omega (arith, plan-switching-cost i plan counts-fit),
-    )
-
-    -- The excess of the counts is 0 exactly if no plan that serves costs less than they do.
-    pub counts-zero : excessOfCounts i s ≡ 0 ↔ NoBetterPlan i s
-    unfolding excessOfCounts allowedCounts
-    counts-zero = (
-      λ none r a. omega (arith, exact-plan ready .least r a),
-      λ least. omega (arith, least _ (exact-plan ready .allowed)),
     )
 
     -- All three are 0 exactly if no sheet that serves costs less.
