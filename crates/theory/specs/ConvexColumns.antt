@@ -43,6 +43,14 @@ unfolding column firstLead
 first-slope i counts start asc j inside =
     held-rise (switchingPrice i) (countAtPlace counts j) (countAtPlace counts (j + 1)) start (le-of-lt (asc .rises j inside))
 
+-- The searched plan's places are places of the list.
+pub place-inside :
+    (i : Instance) (counts : List ℕ) (start : ℕ) → Ascending counts (i .modules) → LoadsFit i → (t : ℕ) → t ≤ i .slots →
+    placeIn i counts start t < length counts
+place-inside i counts start asc loads =
+    back-all (i .slots) (selection i counts start) (λ j. j < length counts) (omega (arith, asc .two))
+    (λ t next h inside. column-best i counts start asc loads t h .chosen-in next inside)
+
 module _ (i : Instance) (counts : List ℕ) (start : ℕ) (asc : Ascending counts (i .modules)) (loads : LoadsFit i)
     (convex : Convex (i .topStep) (i .table)) where
   -- Every column is convex.
@@ -59,12 +67,6 @@ module _ (i : Instance) (counts : List ℕ) (start : ℕ) (asc : Ascending count
       omega arith
   column-bends (suc t) h k inside =
       after-convex asc (column-best i counts start asc loads t h) convex (column-bends t (omega arith)) k inside
-
-  -- The searched plan's places are places of the list.
-  pub place-inside : (t : ℕ) → t ≤ i .slots → placeIn i counts start t < length counts
-  place-inside =
-      back-all (i .slots) (selection i counts start) (λ j. j < length counts) (omega (arith, asc .two))
-      (λ t next h inside. column-best i counts start asc loads t h .chosen-in next inside)
 
   -- Over a level a column rises by its slope.
   slope-up :
@@ -90,4 +92,4 @@ module _ (i : Instance) (counts : List ℕ) (start : ℕ) (asc : Ascending count
       let best = column-best i counts start asc loads t h in
       rw (back-step (i .slots) (selection i counts start) t h)
       (judged asc best convex (column-bends t (omega arith)) j inside _ (slope-up t j (omega arith) inside) _
-      (place-inside (suc t) h))
+      (place-inside i counts start asc loads (suc t) h))

@@ -202,7 +202,7 @@ module _
               best .at-most (k + 1) c inside (best .chosen-in k here) (best .chosen-serves k here),
               no-climb c k (omega arith) (best .chosen-in k here),
               no-climb c (k + 1) (omega arith) (best .chosen-in k here),
-              after-rises asc best k (k + 1) (omega arith) inside,
+              after-rises best asc k (k + 1) (omega arith) inside,
             )
 
         -- If the choice for place k + 1 is below the level, that place costs the price of the level more.
@@ -215,7 +215,7 @@ module _
               best .attained (k + 1) inside,
               best .at-most k c here (omega arith) (best .chosen-serves (k + 1) inside),
               climbs c k (k + 1) below (omega arith) inside,
-              after-slope asc best k (k + 1) (omega arith) inside,
+              after-slope best k (k + 1) (omega arith) inside,
             )
 
         -- No level but this one is at or above the choice for place k and below the choice for place k + 1: every other level pays alike
@@ -264,8 +264,8 @@ module _
               arith,
               lower-own below h,
               upper-own serves below h,
-              after-rises asc best k (k + 1) (omega arith) inside,
-              after-slope asc best k (k + 1) (omega arith) inside,
+              after-rises best asc k (k + 1) (omega arith) inside,
+              after-slope best k (k + 1) (omega arith) inside,
             ))
             (le-or-lt (chosen (k + 1)) k))
             (λ (above : k < chosen k).
@@ -307,5 +307,5 @@ module _
           (middle-of-steps _ _ (after k) _ _ (held-steps-rise (switchingPrice i) _ _ _ _ _ (served-bends k inside serves))))
           (λ (fails : Fails k).
           rw (flat k (omega arith) (forced k (omega arith) fails k (omega arith)))
-          (omega (arith, mul-le-mul-left (gap counts k) (after-rises asc best k (k + 1 + 1) (omega arith) inside))))
+          (omega (arith, mul-le-mul-left (gap counts k) (after-rises best asc k (k + 1 + 1) (omega arith) inside))))
           (serves-or-fails k)

@@ -129,7 +129,7 @@ module _ (i : Instance) (counts : List ℕ) (start : ℕ) where
           let lead = leadBefore i counts start b plan t in
           ⊎-elim
           (λ (beyond : length counts ≤ j + 1).
-          omega (arith, side-beyond i counts j (i .load t) lead beyond, place-inside i counts start asc loads convex t (omega arith)))
+          omega (arith, side-beyond i counts j (i .load t) lead beyond, place-inside i counts start asc loads t (omega arith)))
           (λ (inside : j + 1 < length counts). judged-at i counts start asc loads convex t j h inside .tells lead (lead-near t h inside))
           (le-or-lt (length counts) (j + 1))
 
@@ -154,7 +154,7 @@ module _ (i : Instance) (counts : List ℕ) (start : ℕ) where
     all-within e wide =
         record {
           low = λ t h. omega (arith, zeros-at (i .slots) t);
-          high = λ t h. omega (arith, zeros-at (i .slots) t, place-inside i counts start asc loads convex t h);
+          high = λ t h. omega (arith, zeros-at (i .slots) t, place-inside i counts start asc loads t h);
           apart = λ t h. equal (zeros-at (i .slots) t ∙ sym (zeros-at (i .slots) (suc t)));
         }
 

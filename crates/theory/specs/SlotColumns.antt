@@ -70,36 +70,33 @@ pub by-way : (b x y z : ℕ) → x ≤ y → y ≤ z → b * (z - x) ≡ b * (z 
 by-way b x y z low high = let parts : z - x ≡ z - y + (y - x) = omega arith in omega (arith, ap (λ (n : ℕ). b * n) parts)
 
 -- Laws of the column after a slot.
-module _
-    {i : Instance} {counts : List ℕ} {l : ℕ} {before after chosen : ℕ → ℕ} (asc : Ascending counts (i .modules))
-    (best : SlotBest i counts l before after chosen)
-  where
-    -- The column after a slot rises with the place.
-    pub after-rises : (j k : ℕ) → j ≤ k → k < length counts → after j ≤ after k
-    after-rises j k h inside =
-        let c = chosen k in
-        let low = count-rises asc j k h inside in
-        let less : countAtPlace counts j - countAtPlace counts c ≤ countAtPlace counts k - countAtPlace counts c = omega arith in
-        omega (
-          arith,
-          best .at-most j c (omega arith) (best .chosen-in k inside) (best .chosen-serves k inside),
-          best .attained k inside,
-          mul-le-mul-left (switchingPrice i) less,
-        )
+module _ {i : Instance} {counts : List ℕ} {l : ℕ} {before after chosen : ℕ → ℕ} (best : SlotBest i counts l before after chosen) where
+  -- On an ascending list the column after a slot rises with the place.
+  pub after-rises : Ascending counts (i .modules) → (j k : ℕ) → j ≤ k → k < length counts → after j ≤ after k
+  after-rises asc j k h inside =
+      let c = chosen k in
+      let low = count-rises asc j k h inside in
+      let less : countAtPlace counts j - countAtPlace counts c ≤ countAtPlace counts k - countAtPlace counts c = omega arith in
+      omega (
+        arith,
+        best .at-most j c (omega arith) (best .chosen-in k inside) (best .chosen-serves k inside),
+        best .attained k inside,
+        mul-le-mul-left (switchingPrice i) less,
+      )
 
-    -- The column after a slot rises by at most the switching price a module.
-    pub after-slope :
-        (j k : ℕ) → j ≤ k → k < length counts →
-        after k ≤ after j + switchingPrice i * (countAtPlace counts k - countAtPlace counts j)
-    after-slope j k h inside =
-        let c = chosen j in
-        let here : j < length counts = omega arith in
-        omega (
-          arith,
-          best .at-most k c inside (best .chosen-in j here) (best .chosen-serves j here),
-          best .attained j here,
-          triangle (switchingPrice i) (countAtPlace counts k) (countAtPlace counts j) (countAtPlace counts c),
-        )
+  -- The column after a slot rises by at most the switching price a module.
+  pub after-slope :
+      (j k : ℕ) → j ≤ k → k < length counts →
+      after k ≤ after j + switchingPrice i * (countAtPlace counts k - countAtPlace counts j)
+  after-slope j k h inside =
+      let c = chosen j in
+      let here : j < length counts = omega arith in
+      omega (
+        arith,
+        best .at-most k c inside (best .chosen-in j here) (best .chosen-serves j here),
+        best .attained j here,
+        triangle (switchingPrice i) (countAtPlace counts k) (countAtPlace counts j) (countAtPlace counts c),
+      )
 
 -- The columns from a start count.
 module _ (i : Instance) (counts : List ℕ) (start : ℕ) (asc : Ascending counts (i .modules)) (loads : LoadsFit i) where
@@ -117,7 +114,7 @@ module _ (i : Instance) (counts : List ℕ) (start : ℕ) (asc : Ascending count
   column-rises zero j k h le inside =
       let low = count-rises asc j k le inside in
       mul-le-mul-left (switchingPrice i) (omega arith)
-  column-rises (suc t) j k h le inside = after-rises asc (column-best t h) j k le inside
+  column-rises (suc t) j k h le inside = after-rises (column-best t h) asc j k le inside
 
   -- A column rises by at most the switching price a module.
   pub column-slope :
@@ -125,4 +122,4 @@ module _ (i : Instance) (counts : List ℕ) (start : ℕ) (asc : Ascending count
       column i counts start t k ≤ column i counts start t j + switchingPrice i * (countAtPlace counts k - countAtPlace counts j)
   unfolding column
   column-slope zero j k h le inside = triangle (switchingPrice i) (countAtPlace counts k) (countAtPlace counts j) start
-  column-slope (suc t) j k h le inside = after-slope asc (column-best t h) j k le inside
+  column-slope (suc t) j k h le inside = after-slope (column-best t h) j k le inside
