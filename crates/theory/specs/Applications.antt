@@ -1,5 +1,5 @@
--- The hypotheses of the theorems can be met: they hold of document 01's example E, of a show whose table falls, of the whole sitting of
--- the examples, and of card A with the catalogue module's table.
+-- The hypotheses of the theorems can be met: they hold of document 01's example E, of a show whose table falls, of an accepted card, of the
+-- whole sitting of the examples, and of card A with the catalogue module's table.
 use Prim.Native.Nat.{ℕ, _*_, _≤_}
 use mathlib.Core.Path.{_≡_, refl}
 use mathlib.Core.Bool.{true}
@@ -28,10 +28,10 @@ use Rattle.thresholds.specs.Thresholds.{thresholdPlan}
 use Rattle.theory.specs.Hypotheses.{Plannable}
 use Rattle.theory.specs.SheetLaws.{sheet-at-least}
 use Rattle.theory.specs.CountLists.{InRules, rules-hold, all-rules}
-use Rattle.theory.specs.Condition3.{threshold-plan, exact-least, list-ratio, coarse-twice, planner-bound}
+use Rattle.theory.specs.Condition3.{threshold-plan, exact-least, list-ratio, coarse-twice, planner-bound, accepted-plannable}
 use Rattle.theory.specs.Explanations.{spread-zero, swaps-zero, counts-zero}
 use Rattle.theory.specs.Counterexamples.{exampleE, steadySheet, steady-serves}
-use Rattle.model.specs.Planners.{exact, listed, allowedCounts, plannedCost}
+use Rattle.model.specs.Planners.{exact, coarse, listed, allowedCounts, plannedCost}
 use Rattle.model.specs.Explanation.{countsOperatingCost, countsSwitchingCost, excessOperatingCost, excessSwitchingCost, excessOfCounts}
 use Rattle.model.specs.Explanation.{NoBetterSpread, NoBetterChoice, NoBetterPlan}
 use Rattle.model.specs.Acts.{readLowest, isUnopened, isOpened, isClosed, submissionRefused, actSpec}
@@ -41,10 +41,10 @@ use Rattle.model.specs.Sittings.{answerTo, markedWith, eventWith, eventOf, told
 use Rattle.model.specs.Sittings.{toldInTurn, leftBy, StartsAfresh, from-unopened, LentCard, toldFrom}
 use Rattle.model.specs.Catalogue.{catalogueEntry, catalogueBytes}
 use Rattle.model.specs.Specs.{firstOf, anyShort, atExit}
-use Rattle.model.specs.Calls.{catalogueTable, specOf, answer}
+use Rattle.model.specs.Calls.{catalogueTable, specOf, answer, Accepted}
 use Rattle.model.specs.Calls.{buffersAtExit, tableAtExit}
 use Rattle.model.specs.Promises.{OthersInOrder}
-use Rattle.model.specs.Examples.{cardA, agrees}
+use Rattle.model.specs.Examples.{cardA, cardUp, agrees}
 use Rattle.model.specs.SittingExamples.{sittingOf, odd, wholeSitting}
 use Rattle.theory.specs.SittingRuns.{any-sequence}
 use Rattle.theory.specs.SittingBounds.{lowest-at-least}
@@ -171,6 +171,21 @@ spread-zero-applied = spread-zero falling-plannable threeAtTop (falling-computed
 -- On a table that falls the coarse plan costs at most twice as much too: 4 ≤ 6.
 pub falling-twice-applied : leastCost falling (coarseCounts (falling .modules)) ≤ 2 * sheetCost falling threeAtTop
 falling-twice-applied = coarse-twice falling-plannable threeAtTop (falling-computed .0)
+
+-- Three modules at step 1, for a card of 4 modules with the top step 2, the table 1 1 4, the load 3 and the prices 1 and 0.
+abbrev threeAtOne : List ℕ
+threeAtOne = 1 ∷ 1 ∷ 1 ∷ off ∷ []
+
+-- The card is accepted, the sheet serves at cost 6, and the coarse plan costs 7.
+up-computed :
+    Accepted cardUp × (serves (instanceOf cardUp) threeAtOne ≡ true) × (sheetCost (instanceOf cardUp) threeAtOne ≡ 6) ×
+    (plannedCost coarse (instanceOf cardUp) ≡ 7)
+unfolding agrees serves
+up-computed = (refl, refl, refl, refl)
+
+-- So on an accepted card the coarse plan costs at most twice as much as the sheet: 7 ≤ 12.
+pub accepted-bound-applied : plannedCost coarse (instanceOf cardUp) ≤ 2 * sheetCost (instanceOf cardUp) threeAtOne
+accepted-bound-applied = planner-bound coarse (accepted-plannable cardUp (up-computed .0)) refl threeAtOne (up-computed .1)
 
 -- The whole sitting of the examples starts from a sitting that counts as unopened, and all its acts on a card are on card A.
 whole-starts : StartsAfresh (sittingOf 0 0 0 0) (odd ∷ odd ∷ []) wholeSitting
