@@ -1,12 +1,13 @@
 -- Shows and cards on which the conclusion of a theorem or of a clause fails without one of its hypotheses, or with a stronger conclusion.
-use Prim.Native.Nat.{ℕ, zero, suc, _+_, _*_, _≤_, _<_, max}
+use Prim.Native.Nat.{ℕ, zero, suc, _+_, _*_, _^_, _≤_, _<_, max}
 use mathlib.Core.Path.{_≡_, refl}
 use mathlib.Core.Bool.{true, false}
 use mathlib.Core.List.{List, [], _∷_, _++_, flatMap, headD}
 use native.Mathlib.Omega.{arith}
 use lib.ListN.{length, getD, take, set}
-use lib.Dec.{lit<}
-use Rattle.lists.specs.Tests.{every}
+use lib.Dec.{leb, lit<}
+use borrow.Author.Tests.{leb-true}
+use Rattle.lists.specs.Tests.{every, every-at}
 use Rattle.lists.specs.Sums.{sum}
 use Rattle.lists.specs.Ranges.{leastOver, firstOver}
 use Rattle.lists.specs.Backwards.{fromEnd, backTo}
@@ -24,13 +25,14 @@ use Rattle.model.specs.Plans.{moduleByte, slotRow, sheetOf, planCost, planServe
 use Rattle.model.specs.Explanation.{countsOperatingCost}
 use Rattle.model.specs.Catalogue.{catalogueEntry, catalogueBytes}
 use Rattle.model.specs.Examples.{cardA}
+use Rattle.laws.specs.Tables.{Convex}
 use Rattle.laws.specs.LeastSteps.{lowestStep}
-use Rattle.thresholds.specs.Places.{countAtPlace, Ascending, GrowsBy}
+use Rattle.thresholds.specs.Places.{countAtPlace, lastPlace, Ascending, GrowsBy}
 use Rattle.theory.specs.Columns.{servedOrAbove, fromTop, bestPlace, column, searchedCost}
 use Rattle.thresholds.specs.Thresholds.{isLess, judge, firstLead, carried, raisedPlace, leadBefore, sideAt, forward, backward, rounds}
 use Rattle.thresholds.specs.Thresholds.{thresholdPlan}
 use Rattle.theory.specs.Hypotheses.{LoadsFit, Plannable, PlanFits, Entry, activeIn, lightIn, rowCost}
-use Rattle.theory.specs.CountLists.{InRules, rules-hold}
+use Rattle.theory.specs.CountLists.{InRules, rules-hold, all-rules}
 
 -- A show of two modules and no slot, with a table F(0) to F(2).
 abbrev ofTable : List ℕ → Instance
@@ -103,10 +105,11 @@ spread-needs-convex = (refl, lit< tt)
 pub spread-needs-light :
     let i = withLoad (0 ∷ 1 ∷ 3 ∷ []) in
     let s : List ℕ = 0 ∷ 0 ∷ [] in
-    (serves i s ≡ false) × (sheetOperatingCost i s < countsOperatingCost i (countsOf i s))
-unfolding every sum tabulate stateAt sheetLength sheetEntries lightAt sheetLight serves stepCost sheetOperatingCost operatingCost leastOver
+    Convex (i .topStep) (i .table) × (sheetLength i s ≡ true) × (sheetEntries i s ≡ true) × (sheetLight i s ≡ false) ×
+    (sheetOperatingCost i s < countsOperatingCost i (countsOf i s))
+unfolding every sum tabulate stateAt sheetLength sheetEntries lightAt sheetLight stepCost sheetOperatingCost operatingCost leastOver
     leastFrom activeAt countsOf countAt countsOperatingCost
-spread-needs-light = (refl, lit< tt)
+spread-needs-light = (λ k h. let first : k ≡ 0 = omega arith in rw first (omega arith), refl, refl, refl, lit< tt)
 
 -- Document 01's example E.
 abbrev pub exampleE : Instance
@@ -167,7 +170,10 @@ none-or-all-ascending : (m : ℕ) → 1 ≤ m → Ascending (noneOrAll m) m
 none-or-all-ascending m some =
     record { two = omega arith; first = refl; last = refl; rises = λ j h. let first : j ≡ 0 = omega arith in rw first (omega arith) }
 
--- A list with a wide gap after 1.
+-- A list with a wide gap after 0, and one with a wide gap after 1.
+abbrev wideFirst : List ℕ
+wideFirst = 0 ∷ 4 ∷ 8 ∷ []
+
 abbrev wideGap : List ℕ
 wideGap = 0 ∷ 1 ∷ 8 ∷ []
 
@@ -181,12 +187,12 @@ BoundAttained i counts r = (s : List ℕ) × (serves i s ≡ true) × (r * sheet
 
 -- The costs are 4 against 1, 8 against 2, and 2 against 1.
 bounds-computed :
-    BoundFails (level 4 0 1) (noneOrAll 4) 2 × BoundFails (level 8 0 2) wideGap 2 × BoundAttained (level 2 0 1) (noneOrAll 2) 2
+    BoundFails (level 8 0 1) wideFirst 2 × BoundFails (level 8 0 2) wideGap 2 × BoundAttained (level 2 0 1) (noneOrAll 2) 2
 unfolding every sum rows tabulate keep flatMap canServe stateAt sheetLength sheetEntries lightAt sheetLight serves stepCost changeCost
     sheetOperatingCost sheetSwitchingCost sheetCost moduleByte slotRow sheetOf planCost planServes plansInOrder cheapest cheapestOf
     leastPlan leastOver firstOver leastFrom activeStep
 bounds-computed = (
-  (1 ∷ off ∷ off ∷ off ∷ [], refl, lit< tt),
+  (1 ∷ off ∷ off ∷ off ∷ off ∷ off ∷ off ∷ off ∷ [], refl, lit< tt),
   (1 ∷ 1 ∷ off ∷ off ∷ off ∷ off ∷ off ∷ off ∷ [], refl, lit< tt),
   (1 ∷ off ∷ [], refl, refl),
 )
@@ -194,22 +200,23 @@ bounds-computed = (
 -- Over a list that grows by slightly more than 2 the least plan may cost more than twice as much as a sheet that serves: here 4
 -- against 1.
 pub wider-gaps :
-    Plannable (level 4 0 1) × Ascending (noneOrAll 4) 4 ×
-    ((j : ℕ) → j + 1 < length (noneOrAll 4) → countAtPlace (noneOrAll 4) (j + 1) ≤ 2 * (countAtPlace (noneOrAll 4) j + 2)) ×
-    BoundFails (level 4 0 1) (noneOrAll 4) 2
+    Plannable (level 8 0 1) × Ascending wideFirst 8 ×
+    ((j : ℕ) → j + 1 < length wideFirst → countAtPlace wideFirst (j + 1) ≤ 2 * (countAtPlace wideFirst j + 2)) ×
+    BoundFails (level 8 0 1) wideFirst 2
+unfolding every strictlyAscends gapsGrowBy endsAt ratioInRange keepsRules
 wider-gaps = (
-  level-plannable 4 0 1 (omega arith) (omega arith),
-  none-or-all-ascending 4 (omega arith),
-  λ j h. let first : j ≡ 0 = omega arith in rw first (omega arith),
+  level-plannable 8 0 1 (omega arith) (omega arith),
+  rules-hold wideFirst 4 8 refl .0 .ascending,
+  λ j h. leb-true _ _ (every-at 2 (λ k. leb (getD wideFirst (k + 1) 0) (2 * (getD wideFirst k 0 + 2))) refl j (omega arith)),
   bounds-computed .0,
 )
 
 -- Its first entry is above the ratio 2, and it keeps all other rules of 02 §8.
 pub first-above-ratio :
-    Plannable (level 4 0 1) × Ascending (noneOrAll 4) 4 ×
-    ((j : ℕ) → j + 2 < length (noneOrAll 4) → gapAfter (noneOrAll 4) (j + 1) ≤ 2 * gapAfter (noneOrAll 4) j) ×
-    BoundFails (level 4 0 1) (noneOrAll 4) 2
-first-above-ratio = (wider-gaps .0, wider-gaps .1, λ j h. absurd (omega arith), wider-gaps .3)
+    Plannable (level 8 0 1) × Ascending wideFirst 8 ×
+    ((j : ℕ) → j + 2 < length wideFirst → gapAfter wideFirst (j + 1) ≤ 2 * gapAfter wideFirst j) × BoundFails (level 8 0 1) wideFirst 2
+first-above-ratio =
+    (wider-gaps .0, wider-gaps .1, λ j h. let first : j ≡ 0 = omega arith in rw first (omega arith), wider-gaps .3)
 
 -- So it may over a list with a gap of more than twice the gap before it, with all other rules kept: here 8 against 2.
 pub gap-above-ratio : Plannable (level 8 0 2) × Ascending wideGap 8 × (countAtPlace wideGap 1 ≤ 2) × BoundFails (level 8 0 2) wideGap 2
@@ -277,18 +284,20 @@ unfolding leastOver leastFrom operatingCost
 running-needs-convex = lit< tt
 
 -- Nor is it convex from a count on that cannot serve the load: a load of 1 with no, one and two modules costs 0, 2 and 2.
-pub running-needs-served : operatingCost straight 0 1 + operatingCost straight 2 1 < 2 * operatingCost straight 1 1
-unfolding leastOver leastFrom operatingCost
-running-needs-served = lit< tt
+pub running-needs-served :
+    Convex (straight .topStep) (straight .table) × (canServe straight 0 1 ≡ false) ×
+    (operatingCost straight 0 1 + operatingCost straight 2 1 < 2 * operatingCost straight 1 1)
+unfolding leastOver leastFrom canServe operatingCost
+running-needs-served = (λ k h. let first : k ≡ 0 = omega arith in rw first (omega arith), refl, lit< tt)
 
 -- Nor need the plan by thresholds be the least: one module, which costs 1, and not three, which cost 0. The list is all counts, and two rounds
 -- are as many as it needs.
 pub threshold-needs-convex :
-    LoadsFit bent × (allCounts 3 ≡ 0 ∷ 1 ∷ 2 ∷ 3 ∷ []) × (planServes bent (3 ∷ []) ≡ true) ×
+    LoadsFit bent × Ascending (allCounts 3) 3 × (lastPlace (allCounts 3) < 2 ^ 2) × (planServes bent (3 ∷ []) ≡ true) ×
     (countsCost bent 0 (3 ∷ []) < countsCost bent 0 (thresholdPlan bent (allCounts 3) 0 2))
 unfolding every sum tabulate allCounts canServe operatingCost planServes countAt slotCost countsCost leastOver leastFrom
     thresholdPlan rounds backward forward fromEnd backTo sideAt leadBefore judge carried raisedPlace firstLead isLess
-threshold-needs-convex = (λ t h. omega arith, refl, refl, lit< tt)
+threshold-needs-convex = (λ t h. omega arith, all-rules 3 (omega arith) .ascending, lit< tt, refl, lit< tt)
 
 -- With fewer rounds than the list has digits the plan by thresholds need not serve.
 pub threshold-needs-rounds :
