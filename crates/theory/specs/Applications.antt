@@ -2,7 +2,7 @@
 -- whole sitting of the examples, and of card A with the catalogue module's table.
 use Prim.Native.Nat.{ℕ, _*_, _≤_}
 use mathlib.Core.Path.{_≡_, refl}
-use mathlib.Core.Bool.{true}
+use mathlib.Core.Bool.{true, false}
 use mathlib.Core.List.{List, [], _∷_, _++_, flatMap}
 use mathlib.Core.Option.{Option·elim}
 use native.Mathlib.Omega.{arith}
@@ -36,9 +36,11 @@ use Rattle.model.specs.Explanation.{countsOperatingCost, countsSwitchingCost, e
 use Rattle.model.specs.Explanation.{NoBetterSpread, NoBetterChoice, NoBetterPlan}
 use Rattle.model.specs.Acts.{readLowest, isUnopened, isOpened, isClosed, submissionRefused, actSpec}
 use Rattle.model.specs.declared.Reply.{Reply}
+use Rattle.model.specs.declared.Sitting.{Sitting}
+use Rattle.model.specs.Answers.{numberOf}
 use Rattle.model.specs.SittingState.{lowerOf, phaseOf, lowestOf, sittingAfter, seatsAfter}
 use Rattle.model.specs.Sittings.{answerTo, markedWith, eventWith, eventOf, told, toldBy, replyWith, replyOf, seatsAtExit}
-use Rattle.model.specs.Sittings.{toldInTurn, leftBy, StartsAfresh, from-unopened, LentCard, toldFrom}
+use Rattle.model.specs.Sittings.{toldInTurn, leftBy, StartsAfresh, from-unopened, from-opening, LentCard, toldFrom}
 use Rattle.model.specs.Catalogue.{catalogueEntry, catalogueBytes}
 use Rattle.model.specs.Specs.{firstOf, anyShort, atExit}
 use Rattle.model.specs.Calls.{catalogueTable, specOf, answer, Accepted}
@@ -47,7 +49,7 @@ use Rattle.model.specs.Promises.{OthersInOrder}
 use Rattle.model.specs.Examples.{cardA, cardUp, agrees}
 use Rattle.model.specs.SittingExamples.{sittingOf, odd, wholeSitting}
 use Rattle.theory.specs.SittingRuns.{any-sequence}
-use Rattle.theory.specs.SittingBounds.{lowest-at-least}
+use Rattle.theory.specs.SittingBounds.{submissions-within, lowest-at-least}
 
 -- Example E meets the hypotheses.
 pub example-plannable : Plannable exampleE
@@ -215,14 +217,33 @@ lowest-told = (refl, refl)
 pub lowest-applied : plannedCost exact (instanceOf cardA) ≤ lowestOfSeven .cost
 lowest-applied = lowest-at-least cardA whole-starts whole-lent 0 7 (lowest-told .0)
 
+-- Without their first act the acts start afresh with any sitting, by their opening: here with a closed one.
+opening-starts : StartsAfresh (sittingOf 2 3 1 32) (odd ∷ odd ∷ []) (drop 1 wholeSitting)
+unfolding agrees answerTo actSpec
+opening-starts = from-opening _ _ _ _ _ _ 32 refl
+
+pub opening-applied : toldInTurn (sittingOf 2 3 1 32) (odd ∷ odd ∷ []) (drop 1 wholeSitting) ≡ toldFrom 2 [] (drop 1 wholeSitting)
+opening-applied = any-sequence opening-starts
+
+-- The sitting that they leave is open, and its allowance of one is spent: 1 ≤ 1.
+abbrev leftOpen : Sitting
+leftOpen = leftBy (sittingOf 2 3 1 32) (odd ∷ odd ∷ []) (drop 1 wholeSitting) .0
+
+left-computed : (isUnopened (phaseOf (leftOpen .state)) ≡ false) × (leftOpen .submissions ≡ 1) × (leftOpen .allowance ≡ 1)
+unfolding lowest-told
+left-computed = (refl, refl, refl)
+
+pub submissions-applied : leftOpen .submissions ≤ leftOpen .allowance
+submissions-applied = submissions-within opening-starts (left-computed .0)
+
 -- Card A with the catalogue module's table: what the catalogue call wrote for top step 2 stands where its table stands.
 abbrev catalogueA : List ℕ
 catalogueA = take headLength cardA ++ (catalogueBytes 2 ++ drop (loadPlace 2 0) cardA)
 
 -- It meets what the call's contract asks of a card, and its other fields are in order.
 pub catalogue-applied :
-    (instanceOf catalogueA .topStep ≡ 2) ×
+    (numberOf (answer (catalogueTable 2 (replicate 12 7))) ≡ 0) × (instanceOf catalogueA .topStep ≡ 2) ×
     (tableOf catalogueA ≡ take (tableSize 2) (tableAtExit (catalogueTable 2 (replicate 12 7)))) × OthersInOrder catalogueA
 unfolding every rows sameList littleEndian bytesOf instanceOf catalogueEntry catalogueBytes specOf firstOf answer anyShort atExit
     buffersAtExit tableAtExit cardLength loadsInRange
-catalogue-applied = (refl, refl, record { others = refl; power-up = omega arith; power-down = omega arith })
+catalogue-applied = (refl, refl, refl, record { others = refl; power-up = omega arith; power-down = omega arith })
