@@ -85,7 +85,7 @@ module _ (i : Instance) where
           load = λ t h. rw top (load-read t h);
         }
 
--- Of two shows that agree, both are in order or neither is.
+-- Of two shows that are the same, both are in order or neither is.
 same-tests : {i j : Instance} → SameShow i j → rackTests j ++ bodyTests j ≡ rackTests i ++ bodyTests i
 unfolding pricesInRange loadsInRange
 same-tests {i} {j} same =

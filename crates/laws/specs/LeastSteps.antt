@@ -56,7 +56,7 @@ module _ (i : Instance) where
       (λ (h : i .topStep < k). let none : i .topStep - k ≡ 0 = omega arith in rw none)
       (le-or-lt k (i .topStep))
 
-  -- Where the table never falls, a module is active at the step itself, and G is F: document 02, §2, changes no plan and no cost there.
+  -- Where the table never falls, a module is active at the step itself, and G is F.
   pub never-falling-same : NeverFalls (i .topStep) (i .table) → (k : ℕ) → (activeStep i k ≡ k) × (leastFrom i k ≡ i .table k)
   never-falling-same rises k =
       let own = own-step k (rises-to (i .table) (i .topStep) rises k) in

@@ -37,7 +37,8 @@ plans n c l r cost p =
 abbrev refuses : String → (card list : List ℕ) → (ratio number : ℕ) → Example
 refuses n c l r number = row n (planShow (listed l r) c (sevens 3) (sevens 800)) number 0 (sevens 3 ∷ sevens 800 ∷ [])
 
--- Lists that keep the rules: the plan limited to the list, its cost, ties, and the bytes asked for.
+-- Lists that keep the rules: the plan limited to the list, its cost, ties, and the bytes asked for. In the row "an entry between the loads"
+-- the list lacks the one count between them, 2.
 listRows : List Example
 listRows =
     plans "E with 0 2 4 8, at most twice the least" cardE listE 2 8 (8 ∷ 8 ∷ 8 ∷ []) ∷
@@ -62,7 +63,8 @@ listRows =
     (over 5 (8 ∷ 8 ∷ 8 ∷ []) ∷ over 14 (replicate 12 0) ∷ []) ∷
     []
 
--- Refusal 18, by each rule, 8 before it, and 10 behind it. More than 201 entries, fewer than two and ratio 0 break another rule too.
+-- Refusal 18, by each rule, 8 before it, and 10 behind it. More than 201 entries, fewer than two, 0 twice and ratio 0 break another rule
+-- too.
 listRefusedRows : List Example
 listRefusedRows =
     refuses "not from 0 on" cardE (1 ∷ 2 ∷ 4 ∷ 8 ∷ []) 2 18 ∷

@@ -73,7 +73,7 @@ moved-serves : serves exampleE movedSheet ≡ true
 unfolding every sum stateAt sheetLength sheetEntries lightAt sheetLight serves
 moved-serves = refl
 
--- A list of allowed counts whose gaps are as wide as the ratio 2 lets them be.
+-- A list of allowed counts whose first two gaps are as wide as the ratio 2 lets them be.
 abbrev wideCounts : List ℕ
 wideCounts = 0 ∷ 2 ∷ 6 ∷ 8 ∷ []
 

@@ -1,8 +1,8 @@
 -- The theorems, a module a subject. Every statement is over instances and lists of any size. The end theorems are in SheetLaws,
 -- RunningCosts, ThresholdPlans, Enumeration, Average, CountLists, Condition3, Explanations, RearrangedSheets, SmallestPlans, Refusals,
 -- Outcomes, ExplainedSheets, CourseBook, ListedCounts, LongInput, Generator and PracticeCards, and the other modules lead to them.
--- Counterexamples shows that their hypotheses are needed, and Applications that they can be met. RelatedCards and BookExamples show that
--- the hypotheses of CourseBook can be met, and that sharper forms of its facts fail.
+-- Counterexamples shows that some of their hypotheses are needed, and Applications that they can be met. RelatedCards and BookExamples show
+-- that the hypotheses of CourseBook can be met, and that sharper forms of its facts fail.
 pub mod Columns
 pub mod Hypotheses
 pub mod RowCosts

@@ -101,7 +101,7 @@ fallingRow =
       least = 2 ∷ 4 ∷ 6 ∷ 3 ∷ 3 ∷ 3 ∷ [];
     }
 
--- All counts from a start count, with loads that rise and fall twice.
+-- All counts from a start count, with loads that rise, fall and rise again.
 abbrev risingTwiceRow : Row
 risingTwiceRow =
     record {
