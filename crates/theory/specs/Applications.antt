@@ -3,27 +3,21 @@
 use Prim.Native.Nat.{ℕ, _*_, _≤_}
 use mathlib.Core.Path.{_≡_, refl}
 use mathlib.Core.Bool.{true, false}
-use mathlib.Core.List.{List, [], _∷_, _++_, flatMap}
+use mathlib.Core.List.{List, [], _∷_, _++_}
 use mathlib.Core.Option.{Option·elim}
 use native.Mathlib.Omega.{arith}
 use lib.Dec.{leb, lit<}
 use lib.ListN.{getD, take, drop, replicate}
 use borrow.Author.Tests.{leb-true}
 use Rattle.lists.specs.Tests.{every, every-at}
-use Rattle.lists.specs.Sums.{sum}
-use Rattle.lists.specs.Ranges.{leastOver, firstOver}
-use Rattle.lists.specs.Lists.{tabulate, rows, keep, sameList}
-use Rattle.lists.specs.Bytes.{littleEndian, bytesOf}
+use Rattle.lists.specs.Lists.{tabulate}
 use Rattle.lists.specs.Members.{Each}
 use Rattle.lists.specs.FirstPlace.{occurs, firstPlace, changeFirst}
-use Rattle.model.specs.Instance.{Instance, instanceOf, headLength, loadPlace, tableSize, tableOf, cardLength, loadsInRange}
-use Rattle.model.specs.MoreLight.{leastFrom, activeStep}
-use Rattle.model.specs.Counts.{canServe, operatingCost, allCounts, powerOfTwo, coarseCounts}
-use Rattle.model.specs.CountRules.{strictlyAscends, gapsGrowBy, endsAt, ratioInRange, keepsRules}
-use Rattle.model.specs.Sheets.{off, stateAt, sheetLength, sheetEntries, lightAt, sheetLight, serves, stepCost, changeCost}
-use Rattle.model.specs.Sheets.{sheetOperatingCost, sheetSwitchingCost, sheetCost, activeAt, countsOf}
+use Rattle.model.specs.Instance.{Instance, instanceOf, headLength, loadPlace, tableSize, tableOf}
+use Rattle.model.specs.Counts.{allCounts, coarseCounts}
+use Rattle.model.specs.Sheets.{off, serves, sheetCost, activeAt, countsOf}
 use Rattle.model.specs.Thesis.{countAt, slotCost, countsCost}
-use Rattle.model.specs.Plans.{moduleByte, slotRow, sheetOf, planCost, planServes, plansInOrder, cheapest, cheapestOf, leastPlan, leastCost}
+use Rattle.model.specs.Plans.{leastPlan, leastCost}
 use Rattle.thresholds.specs.Thresholds.{thresholdPlan}
 use Rattle.theory.specs.Hypotheses.{Plannable}
 use Rattle.theory.specs.SheetLaws.{sheet-at-least}
@@ -31,7 +25,7 @@ use Rattle.theory.specs.CountLists.{InRules, rules-hold, all-rules}
 use Rattle.theory.specs.Condition3.{threshold-plan, exact-least, list-ratio, coarse-twice, planner-bound, accepted-plannable}
 use Rattle.theory.specs.Explanations.{spread-zero, swaps-zero, counts-zero}
 use Rattle.theory.specs.Counterexamples.{exampleE, steadySheet, steady-serves}
-use Rattle.model.specs.Planners.{exact, coarse, listed, allowedCounts, plannedCost}
+use Rattle.model.specs.Planners.{exact, coarse, listed, plannedCost}
 use Rattle.model.specs.Explanation.{countsOperatingCost, countsSwitchingCost, excessOperatingCost, excessSwitchingCost, excessOfCounts}
 use Rattle.model.specs.Explanation.{NoBetterSpread, NoBetterChoice, NoBetterPlan}
 use Rattle.model.specs.Acts.{readLowest, isUnopened, isOpened, isClosed, submissionRefused, actSpec}
@@ -41,10 +35,8 @@ use Rattle.model.specs.Answers.{numberOf}
 use Rattle.model.specs.SittingState.{lowerOf, phaseOf, lowestOf, sittingAfter, seatsAfter}
 use Rattle.model.specs.Sittings.{answerTo, markedWith, eventWith, eventOf, told, toldBy, replyWith, replyOf, seatsAtExit}
 use Rattle.model.specs.Sittings.{toldInTurn, leftBy, StartsAfresh, from-unopened, from-opening, LentCard, toldFrom}
-use Rattle.model.specs.Catalogue.{catalogueEntry, catalogueBytes}
-use Rattle.model.specs.Specs.{firstOf, anyShort, atExit}
-use Rattle.model.specs.Calls.{catalogueTable, specOf, answer, Accepted}
-use Rattle.model.specs.Calls.{buffersAtExit, tableAtExit}
+use Rattle.model.specs.Catalogue.{catalogueBytes}
+use Rattle.model.specs.Calls.{catalogueTable, answer, Accepted, tableAtExit}
 use Rattle.model.specs.Promises.{OthersInOrder}
 use Rattle.model.specs.Examples.{cardA, cardUp, agrees}
 use Rattle.model.specs.SittingExamples.{sittingOf, odd, wholeSitting}
@@ -70,7 +62,7 @@ movedSheet =
     off ∷ off ∷ off ∷ 1 ∷ 1 ∷ 1 ∷ 1 ∷ 1 ∷ []
 
 moved-serves : serves exampleE movedSheet ≡ true
-unfolding every sum stateAt sheetLength sheetEntries lightAt sheetLight serves
+unfolding agrees serves
 moved-serves = refl
 
 -- A list of allowed counts whose first two gaps are as wide as the ratio 2 lets them be.
@@ -78,15 +70,13 @@ abbrev wideCounts : List ℕ
 wideCounts = 0 ∷ 2 ∷ 6 ∷ 8 ∷ []
 
 wide-rules : InRules wideCounts 2 (exampleE .modules)
-unfolding every strictlyAscends gapsGrowBy endsAt ratioInRange keepsRules
+unfolding agrees
 wide-rules = rules-hold wideCounts 2 (exampleE .modules) refl .0
 
 -- The moved sheet costs 10 and its counts 7, and the least cost over the wide counts is 6.
 costs-computed :
     (sheetCost exampleE movedSheet ≡ 10) × (countsCost exampleE 0 (countsOf exampleE movedSheet) ≡ 7) × (leastCost exampleE wideCounts ≡ 6)
-unfolding every sum tabulate rows keep flatMap canServe operatingCost stateAt stepCost changeCost sheetOperatingCost sheetSwitchingCost
-    sheetCost activeAt countsOf countAt slotCost countsCost moduleByte slotRow sheetOf planCost planServes plansInOrder cheapest
-    cheapestOf leastPlan leastOver firstOver leastFrom activeStep
+unfolding agrees activeAt countsOf countAt slotCost countsCost
 costs-computed = (refl, refl, refl)
 
 -- The counts of the moved sheet cost no more than the sheet: 7 ≤ 10.
@@ -95,9 +85,7 @@ sheet-at-least-applied = sheet-at-least exampleE (example-plannable .convex) mov
 
 -- The moved sheet costs 10, which is 5 above the least: 3 points are swaps, and 2 are counts.
 moved-points : (excessSwitchingCost exampleE movedSheet ≡ 3) × (excessOfCounts exampleE movedSheet ≡ 2)
-unfolding every sum tabulate rows keep flatMap canServe operatingCost allCounts allowedCounts stateAt stepCost changeCost sheetOperatingCost
-    sheetSwitchingCost sheetCost activeAt countsOf countAt moduleByte slotRow sheetOf planCost planServes plansInOrder cheapest cheapestOf
-    leastPlan leastOver firstOver leastFrom activeStep countsSwitchingCost excessSwitchingCost excessOfCounts
+unfolding agrees activeAt countsOf countAt countsSwitchingCost excessSwitchingCost excessOfCounts
 moved-points = (refl, refl)
 
 -- So some pattern with the same counts has a lower switching cost.
@@ -123,7 +111,7 @@ list-ratio-applied = list-ratio example-plannable wideCounts 2 wide-rules steady
 
 -- The plan limited to the list 0 2 4 8 with the ratio 2 costs at most twice as much too: 8 ≤ 10.
 pub planner-bound-applied : plannedCost (listed (0 ∷ 2 ∷ 4 ∷ 8 ∷ []) 2) exampleE ≤ 2 * sheetCost exampleE steadySheet
-unfolding every strictlyAscends gapsGrowBy endsAt ratioInRange keepsRules
+unfolding agrees
 planner-bound-applied = planner-bound (listed (0 ∷ 2 ∷ 4 ∷ 8 ∷ []) 2) example-plannable refl steadySheet steady-serves
 
 -- The coarse plan costs at most twice as much as the steady sheet: 8 ≤ 10.
@@ -160,10 +148,7 @@ threeAtTop = 2 ∷ 2 ∷ 2 ∷ off ∷ []
 falling-computed :
     (serves falling threeAtTop ≡ true) × (excessOperatingCost falling threeAtTop ≡ 0) × (sheetCost falling threeAtTop ≡ 3) ×
     (leastCost falling (coarseCounts (falling .modules)) ≡ 4)
-unfolding every sum tabulate rows keep flatMap canServe operatingCost allCounts powerOfTwo coarseCounts stateAt sheetLength sheetEntries
-    lightAt sheetLight serves stepCost changeCost sheetOperatingCost sheetSwitchingCost sheetCost activeAt countsOf countAt moduleByte slotRow
-    sheetOf planCost planServes plansInOrder cheapest cheapestOf leastPlan leastOver firstOver leastFrom activeStep countsOperatingCost
-    excessOperatingCost
+unfolding agrees serves activeAt countsOf countAt countsOperatingCost excessOperatingCost
 falling-computed = (refl, refl, refl, refl)
 
 -- No sheet that serves with the same three modules active costs less; with just the load it costs 12.
@@ -244,6 +229,5 @@ catalogueA = take headLength cardA ++ (catalogueBytes 2 ++ drop (loadPlace 2 0) 
 pub catalogue-applied :
     (numberOf (answer (catalogueTable 2 (replicate 12 7))) ≡ 0) × (instanceOf catalogueA .topStep ≡ 2) ×
     (tableOf catalogueA ≡ take (tableSize 2) (tableAtExit (catalogueTable 2 (replicate 12 7)))) × OthersInOrder catalogueA
-unfolding every rows sameList littleEndian bytesOf instanceOf catalogueEntry catalogueBytes specOf firstOf answer anyShort atExit
-    buffersAtExit tableAtExit cardLength loadsInRange
+unfolding agrees
 catalogue-applied = (refl, refl, refl, record { others = refl; power-up = omega arith; power-down = omega arith })

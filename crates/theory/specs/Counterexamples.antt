@@ -2,7 +2,7 @@
 use Prim.Native.Nat.{ℕ, zero, suc, _+_, _*_, _^_, _≤_, _<_, max}
 use mathlib.Core.Path.{_≡_, refl}
 use mathlib.Core.Bool.{true, false}
-use mathlib.Core.List.{List, [], _∷_, _++_, flatMap, headD}
+use mathlib.Core.List.{List, [], _∷_, _++_}
 use native.Mathlib.Omega.{arith}
 use lib.ListN.{length, getD, take, set}
 use lib.Dec.{leb, lit<}
@@ -11,20 +11,18 @@ use Rattle.lists.specs.Tests.{every, every-at}
 use Rattle.lists.specs.Sums.{sum}
 use Rattle.lists.specs.Ranges.{leastOver, firstOver}
 use Rattle.lists.specs.Backwards.{fromEnd, backTo}
-use Rattle.lists.specs.Lists.{tabulate, rows, keep}
+use Rattle.lists.specs.Lists.{tabulate, rows}
 use Rattle.lists.specs.Bytes.{littleEndian, bytesOf}
 use Rattle.model.specs.Instance.{Instance, instanceOf, topStepPlace, headLength, tableOf}
 use Rattle.model.specs.MoreLight.{leastFrom, activeStep}
-use Rattle.model.specs.Counts.{canServe, operatingCost, allCounts, powerOfTwo, coarseCounts, roundedCount}
-use Rattle.model.specs.Counts.{printedCases, caseValue, roundedByCases}
-use Rattle.model.specs.CountRules.{gapAfter, strictlyAscends, gapsGrowBy, endsAt, ratioInRange, keepsRules}
-use Rattle.model.specs.Sheets.{off, stateAt, sheetLength, sheetEntries, lightAt, sheetLight, serves, stepCost, changeCost}
-use Rattle.model.specs.Sheets.{sheetOperatingCost, sheetSwitchingCost, sheetCost, activeAt, countsOf}
+use Rattle.model.specs.Counts.{canServe, operatingCost, allCounts, coarseCounts, roundedCount, roundedByCases}
+use Rattle.model.specs.CountRules.{gapAfter}
+use Rattle.model.specs.Sheets.{off, sheetLength, sheetEntries, sheetLight, serves, stepCost, sheetOperatingCost, sheetCost, activeAt, countsOf}
 use Rattle.model.specs.Thesis.{countAt, slotCost, countsCost}
-use Rattle.model.specs.Plans.{moduleByte, slotRow, sheetOf, planCost, planServes, plansInOrder, cheapest, cheapestOf, leastPlan, leastCost}
+use Rattle.model.specs.Plans.{planCost, planServes, leastCost}
 use Rattle.model.specs.Explanation.{countsOperatingCost}
 use Rattle.model.specs.Catalogue.{catalogueEntry, catalogueBytes}
-use Rattle.model.specs.Examples.{cardA}
+use Rattle.model.specs.Examples.{cardA, agrees}
 use Rattle.laws.specs.Tables.{Convex}
 use Rattle.laws.specs.LeastSteps.{lowestStep}
 use Rattle.thresholds.specs.Places.{countAtPlace, lastPlace, Ascending, GrowsBy}
@@ -97,8 +95,7 @@ pub spread-needs-convex :
     let i = withLoad (0 ∷ 2 ∷ 3 ∷ []) in
     let s : List ℕ = 0 ∷ 2 ∷ [] in
     (serves i s ≡ true) × (sheetOperatingCost i s < countsOperatingCost i (countsOf i s))
-unfolding every sum tabulate stateAt sheetLength sheetEntries lightAt sheetLight serves stepCost sheetOperatingCost operatingCost leastOver
-    leastFrom activeAt countsOf countAt countsOperatingCost
+unfolding agrees serves activeAt countsOf countAt countsOperatingCost
 spread-needs-convex = (refl, lit< tt)
 
 -- So can a sheet with too little light on a convex table: 0 and not 2.
@@ -107,8 +104,7 @@ pub spread-needs-light :
     let s : List ℕ = 0 ∷ 0 ∷ [] in
     Convex (i .topStep) (i .table) × (sheetLength i s ≡ true) × (sheetEntries i s ≡ true) × (sheetLight i s ≡ false) ×
     (sheetOperatingCost i s < countsOperatingCost i (countsOf i s))
-unfolding every sum tabulate stateAt sheetLength sheetEntries lightAt sheetLight stepCost sheetOperatingCost operatingCost leastOver
-    leastFrom activeAt countsOf countAt countsOperatingCost
+unfolding agrees activeAt countsOf countAt countsOperatingCost
 spread-needs-light = (λ k h. let first : k ≡ 0 = omega arith in rw first (omega arith), refl, refl, refl, lit< tt)
 
 -- Document 01's example E.
@@ -132,16 +128,14 @@ steadySheet =
     1 ∷ 1 ∷ 1 ∷ 1 ∷ 1 ∷ off ∷ off ∷ off ∷ []
 
 pub steady-serves : serves exampleE steadySheet ≡ true
-unfolding every sum stateAt sheetLength sheetEntries lightAt sheetLight serves
+unfolding agrees serves
 steady-serves = refl
 
 -- The least cost over all counts is 5, over the coarse ones 8, and the sheet costs 5.
 costs-computed :
     (leastCost exampleE (allCounts (exampleE .modules)) ≡ 5) × (leastCost exampleE (coarseCounts (exampleE .modules)) ≡ 8) ×
     (sheetCost exampleE steadySheet ≡ 5)
-unfolding every sum tabulate rows keep flatMap canServe allCounts powerOfTwo coarseCounts stateAt stepCost changeCost
-    sheetOperatingCost sheetSwitchingCost sheetCost moduleByte slotRow sheetOf planCost planServes plansInOrder cheapest cheapestOf
-    leastPlan leastOver firstOver leastFrom activeStep
+unfolding agrees
 costs-computed = (refl, refl, refl)
 
 -- The coarse plan may cost more than a sheet that serves: here 8 against 5.
@@ -188,9 +182,7 @@ BoundAttained i counts r = (s : List ℕ) × (serves i s ≡ true) × (r * sheet
 -- The costs are 4 against 1, 8 against 2, and 2 against 1.
 bounds-computed :
     BoundFails (level 8 0 1) wideFirst 2 × BoundFails (level 8 0 2) wideGap 2 × BoundAttained (level 2 0 1) (noneOrAll 2) 2
-unfolding every sum rows tabulate keep flatMap canServe stateAt sheetLength sheetEntries lightAt sheetLight serves stepCost changeCost
-    sheetOperatingCost sheetSwitchingCost sheetCost moduleByte slotRow sheetOf planCost planServes plansInOrder cheapest cheapestOf
-    leastPlan leastOver firstOver leastFrom activeStep
+unfolding agrees serves
 bounds-computed = (
   (1 ∷ off ∷ off ∷ off ∷ off ∷ off ∷ off ∷ off ∷ [], refl, lit< tt),
   (1 ∷ 1 ∷ off ∷ off ∷ off ∷ off ∷ off ∷ off ∷ [], refl, lit< tt),
@@ -203,7 +195,7 @@ pub wider-gaps :
     Plannable (level 8 0 1) × Ascending wideFirst 8 ×
     ((j : ℕ) → j + 1 < length wideFirst → countAtPlace wideFirst (j + 1) ≤ 2 * (countAtPlace wideFirst j + 2)) ×
     BoundFails (level 8 0 1) wideFirst 2
-unfolding every strictlyAscends gapsGrowBy endsAt ratioInRange keepsRules
+unfolding agrees
 wider-gaps = (
   level-plannable 8 0 1 (omega arith) (omega arith),
   rules-hold wideFirst 4 8 refl .0 .ascending,
@@ -220,7 +212,7 @@ first-above-ratio =
 
 -- So it may over a list with a gap of more than twice the gap before it, with all other rules kept: here 8 against 2.
 pub gap-above-ratio : Plannable (level 8 0 2) × Ascending wideGap 8 × (countAtPlace wideGap 1 ≤ 2) × BoundFails (level 8 0 2) wideGap 2
-unfolding every strictlyAscends gapsGrowBy endsAt ratioInRange keepsRules
+unfolding agrees
 gap-above-ratio = (
   level-plannable 8 0 2 (omega arith) (omega arith),
   rules-hold wideGap 7 8 refl .0 .ascending,
@@ -230,7 +222,7 @@ gap-above-ratio = (
 
 -- Over a list that keeps all rules the least plan may cost exactly the ratio times as much as a sheet that serves: here 2 against 1.
 pub ratio-attained : Plannable (level 2 0 1) × InRules (noneOrAll 2) 2 2 × BoundAttained (level 2 0 1) (noneOrAll 2) 2
-unfolding every strictlyAscends gapsGrowBy endsAt ratioInRange keepsRules
+unfolding agrees
 ratio-attained = (level-plannable 2 0 1 (omega arith) (omega arith), rules-hold (noneOrAll 2) 2 2 refl .0, bounds-computed .2)
 
 -- More modules may cost more in total, though their average falls: here 2 against 1.
@@ -240,8 +232,7 @@ total-rises = lit< tt
 
 -- A plan costs more than its counts with one module active before the first slot: here 1 against 0.
 pub all-off-before : PlanFits (level 2 0 1) (1 ∷ []) × (countsCost (level 2 0 1) 1 (1 ∷ []) < planCost (level 2 0 1) (1 ∷ []))
-unfolding every sum rows tabulate canServe operatingCost stateAt stepCost changeCost sheetOperatingCost sheetSwitchingCost sheetCost
-    moduleByte slotRow sheetOf planCost planServes countAt slotCost countsCost leastOver firstOver leastFrom activeStep
+unfolding agrees countAt slotCost countsCost
 all-off-before = (
   record {
     steps = omega arith;
@@ -295,8 +286,8 @@ running-needs-served = (λ k h. let first : k ≡ 0 = omega arith in rw first (o
 pub threshold-needs-convex :
     LoadsFit bent × Ascending (allCounts 3) 3 × (lastPlace (allCounts 3) < 2 ^ 2) × (planServes bent (3 ∷ []) ≡ true) ×
     (countsCost bent 0 (3 ∷ []) < countsCost bent 0 (thresholdPlan bent (allCounts 3) 0 2))
-unfolding every sum tabulate allCounts canServe operatingCost planServes countAt slotCost countsCost leastOver leastFrom
-    thresholdPlan rounds backward forward fromEnd backTo sideAt leadBefore judge carried raisedPlace firstLead isLess
+unfolding agrees countAt slotCost countsCost thresholdPlan rounds backward forward fromEnd backTo sideAt leadBefore judge carried raisedPlace
+    firstLead isLess
 threshold-needs-convex = (λ t h. omega arith, all-rules 3 (omega arith) .ascending, lit< tt, refl, lit< tt)
 
 -- With fewer rounds than the list has digits the plan by thresholds need not serve.
@@ -319,5 +310,5 @@ other-top-step = (refl, refl, lit< tt)
 -- The course book's list of cases ends at 200, and it is for the counts of a rack: for 129 modules of a rack of 201 it gives 200 and not 201,
 -- and for 2 modules of a rack of 1 it gives 1, where no allowed count is large enough.
 pub list-for-racks : (roundedByCases 201 129 < roundedCount 201 129) × (roundedCount 1 2 < roundedByCases 1 2)
-unfolding every tabulate keep headD allCounts powerOfTwo coarseCounts roundedCount printedCases caseValue roundedByCases
+unfolding agrees
 list-for-racks = (lit< tt, lit< tt)
