@@ -17,8 +17,7 @@ use Rattle.model.specs.Answers.{numberOf}
 use Rattle.model.specs.Instance.{tableSize, rackNumber}
 use Rattle.model.specs.Catalogue.{catalogueTop, catalogueEntry, entryOf, TestedTable, catalogueBytes}
 use Rattle.model.specs.Specs.{anyShort, firstOf, tableBuffer, atExit}
-use Rattle.model.specs.Calls.{catalogueTable, specOf, answer}
-use Rattle.model.specs.Calls.{buffersAtExit, tableAtExit}
+use Rattle.model.specs.Calls.{catalogueTable, specOf, answer, buffersAtExit, tableAtExit}
 use Rattle.model.specs.Promises.{WritesTable}
 use Rattle.laws.specs.Acceptance.{rack-range}
 use Rattle.laws.specs.CardTables.{head-top, table-behind}

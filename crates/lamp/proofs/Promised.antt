@@ -18,12 +18,10 @@ use Rattle.model.specs.Instance.{instanceOf}
 use Rattle.model.specs.Sheets.{serves, sheetCost}
 use Rattle.model.specs.Plans.{sheetOf}
 use Rattle.model.specs.Planners.{Planner, exact, listed, allowedCounts, ratioOf, plannedBy, plannedCost}
-use Rattle.model.specs.Calls.{NumbersOf, Gives, Accepted, planShow, makeSheet, markSheet, practiceCard, catalogueTable, answer}
-use Rattle.model.specs.Calls.{planAtExit, workAtExit, sheetAtExit, cardAtExit, tableAtExit}
-use Rattle.model.specs.Acts.{actSpec}
-use Rattle.model.specs.Calls.{actIn, specOf, buffersAtExit, explainSheet}
+use Rattle.model.specs.Calls.{NumbersOf, Gives, Accepted, planShow, makeSheet, markSheet, practiceCard, catalogueTable, answer, planAtExit}
+use Rattle.model.specs.Calls.{workAtExit, sheetAtExit, cardAtExit, tableAtExit, actIn, specOf, buffersAtExit, explainSheet}
+use Rattle.model.specs.Acts.{actSpec, Act, openSitting, readLeast, opened, unopened, isClosed}
 use Rattle.model.specs.ExplainedPoints.{explainedWork, pointsOf}
-use Rattle.model.specs.Acts.{Act, openSitting, readLeast, opened, unopened, isClosed}
 use Rattle.model.specs.SittingState.{factsOf, stateOf, phaseOf}
 use Rattle.model.specs.Sittings.{answerTo, markedWith, told, toldBy, replyWith, replyOf}
 use Rattle.model.specs.Promises.{OwnSheet, AtMostTimes, MarkedAlike, AcceptsExactly, WritesAccepted, AlwaysEnough, HiddenTillClosed, WritesTable}

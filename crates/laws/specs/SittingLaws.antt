@@ -10,12 +10,11 @@ use Rattle.lists.specs.Tests.{and-left, and-right, or-left}
 use Rattle.model.specs.declared.Refusal.{Refusal}
 use Rattle.model.specs.declared.Answer.{Answer}
 use Rattle.model.specs.declared.Answer.the-variants.{Cost, Refused}
-use Rattle.model.specs.Acts.{Act, openSitting, seatCandidate, closeSitting, submitSheet, readLeast, readLowest, readUsed}
-use Rattle.model.specs.Acts.{Phase, unopened, opened, closed, isUnopened, isOpened, isClosed, Facts, supervisor, noSeat}
-use Rattle.model.specs.Acts.{Event, nothingDone, submissionCounted, submissionRefused}
+use Rattle.model.specs.Acts.{Act, openSitting, seatCandidate, closeSitting, submitSheet, readLeast, readLowest, readUsed, Phase, unopened, opened}
+use Rattle.model.specs.Acts.{closed, isUnopened, isOpened, isClosed, Facts, supervisor, noSeat, Event, nothingDone, submissionCounted}
+use Rattle.model.specs.Acts.{submissionRefused, submissionTests, actSpec}
 use Rattle.model.specs.Specs.{cardTests, sheetTests, firstOf}
 use Rattle.model.specs.Calls.{markSheet, specOf, answer, Accepted}
-use Rattle.model.specs.Acts.{submissionTests, actSpec}
 use Rattle.model.specs.Answers.{refusalNumber}
 use Rattle.model.specs.Instance.{instanceOf}
 use Rattle.model.specs.Sittings.{answerTo, markedWith, eventOf, told}

@@ -10,8 +10,7 @@ use Rattle.lists.specs.Text.{text}
 use Rattle.lists.specs.Writing.{Room, rows-at-most}
 use Rattle.model.specs.Sheets.{off, isOff}
 use Rattle.model.specs.Listing.{decimal, costLine, planLine, stepText, slotLine, listing, refusedLine}
-use Rattle.listing.specs.Texts.{numberedLine, countText, moduleText, sheetLine, sheetLines}
-use Rattle.listing.specs.Texts.{Printable, LineRoom}
+use Rattle.listing.specs.Texts.{numberedLine, countText, moduleText, sheetLine, sheetLines, Printable, LineRoom}
 use Rattle.listing.proofs.Digits.{decimal-most}
 
 -- A line of a word and a number has at most 20 digits and the line's end after the word.

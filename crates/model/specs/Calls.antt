@@ -2,7 +2,6 @@
 -- 'Refused', 'The plans'; 02 §1, §2, §4, §5, §7, §8).
 use Prim.Native.Nat.{ℕ}
 use mathlib.Core.Path.{_≡_}
-use mathlib.Core.Bool.{not}
 use mathlib.Core.List.{List, [], _∷_, _++_, map}
 use lib.ListN.{getD}
 use lib.Dec.{leb, eqb}
@@ -18,7 +17,7 @@ use Rattle.model.specs.Sheets.{sheetCost}
 use Rattle.model.specs.Plans.{planCost}
 use Rattle.model.specs.Planners.{Planner, exact, plannedCost}
 use Rattle.model.specs.Practice.{practiceShow}
-use Rattle.model.specs.Specs.{Buffer, planBuffer, workBuffer, sheetBuffer, cardBuffer, tableBuffer, anyShort, atExit}
+use Rattle.model.specs.Specs.{planBuffer, workBuffer, sheetBuffer, cardBuffer, tableBuffer, anyShort, atExit}
 use Rattle.model.specs.Specs.{_when_, _unless_, Spec, answering, answerOf, cardTests, sheetTests, planTests, listTests}
 use Rattle.model.specs.Acts.{Act, actSpec}
 use Rattle.model.specs.SittingState.{factsOf, stateOf}

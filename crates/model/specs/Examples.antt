@@ -28,10 +28,9 @@ use Rattle.model.specs.Listing.{digits, decimal, costLine, planLine, ste
 use Rattle.model.specs.Listing.{catalogueLines}
 use Rattle.model.specs.Practice.{xorLeft, xorRight, draw, drawn, practiceDifference, practiceEntry, practiceShow, longestPractice}
 use Rattle.model.specs.Catalogue.{catalogueEntry, followsRule, catalogueBytes}
-use Rattle.model.specs.Calls.{Call, checkCard, runningCost, planShow, makeSheet, markSheet, roundCount, practiceCard}
-use Rattle.model.specs.Specs.{anyShort, cardTests, firstOf, answerOf, atExit}
-use Rattle.model.specs.Calls.{specOf}
-use Rattle.model.specs.Calls.{answer, buffersAtExit, planAtExit, workAtExit, cardAtExit, tableAtExit, outcome}
+use Rattle.model.specs.Calls.{Call, checkCard, runningCost, planShow, makeSheet, markSheet, roundCount, practiceCard, specOf, answer}
+use Rattle.model.specs.Calls.{buffersAtExit, planAtExit, workAtExit, cardAtExit, tableAtExit, outcome}
+use Rattle.model.specs.Specs.{anyShort, cardTests, firstOf, atExit}
 
 -- A show: modules, top step, prices, table, loads.
 abbrev pub showOf : (m q up down : ℕ) → (table loads : List ℕ) → Instance

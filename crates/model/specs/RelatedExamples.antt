@@ -17,9 +17,8 @@ use Rattle.model.specs.Counts.{canServe, allCounts, powerOfTwo, coarseCo
 use Rattle.model.specs.Sheets.{stateAt, stepCost, changeCost, sheetOperatingCost, sheetSwitchingCost, sheetCost}
 use Rattle.model.specs.Plans.{moduleByte, slotRow, sheetOf, planCost, planServes, plansInOrder, cheapest, cheapestOf, leastPlan}
 use Rattle.model.specs.Planners.{Planner, exact, coarse, allowedCounts, workBytes, plannedBy}
-use Rattle.model.specs.Specs.{anyShort, cardTests, firstOf, answerOf, atExit}
-use Rattle.model.specs.Calls.{Gives, planShow, specOf, answer}
-use Rattle.model.specs.Calls.{buffersAtExit, planAtExit}
+use Rattle.model.specs.Specs.{anyShort, cardTests, firstOf, atExit}
+use Rattle.model.specs.Calls.{Gives, planShow, specOf, answer, buffersAtExit, planAtExit}
 use Rattle.model.specs.RelatedShows.{Agree, loadsOf, Reversed, LargerRack, Concatenated, PlannedAt, PlannedAs}
 use Rattle.model.specs.Examples.{showOf, cardOf}
 

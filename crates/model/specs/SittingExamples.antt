@@ -9,15 +9,13 @@ use native.Mathlib.Omega.{arith}
 use Rattle.lists.specs.FirstPlace.{occurs, countOf, firstPlace, changeFirst}
 use Rattle.model.specs.declared.Seat.{Seat}
 use Rattle.model.specs.declared.Sitting.{Sitting}
-use Rattle.model.specs.Acts.{Act, openSitting, seatCandidate, closeSitting, submitSheet, readLeast, readLowest, readUsed}
-use Rattle.model.specs.Acts.{isUnopened, isOpened, isClosed, submissionRefused}
+use Rattle.model.specs.Acts.{Act, openSitting, seatCandidate, closeSitting, submitSheet, readLeast, readLowest, readUsed, isUnopened, isOpened}
+use Rattle.model.specs.Acts.{isClosed, submissionRefused, actSpec}
 use Rattle.model.specs.SittingState.{lowerOf, phaseOf, lowestOf, sittingAfter, seatsAfter}
-use Rattle.model.specs.Acts.{actSpec}
-use Rattle.model.specs.Specs.{cardTests, firstOf, answerOf}
+use Rattle.model.specs.Specs.{cardTests, firstOf}
 use Rattle.model.specs.Calls.{actIn, outcome}
 use Rattle.model.specs.Sittings.{answerTo, markedWith, eventWith, eventOf, Told, told, toldBy, replyWith, replyOf, seatsAtExit, toldInTurn}
-use Rattle.model.specs.Sittings.{effectOf, sinceOpening, smallestOf, lowestAmong}
-use Rattle.model.specs.Sittings.{phaseIn, toldFrom}
+use Rattle.model.specs.Sittings.{effectOf, sinceOpening, smallestOf, lowestAmong, phaseIn, toldFrom}
 use Rattle.model.specs.Examples.{cardA, cardE, cardG, cardI, sheetD, sevens, over, Example, agrees, AllHold, NoneHold}
 
 -- A sitting with its four numbers, and a record with its four.

@@ -13,8 +13,7 @@ use Rattle.model.specs.Plans.{sheetOf}
 use Rattle.model.specs.Planners.{exact, workBytes, plannedBy}
 use Rattle.model.specs.Listing.{listing, refusedLine, exactListing, printed, printedFor}
 use Rattle.model.specs.Specs.{firstOf, sheetBytes, sheetBuffer, planBuffer, anyShort}
-use Rattle.model.specs.Calls.{planShow, makeSheet, specOf, answer}
-use Rattle.model.specs.Calls.{planAtExit, sheetAtExit}
+use Rattle.model.specs.Calls.{planShow, makeSheet, specOf, answer, planAtExit, sheetAtExit}
 use Rattle.laws.specs.Acceptance.{accepted-bounds}
 use Rattle.theory.specs.SheetLaws.{sheet-length}
 use Rattle.theory.specs.Outcomes.{written-taken, best-fits, sheet-accepted, sheet-at-exit, plan-at-exit, planner-refused, planner-room}

@@ -12,8 +12,7 @@ use Rattle.model.specs.declared.Answer.the-variants.{Cost, Refused}
 use Rattle.model.specs.Instance.{cardBytes, cardLength, loadPlace}
 use Rattle.model.specs.Practice.{practiceShow}
 use Rattle.model.specs.Specs.{anyShort, firstOf, cardBuffer, atExit}
-use Rattle.model.specs.Calls.{practiceCard, specOf, answer}
-use Rattle.model.specs.Calls.{buffersAtExit, cardAtExit}
+use Rattle.model.specs.Calls.{practiceCard, specOf, answer, buffersAtExit, cardAtExit}
 use Rattle.laws.specs.Encoding.{card-bytes-length}
 use Rattle.laws.specs.PracticeAccepted.{practice-given}
 use Rattle.practice.specs.declared.FirstDraws.{FirstDraws}

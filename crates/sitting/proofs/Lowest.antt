@@ -9,9 +9,8 @@ use Rattle.model.specs.declared.Answer.the-variants.{Cost, Refused}
 use Rattle.model.specs.declared.Seat.{Seat}
 use Rattle.model.specs.declared.Sitting.{Sitting}
 use Rattle.model.specs.declared.Reply.{Reply}
-use Rattle.model.specs.Acts.{readLowest}
+use Rattle.model.specs.Acts.{readLowest, actSpec}
 use Rattle.model.specs.SittingState.{lowestOf, lowerOf, markedRecord, sittingAfter}
-use Rattle.model.specs.Acts.{actSpec}
 use Rattle.model.specs.Sittings.{answerTo, markedWith, eventWith, eventOf, told, replyWith}
 use Rattle.seats.specs.declared.View.{View}
 use Rattle.sitting.specs.Seen.{seen, eventSeen, replySeen, replyGiving}

@@ -13,12 +13,10 @@ use Rattle.model.specs.declared.Sitting.{Sitting}
 use Rattle.model.specs.declared.Reply.{Reply}
 use Rattle.model.specs.Instance.{instanceOf}
 use Rattle.model.specs.Planners.{exact, plannedCost}
-use Rattle.model.specs.Acts.{openSitting, allowanceInRange}
+use Rattle.model.specs.Acts.{openSitting, allowanceInRange, actSpec}
 use Rattle.model.specs.SittingState.{factsOf, stateOf, sittingAfter}
-use Rattle.model.specs.Acts.{actSpec}
 use Rattle.model.specs.Specs.{firstOf, atExit}
-use Rattle.model.specs.Calls.{Call, planShow, actIn, specOf, answer, Accepted}
-use Rattle.model.specs.Calls.{buffersAtExit, planAtExit, workAtExit}
+use Rattle.model.specs.Calls.{Call, planShow, actIn, specOf, answer, Accepted, buffersAtExit, planAtExit, workAtExit}
 use Rattle.model.specs.Sittings.{answerTo, markedWith, eventWith, eventOf, told, toldBy, replyWith, replyOf}
 use Rattle.laws.specs.OnCard.{on-card-refused, on-card-passed}
 use Rattle.theory.specs.Outcomes.{planner-cost}

@@ -8,9 +8,8 @@ use Rattle.model.specs.declared.Answer.the-variants.{Cost, Refused}
 use Rattle.model.specs.declared.Sitting.{Sitting}
 use Rattle.model.specs.declared.Reply.{Reply}
 use Rattle.model.specs.Answers.{refusalNumber}
-use Rattle.model.specs.Acts.{seatCandidate, closeSitting, readLeast, readUsed}
+use Rattle.model.specs.Acts.{seatCandidate, closeSitting, readLeast, readUsed, actSpec}
 use Rattle.model.specs.SittingState.{emptySeat, seatedRecord, factsOf, stateOf, sittingAfter}
-use Rattle.model.specs.Acts.{actSpec}
 use Rattle.model.specs.Sittings.{answerTo, markedWith, eventWith, eventOf, told, toldBy, replyWith, replyOf}
 use Rattle.seats.specs.declared.View.{View}
 use Rattle.sitting.specs.declared.Outcome.{Outcome}

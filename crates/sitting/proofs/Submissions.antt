@@ -11,10 +11,9 @@ use Rattle.model.specs.declared.Seat.{Seat}
 use Rattle.model.specs.declared.Sitting.{Sitting}
 use Rattle.model.specs.declared.Reply.{Reply}
 use Rattle.model.specs.Instance.{instanceOf}
-use Rattle.model.specs.Acts.{submitSheet, Event, nothingDone, submissionMarked, submissionRefused}
+use Rattle.model.specs.Acts.{submitSheet, Event, nothingDone, submissionMarked, submissionRefused, actSpec}
 use Rattle.model.specs.SittingState.{emptySeat, markedRecord, sittingAfter}
 use Rattle.model.specs.Specs.{Test, cardTests, sheetTests, firstOf}
-use Rattle.model.specs.Acts.{actSpec}
 use Rattle.model.specs.Calls.{checkCard, markSheet, specOf, answer, Accepted}
 use Rattle.model.specs.Sittings.{answerTo, markedWith, eventWith, eventOf, told, replyWith}
 use Rattle.lists.specs.Numbers.{true-or-false}

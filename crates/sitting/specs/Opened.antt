@@ -7,9 +7,8 @@ use Rattle.model.specs.declared.Answer.{Answer}
 use Rattle.model.specs.declared.Answer.the-variants.{Cost, Refused}
 use Rattle.model.specs.declared.Seat.{Seat}
 use Rattle.model.specs.declared.Sitting.{Sitting}
-use Rattle.model.specs.Acts.{Act, openSitting, nothingDone, openingDone}
+use Rattle.model.specs.Acts.{Act, openSitting, nothingDone, openingDone, actSpec}
 use Rattle.model.specs.SittingState.{seatsOf, beyondSeats, emptySeat, seatsAfter}
-use Rattle.model.specs.Acts.{actSpec}
 use Rattle.model.specs.Calls.{actIn, specOf, answer, buffersAtExit, planAtExit, workAtExit}
 use Rattle.model.specs.Sittings.{answerTo, eventWith, eventOf, told, toldBy, replyOf, seatsAtExit}
 use Rattle.seats.specs.Scanned.{emptied}

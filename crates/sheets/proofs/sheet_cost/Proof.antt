@@ -1,8 +1,7 @@
 use Prim.Native.Nat.{_+_, _*_, _≤_}
 use native.Mathlib.Omega.{arith}
-use Rattle.sheets.proofs.Totals.{first-inside, earlier-inside, earlier-fits, first-counted, earlier-counted}
-use Rattle.sheets.proofs.Totals.{first-ready, later-ready, rows-paired, last-priced}
-use Rattle.sheets.proofs.Totals.{rows-fit, total-small, sheet-empty, sheet-whole}
+use Rattle.sheets.proofs.Totals.{first-inside, earlier-inside, earlier-fits, first-counted, earlier-counted, first-ready, later-ready}
+use Rattle.sheets.proofs.Totals.{rows-paired, last-priced, rows-fit, total-small, sheet-empty, sheet-whole}
 use borrow.Author.Needs.{needs}
 use Rattle.sheets.proofs.sheet_cost.Statement.{statement}
 use Rattle.sheets.proofs.sheet_cost.Tie as tie
