@@ -178,7 +178,7 @@ refused-does P (readUsed d) x quiet counts = quiet
 -- The caller of a submission that is answered with a cost has a seat.
 pub submitted-seated : (f : Facts) (d : ℕ) (card s : List ℕ) {n : ℕ} → answerTo f (submitSheet d card s) ≡ Cost n → noSeat f d ≡ false
 unfolding answerTo actSpec
-submitted-seated f d card s e = none-applies _ _ (on-card-cost card _ _ e .1) .1 .0
+submitted-seated f d card s e = let (permitted, (seated, rest)) = none-applies _ _ (on-card-cost card _ _ e .1) in seated
 
 -- 'each answered as marking does': on an accepted card a submission's own tests decide, and then marking's answer.
 pub submission-on-card :
