@@ -14,8 +14,7 @@ use Rattle.model.specs.declared.Answer.{Answer}
 use Rattle.model.specs.declared.Answer.the-variants.{Cost, Refused}
 use Rattle.model.specs.declared.Seat.{Seat}
 use Rattle.model.specs.declared.Sitting.{Sitting}
-use Rattle.model.specs.Acts.{Act, seatCandidate, submitSheet, Event, nothingDone, seatingDone, submissionMarked, submissionRefused}
-use Rattle.model.specs.Acts.{actSpec}
+use Rattle.model.specs.Acts.{Act, seatCandidate, submitSheet, Event, nothingDone, seatingDone, submissionMarked, submissionRefused, actSpec}
 use Rattle.model.specs.SittingState.{Place, isFor, emptyPlace, factsOf, seatsOf, beyondSeats, isOf, lowestOf, placeOf, stateOf}
 use Rattle.model.specs.SittingState.{emptySeat, seatedRecord, markedRecord, seatsAfter}
 use Rattle.model.specs.Sittings.{answerTo, eventWith, eventOf, eventIn, toldBy, replyOf, seatsAtExit}

@@ -27,8 +27,7 @@ use Rattle.laws.specs.Tables.{Convex}
 use Rattle.laws.specs.LeastSteps.{lowestStep}
 use Rattle.thresholds.specs.Places.{countAtPlace, lastPlace, Ascending, GrowsBy}
 use Rattle.theory.specs.Columns.{servedOrAbove, fromTop, bestPlace, column, searchedCost}
-use Rattle.thresholds.specs.Thresholds.{isLess, judge, firstLead, carried, raisedPlace, leadBefore, sideAt, forward, backward, rounds}
-use Rattle.thresholds.specs.Thresholds.{thresholdPlan}
+use Rattle.thresholds.specs.Thresholds.{isLess, judge, firstLead, carried, raisedPlace, leadBefore, sideAt, forward, backward, rounds, thresholdPlan}
 use Rattle.theory.specs.Hypotheses.{LoadsFit, Plannable, PlanFits, Entry, activeIn, lightIn, rowCost}
 use Rattle.theory.specs.CountLists.{InRules, rules-hold, all-rules}
 

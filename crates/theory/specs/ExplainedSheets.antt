@@ -19,9 +19,8 @@ use Rattle.model.specs.Plans.{sheetOf}
 use Rattle.model.specs.Planners.{Planner, exact, workBytes, plannedBy}
 use Rattle.model.specs.Explanation.{excessOperatingCost, excessSwitchingCost, excessOfCounts}
 use Rattle.model.specs.Specs.{sheetTests, firstOf, workBuffer, anyShort, atExit, sheetBytes}
-use Rattle.model.specs.Calls.{checkCard, planShow, markSheet, explainSheet, specOf}
-use Rattle.model.specs.Calls.{answer, Accepted, buffersAtExit}
-use Rattle.model.specs.Calls.{makeSheet, sheetAtExit, planAtExit}
+use Rattle.model.specs.Calls.{checkCard, planShow, markSheet, explainSheet, specOf, answer, Accepted, buffersAtExit, makeSheet, sheetAtExit}
+use Rattle.model.specs.Calls.{planAtExit}
 use Rattle.model.specs.ExplainedPoints.{explainedWork, pointsWith, pointsOf}
 use Rattle.model.specs.Promises.{madeSheet, ExplainsMarked, NoneNegative, AboveLeast, ZeroExactly}
 use Rattle.laws.specs.AnswerNumber.{number-zero}

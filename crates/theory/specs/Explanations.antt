@@ -12,8 +12,7 @@ use Rattle.lists.specs.Numbers.{le-or-lt}
 use Rattle.lists.specs.Sums.{sum-ext}
 use Rattle.lists.specs.Lists.{tabulate-same}
 use Rattle.model.specs.Instance.{Instance}
-use Rattle.model.specs.Sheets.{isOff, stateAt, sheetLength, serves, changeCost, sheetOperatingCost, sheetSwitchingCost, sheetCost}
-use Rattle.model.specs.Sheets.{activeAt, countsOf}
+use Rattle.model.specs.Sheets.{isOff, stateAt, sheetLength, serves, changeCost, sheetOperatingCost, sheetSwitchingCost, sheetCost, activeAt, countsOf}
 use Rattle.model.specs.Plans.{sheetOf, planCost}
 use Rattle.model.specs.Planners.{exact, allowedCounts, plannedBy, plannedCost}
 use Rattle.model.specs.Explanation.{countsOperatingCost, excessOperatingCost, excessSwitchingCost, excessOfCounts}

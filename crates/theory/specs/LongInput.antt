@@ -14,8 +14,7 @@ use Rattle.lists.specs.Tests.{and-right}
 use Rattle.lists.specs.Bytes.{little-take}
 use Rattle.model.specs.declared.Refusal.{Refusal}
 use Rattle.model.specs.declared.Answer.the-variants.{Cost, Refused}
-use Rattle.model.specs.Instance.{instanceOf, cardLength, rackNumber}
-use Rattle.model.specs.Instance.{headLength, versionPlace, modulesPlace, topStepPlace, slotsPlace, loadPlace}
+use Rattle.model.specs.Instance.{instanceOf, cardLength, rackNumber, headLength, versionPlace, modulesPlace, topStepPlace, slotsPlace, loadPlace}
 use Rattle.model.specs.Planners.{exact}
 use Rattle.model.specs.Specs.{Test, _when_, cardTests, firstOf}
 use Rattle.model.specs.Calls.{specOf, answer}

@@ -19,9 +19,7 @@ use Rattle.model.specs.Sheets.{serves, sheetCost}
 use Rattle.model.specs.Plans.{sheetOf, planCost, planInRack}
 use Rattle.model.specs.Planners.{Planner, exact, coarse, listed, workBytes, keepsList, plannedBy, plannedCost}
 use Rattle.model.specs.Specs.{Test, _when_, listTests, Buffer, planBuffer, workBuffer, sheetBuffer, sheetBytes, anyShort, firstOf, atExit}
-use Rattle.model.specs.Calls.{checkCard, planShow, makeSheet, markSheet, specOf}
-use Rattle.model.specs.Calls.{answer, Accepted}
-use Rattle.model.specs.Calls.{buffersAtExit, planAtExit, workAtExit, sheetAtExit}
+use Rattle.model.specs.Calls.{checkCard, planShow, makeSheet, markSheet, specOf, answer, Accepted, buffersAtExit, planAtExit, workAtExit, sheetAtExit}
 use Rattle.model.specs.Promises.{KeepsRules}
 use Rattle.laws.specs.AnswerNumber.{number-zero}
 use Rattle.laws.specs.FirstRefusal.{none-applies}

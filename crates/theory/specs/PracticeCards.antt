@@ -9,9 +9,8 @@ use Rattle.model.specs.Answers.{numberOf}
 use Rattle.model.specs.Instance.{instanceOf, cardBytes}
 use Rattle.model.specs.Planners.{Planner}
 use Rattle.model.specs.Practice.{practiceShow, longestPractice}
-use Rattle.model.specs.Calls.{practiceCard, specOf, answer, Accepted}
+use Rattle.model.specs.Calls.{practiceCard, specOf, answer, Accepted, buffersAtExit, cardAtExit}
 use Rattle.model.specs.Specs.{atExit}
-use Rattle.model.specs.Calls.{buffersAtExit, cardAtExit}
 use Rattle.model.specs.Promises.{frontCard, KeepsRules, AlwaysPlanned}
 use Rattle.laws.specs.Encoding.{card-bytes-length, front-card}
 use Rattle.laws.specs.PracticeAccepted.{practice-in-order, practice-accepted, practice-given, practice-length}

@@ -4,8 +4,7 @@ use Prim.Native.Nat.{ℕ, _+_, _-_, _≤_, _<_}
 use mathlib.Core.Path.{_≡_, refl, sym, ap, _∙_}
 use mathlib.Core.Bool.{true, false, not, true≢false}
 use mathlib.Core.Logic.{_⊎_, inl, inr, ⊎-elim}
-use mathlib.Core.List.{List, [], _∷_, _++_, map, List·Memᴰ, List·Memᴰ·head, List·Memᴰ·not-nil}
-use mathlib.Core.List.{List·Memᴰ·cases-cons, Memᴰ·map, Memᴰ·append-right}
+use mathlib.Core.List.{List, [], _∷_, _++_, map, List·Memᴰ, List·Memᴰ·head, List·Memᴰ·not-nil, List·Memᴰ·cases-cons, Memᴰ·map, Memᴰ·append-right}
 use native.Mathlib.Nat.{le-refl, le-of-lt}
 use native.Mathlib.Omega.{arith}
 use lib.ListN.{length}
@@ -22,12 +21,10 @@ use Rattle.model.specs.declared.Answer.{Answer}
 use Rattle.model.specs.declared.Answer.the-variants.{Cost, Refused}
 use Rattle.model.specs.Answers.{refusalNumber, numberOf}
 use Rattle.model.specs.Planners.{exact, coarse, listed}
-use Rattle.model.specs.Calls.{Call, checkCard, runningCost, planShow, makeSheet, markSheet, roundCount, practiceCard, catalogueTable}
-use Rattle.model.specs.Calls.{explainSheet, actIn}
-use Rattle.model.specs.Acts.{openSitting, seatCandidate, closeSitting, submitSheet, readLeast, readLowest, readUsed}
+use Rattle.model.specs.Calls.{Call, checkCard, runningCost, planShow, makeSheet, markSheet, roundCount, practiceCard, catalogueTable, explainSheet}
+use Rattle.model.specs.Calls.{actIn, specOf, answer, lent, buffersAtExit}
+use Rattle.model.specs.Acts.{openSitting, seatCandidate, closeSitting, submitSheet, readLeast, readLowest, readUsed, actSpec}
 use Rattle.model.specs.Specs.{Test, _when_, cardTests, firstOf, Buffer, atExit}
-use Rattle.model.specs.Acts.{actSpec}
-use Rattle.model.specs.Calls.{specOf, answer, lent, buffersAtExit}
 use Rattle.laws.specs.AnswerNumber.{number-zero}
 use Rattle.laws.specs.FirstRefusal.{first-hit, first-skip, none-applies, first-through}
 

@@ -21,12 +21,11 @@ use Rattle.model.specs.Answers.{numberOf, costOf}
 use Rattle.model.specs.Instance.{instanceOf}
 use Rattle.model.specs.Sheets.{sheetCost}
 use Rattle.model.specs.Planners.{exact, plannedCost}
-use Rattle.model.specs.Acts.{Act, openSitting, seatCandidate, closeSitting, submitSheet, readLeast, readLowest, readUsed}
-use Rattle.model.specs.Acts.{opened, isUnopened, isClosed, Facts}
-use Rattle.model.specs.Acts.{Event, openingDone, seatingDone, closingDone, submissionMarked, submissionCounted, nothingDone}
+use Rattle.model.specs.Acts.{Act, openSitting, seatCandidate, closeSitting, submitSheet, readLeast, readLowest, readUsed, opened, isUnopened}
+use Rattle.model.specs.Acts.{isClosed, Facts, Event, openingDone, seatingDone, closingDone, submissionMarked, submissionCounted, nothingDone}
+use Rattle.model.specs.Acts.{submissionTests, actSpec}
 use Rattle.model.specs.SittingState.{Place, State, isFor, emptyPlace, seatedPlace, markedPlace, lowerOf, factsOf, after, phaseOf, stateOf}
 use Rattle.model.specs.Specs.{Passes}
-use Rattle.model.specs.Acts.{submissionTests, actSpec}
 use Rattle.model.specs.Calls.{planShow, markSheet, actIn, specOf, answer, Accepted}
 use Rattle.model.specs.Sittings.{answerTo, markedWith, eventWith, eventOf, told, toldBy, replyWith, replyOf, seatsAtExit, leftBy, LentCard}
 use Rattle.model.specs.Sittings.{StartsAfresh, from-unopened, from-opening}

@@ -13,10 +13,8 @@ use Rattle.model.specs.declared.Answer.{Answer}
 use Rattle.model.specs.declared.Answer.the-variants.{Cost, Refused}
 use Rattle.model.specs.declared.Seat.{Seat}
 use Rattle.model.specs.declared.Sitting.{Sitting}
-use Rattle.model.specs.Acts.{unopened, opened, closed, isOpened, isClosed}
-use Rattle.model.specs.Acts.{Act, closeSitting, readLeast, readLowest, readUsed}
+use Rattle.model.specs.Acts.{unopened, opened, closed, isOpened, isClosed, Act, closeSitting, readLeast, readLowest, readUsed, actSpec}
 use Rattle.model.specs.SittingState.{phaseOf, factsOf, stateOf, seatsAfter}
-use Rattle.model.specs.Acts.{actSpec}
 use Rattle.model.specs.Calls.{actIn, specOf, answer, Gives}
 use Rattle.model.specs.Sittings.{answerTo, eventWith, eventOf, told, toldBy, replyWith, replyOf, seatsAtExit}
 use Rattle.laws.specs.SittingLaws.{refused-does}

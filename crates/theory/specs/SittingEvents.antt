@@ -14,12 +14,11 @@ use Rattle.model.specs.declared.Answer.{Answer}
 use Rattle.model.specs.declared.Answer.the-variants.{Cost, Refused}
 use Rattle.model.specs.Answers.{refusalNumber}
 use Rattle.model.specs.Instance.{instanceOf}
-use Rattle.model.specs.Acts.{Act, openSitting, seatCandidate, closeSitting, submitSheet, readLeast, readLowest, readUsed}
-use Rattle.model.specs.Acts.{isUnopened, Facts, supervisor, noSeat}
-use Rattle.model.specs.Acts.{Event, nothingDone, openingDone, seatingDone, closingDone, submissionCounted, submissionMarked}
+use Rattle.model.specs.Acts.{Act, openSitting, seatCandidate, closeSitting, submitSheet, readLeast, readLowest, readUsed, isUnopened, Facts}
+use Rattle.model.specs.Acts.{supervisor, noSeat, Event, nothingDone, openingDone, seatingDone, closingDone, submissionCounted, submissionMarked}
+use Rattle.model.specs.Acts.{submissionTests, actSpec}
 use Rattle.model.specs.SittingState.{State, isFor, factsOf}
 use Rattle.model.specs.Specs.{Test, cardTests, sheetTests, firstOf}
-use Rattle.model.specs.Acts.{submissionTests, actSpec}
 use Rattle.model.specs.Sittings.{answerTo, eventWith}
 use Rattle.laws.specs.FirstRefusal.{first-hit, first-skip, first-append, none-applies}
 use Rattle.laws.specs.OnCard.{on-card-cost}

@@ -15,8 +15,7 @@ use Rattle.lists.specs.Numbers.{true-or-false, le-or-lt}
 use Rattle.lists.specs.Lists.{keep}
 use Rattle.lists.specs.FirstPlace.{occurs, countOf, firstPlace, changeFirst, occurs-count, place-beyond, length-change, count-taken}
 use Rattle.lists.specs.FirstPlace.{change-found, change-occurs, change-counts, change-adds, change-apart, change-first}
-use Rattle.model.specs.Acts.{isUnopened}
-use Rattle.model.specs.Acts.{Event, nothingDone, openingDone, seatingDone, closingDone, submissionCounted, submissionMarked}
+use Rattle.model.specs.Acts.{isUnopened, Event, nothingDone, openingDone, seatingDone, closingDone, submissionCounted, submissionMarked}
 use Rattle.model.specs.SittingState.{Place, State, isFor, emptyPlace, seatedPlace, markedPlace, factsOf, lowerOf, after}
 use Rattle.model.specs.Sittings.{effectOf, isOpening, isSubmission, seatedBy, costsOf, sinceOpening, lastOpening}
 use Rattle.model.specs.Sittings.{smallestOf, lowestAmong, phaseIn, factsIn}
