@@ -35,7 +35,7 @@ first-refused (t ∷ ts) a {b} h e =
     (λ (y : t .applies ≡ false). rw y (first-refused ts a h (sym (first-skip t ts b y) ∙ e)))
     (true-or-false (t .applies))
 
--- None of some tests applies.
+-- None of some tests applies, test by test.
 abbrev pub NoneApplies : List Test → Type 0
 NoneApplies ts = Each (λ t. t .applies ≡ false) ts
 

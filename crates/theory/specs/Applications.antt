@@ -181,7 +181,9 @@ whole-starts = from-unopened wholeSitting refl
 
 whole-lent : Each (LentCard cardA) wholeSitting
 unfolding actSpec
-whole-lent = (tt, ((refl, tt), (tt, (tt, (tt, (tt, (tt, (tt, ((refl, tt), ((refl, tt), ((refl, tt), (tt, (tt, (tt, ((refl, tt), ((refl, tt), ((refl, tt), (tt, (tt, (tt, (tt, (tt, ((refl, tt), (tt, (tt, (tt, ((refl, tt), (tt, (tt, ((refl, tt), (tt, tt)))))))))))))))))))))))))))))))
+whole-lent =
+    let later : Each (LentCard cardA) (drop 20 wholeSitting) = (tt, (tt, ((refl, tt), (tt, (tt, (tt, ((refl, tt), (tt, (tt, ((refl, tt), (tt, tt))))))))))) in
+    (tt, ((refl, tt), (tt, (tt, (tt, (tt, (tt, (tt, ((refl, tt), ((refl, tt), ((refl, tt), (tt, (tt, (tt, ((refl, tt), ((refl, tt), ((refl, tt), (tt, (tt, (tt, later))))))))))))))))))))
 
 -- So the theorems on sequences speak of it.
 pub sequence-applied : toldInTurn (sittingOf 0 0 0 0) (odd ∷ odd ∷ []) wholeSitting ≡ toldFrom 2 [] wholeSitting
