@@ -34,14 +34,14 @@ in-bounds i e =
     let (rack, (slots, (prices, (convexity, (loads, none))))) = none-applies _ _ e in
     let numbers = not-false _ rack in
     let bounds = not-false _ prices in
-    let ups = and-right (leb (i .powerUp) 500000000) _ bounds in
+    let further = and-right (leb (i .powerUp) 500000000) _ bounds in
     record {
       modules = rack-range _ (and-left (rackNumber (i .modules)) _ numbers);
       topStep = rack-range _ (and-right (rackNumber (i .modules)) _ numbers);
       slots = ltb-false _ _ slots;
       powerUp = leb-true _ _ (and-left (leb (i .powerUp) 500000000) _ bounds);
-      powerDown = leb-true _ _ (and-left (leb (i .powerDown) 500000000) _ ups);
-      table = λ k h. leb-true _ _ (every-at (i .topStep + 1) _ (and-right (leb (i .powerDown) 500000000) _ ups) k (omega arith));
+      powerDown = leb-true _ _ (and-left (leb (i .powerDown) 500000000) _ further);
+      table = λ k h. leb-true _ _ (every-at (i .topStep + 1) _ (and-right (leb (i .powerDown) 500000000) _ further) k (omega arith));
       convexity = not-false _ convexity;
       load = λ t h. leb-true _ _ (every-at _ _ (not-false _ loads) t h);
     }

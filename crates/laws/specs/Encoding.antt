@@ -85,7 +85,7 @@ module _ (i : Instance) where
           load = λ t h. rw top (load-read t h);
         }
 
--- Of two shows that are the same, both are in order or neither is.
+-- What 3, 4 and 6 to 8 find in two shows that are the same is the same.
 same-tests : {i j : Instance} → SameShow i j → rackTests j ++ bodyTests j ≡ rackTests i ++ bodyTests i
 unfolding pricesInRange loadsInRange
 same-tests {i} {j} same =

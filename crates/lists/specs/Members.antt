@@ -26,6 +26,11 @@ module _ {A : Type 0} where
   each-member P (y ∷ ys) {x} (first, rest) m =
       ⊎-elim (λ (same : x ≡ y). subst P (sym same) first) (each-member P ys rest) (List·Memᴰ·cases-cons m)
 
+  -- What holds of everything holds of each element.
+  pub each-all : (P : A → Type 0) → ((x : A) → P x) → (l : List A) → Each P l
+  each-all P all [] = tt
+  each-all P all (x ∷ xs) = (all x, each-all P all xs)
+
   -- An element at a place below the length is a member.
   pub member-at : (l : List A) (j : ℕ) (d : A) → j < length l → List·Memᴰ (getD l j d) l
   member-at [] j d h = absurd (not-suc-le-zero h)

@@ -68,6 +68,10 @@ inCharge f d = supervisor d && isOpened (f .phase)
 abbrev pub begun : Facts → Bool
 begun f = not (isUnopened (f .phase))
 
+-- Who reads a candidate's lowest cost: the supervisor 'any seat's', a candidate 'the own'.
+abbrev pub readsLowest : Facts → (caller candidate : ℕ) → Bool
+readsLowest f d c = begun f && (supervisor d || eqb d c)
+
 -- 'an allowance of 1 to 1,000 hand-ins'
 abbrev pub allowanceInRange : ℕ → Bool
 allowanceInRange a = leb 1 a && leb a 1000
@@ -150,7 +154,7 @@ actSpec (readLowest d c) =
     record {
       cards = [];
       call = λ f. answering (
-          NotPermitted unless (begun f && (supervisor d || eqb d c)) ∷
+          NotPermitted unless readsLowest f d c ∷
           SeatUnavailable when noSeat f c ∷ []) (Option·getD (f .lowest c) 0);
       marked = λ f. Option·elim (f .lowest c) 0 (λ l. 1);
       done = λ n. nothingDone;

@@ -1,7 +1,7 @@
 -- What an act makes of a view of the list of seats.
 use Prim.Native.Nat.{ℕ}
 use mathlib.Core.Path.{_≡_}
-use mathlib.Core.Bool.{Bool, not, _&&_, _||_}
+use mathlib.Core.Bool.{Bool, not, _||_}
 use mathlib.Core.List.{[]}
 use lib.Dec.{ltb, eqb}
 use Rattle.model.specs.declared.Refusal.{Refusal}
@@ -11,7 +11,7 @@ use Rattle.model.specs.declared.Seat.{Seat}
 use Rattle.model.specs.declared.Sitting.{Sitting}
 use Rattle.model.specs.declared.Reply.{Reply}
 use Rattle.model.specs.Answers.{refusalNumber}
-use Rattle.model.specs.Acts.{Act, Facts, isUnopened, supervisor}
+use Rattle.model.specs.Acts.{Act, Facts}
 use Rattle.model.specs.Acts.{Event, nothingDone, openingDone, seatingDone, closingDone, submissionCounted, submissionMarked}
 use Rattle.model.specs.SittingState.{phaseOf, lowestOf, seatLimit, emptySeat, seatedRecord, markedRecord, sittingAfter}
 use Rattle.model.specs.Calls.{actIn, answer}
@@ -36,10 +36,6 @@ seen z v =
 -- A number names no seat, by a view for it.
 unfoldable pub unseated : View → ℕ → Bool
 unseated v c = eqb c 0 || not (ltb (v .at) (v .n))
-
--- A caller may read a candidate's lowest cost: the supervisor, and the candidate, once the sitting is opened.
-unfoldable pub mayRead : Sitting → (caller candidate : ℕ) → Bool
-mayRead z d c = not (isUnopened (phaseOf (z .state))) && (supervisor d || eqb d c)
 
 -- The place that an event changes: the first empty record, the candidate's, or none, which is said by the length of the list.
 unfoldable pub placeFor : View → Event → ℕ

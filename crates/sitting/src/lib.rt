@@ -13,12 +13,12 @@ use seats::View;
 ghost use mathlib.Core.Path.{_≡_};
 ghost use mathlib.Core.List.{[]};
 ghost use Rattle.model.specs.Acts.{openSitting, seatCandidate, closeSitting, submitSheet, readLeast, readLowest, readUsed};
-ghost use Rattle.model.specs.Acts.{isUnopened, allowanceInRange};
+ghost use Rattle.model.specs.Acts.{isUnopened, readsLowest, allowanceInRange};
 ghost use Rattle.model.specs.SittingState.{phaseOf, markedRecord, factsOf, stateOf};
 ghost use Rattle.model.specs.Calls.{actIn, answer, planAtExit, workAtExit};
 ghost use Rattle.model.specs.Sittings.{answerTo, replyOf};
 ghost use Rattle.card.specs.Checking.{Ready};
-ghost use Rattle.sitting.specs.Seen.{seen, unseated, mayRead, outcomeOf, replySeen, replyGiving, unchangedOf, withSubmissions, Uncounted, Answered, openingOf};
+ghost use Rattle.sitting.specs.Seen.{seen, unseated, outcomeOf, replySeen, replyGiving, unchangedOf, withSubmissions, Uncounted, Answered, openingOf};
 
 // What an act that may change the list of seats does: the place of a record, what it becomes, and the reply. Where no record changes, the
 // place is the length of the list.
@@ -273,7 +273,7 @@ pub fn reading_least(sitting: Sitting, caller: u16, v: View) -> Reply
 
 // Whether a caller may read a candidate's lowest cost.
 fn may_read_lowest(sitting: Sitting, caller: u16, candidate: u16) -> bool
-    ensures { λ r. ⌜ r ≡ mayRead sitting caller candidate ⌝ }
+    ensures { λ r. ⌜ r ≡ readsLowest (factsOf (stateOf sitting [])) caller candidate ⌝ }
 {
     if is_unopened(sitting) {
         return false;

@@ -2,15 +2,16 @@
 -- allowance.
 use Prim.Native.Nat.{ℕ, zero, suc, _≤_}
 use mathlib.Core.Path.{_≡_, refl, sym, ap, _∙_, subst}
-use mathlib.Core.Bool.{Bool, true, false, not, _&&_, true≢false}
+use mathlib.Core.Bool.{Bool, true, false, cond, not, _&&_, true≢false}
 use mathlib.Core.List.{List, [], _∷_, map}
 use mathlib.Core.Option.{Option, none, some, Option·getD, Option·elim, Option·none-ne-some, Option·some-injective}
 use mathlib.Core.Logic.{⊎-elim}
 use native.Mathlib.Omega.{arith}
 use lib.ListN.{getD}
 use lib.Dec.{eqb}
+use borrow.Author.Tests.{eq-eqb}
 use Rattle.lists.specs.Numbers.{true-or-false}
-use Rattle.lists.specs.Members.{Each}
+use Rattle.lists.specs.Members.{Each, each-all}
 use Rattle.lists.specs.FirstPlace.{firstPlace, changeFirst}
 use Rattle.model.specs.declared.Refusal.the-variants.{NotPermitted}
 use Rattle.model.specs.declared.Answer.{Answer}
@@ -22,13 +23,13 @@ use Rattle.model.specs.Instance.{instanceOf}
 use Rattle.model.specs.Sheets.{sheetCost}
 use Rattle.model.specs.Planners.{exact, plannedCost}
 use Rattle.model.specs.Acts.{Act, openSitting, seatCandidate, closeSitting, submitSheet, readLeast, readLowest, readUsed, opened, isUnopened}
-use Rattle.model.specs.Acts.{isClosed, Facts, Event, openingDone, seatingDone, closingDone, submissionMarked, submissionCounted, nothingDone}
+use Rattle.model.specs.Acts.{isClosed, Facts, Event, openingDone, nothingDone}
 use Rattle.model.specs.Acts.{submissionTests, actSpec}
 use Rattle.model.specs.SittingState.{Place, State, isFor, emptyPlace, seatedPlace, markedPlace, lowerOf, factsOf, after, phaseOf, stateOf}
 use Rattle.model.specs.Specs.{Passes}
 use Rattle.model.specs.Calls.{planShow, markSheet, actIn, specOf, answer, Accepted}
 use Rattle.model.specs.Sittings.{answerTo, markedWith, eventWith, eventOf, told, toldBy, replyWith, replyOf, seatsAtExit, leftBy, LentCard}
-use Rattle.model.specs.Sittings.{StartsAfresh, from-unopened, from-opening}
+use Rattle.model.specs.Sittings.{StartsAfresh, from-unopened, from-opening, effectOf, costsOf}
 use Rattle.laws.specs.FirstRefusal.{first-hit, first-append, none-applies, first-through}
 use Rattle.laws.specs.OnCard.{on-card-cost}
 use Rattle.laws.specs.SittingLaws.{once-begun, refused-does, submission-on-card}
@@ -122,12 +123,7 @@ record Bounded (l : ℕ) (s : State) : Type 0 where
 
 -- What has happened marks no sheet below a bound.
 MarksAtLeast : ℕ → Event → Type 0
-MarksAtLeast l nothingDone = Unit {0}
-MarksAtLeast l (openingDone a n) = Unit {0}
-MarksAtLeast l (seatingDone c) = Unit {0}
-MarksAtLeast l closingDone = Unit {0}
-MarksAtLeast l submissionCounted = Unit {0}
-MarksAtLeast l (submissionMarked c n) = l ≤ n
+MarksAtLeast l e = (c : ℕ) → Each (λ n. l ≤ n) (costsOf c e)
 
 -- It holds after an opening, whatever was before.
 opening-bounded : (l : ℕ) (s : State) (a n : ℕ) → Bounded l (after (openingDone a n) s)
@@ -140,7 +136,7 @@ opening-bounded l s a n =
 
 -- It holds after everything that can happen, if no sheet is marked below the bound.
 event-bounded : {l : ℕ} {s : State} {e : Event} → Possible s e → MarksAtLeast l e → Bounded l s → Bounded l (after e s)
-unfolding after isUnopened MarksAtLeast
+unfolding after isUnopened MarksAtLeast effectOf
 event-bounded nothing-possible marks b = b
 event-bounded {l} {s} (opening-possible a n) marks b = opening-bounded l s a n
 event-bounded (closing-possible o) marks b = record { within = λ o′. b .within o; above = λ o′. b .above o }
@@ -151,9 +147,10 @@ event-bounded {l} {s} (seating-possible c o real absent free) marks b =
       above = λ o′. each-seat-changed (NotBelow l) (isFor 0) (seatedPlace c) (λ p h v e. absurd (Option·none-ne-some v e)) (s .places) (b .above o);
     }
 event-bounded {l} {s} (marked-possible c n o spare real found) marks b =
+    let (at-least, rest) = rw (eq-eqb c c refl) at (marks c) in
     record {
       within = λ o′. omega arith;
-      above = λ o′. each-seat-changed (NotBelow l) (isFor c) (markedPlace n) (lower-not-below marks) (s .places) (b .above o);
+      above = λ o′. each-seat-changed (NotBelow l) (isFor c) (markedPlace n) (lower-not-below at-least) (s .places) (b .above o);
     }
 
 -- Runs of acts none of which marks a sheet below a bound.
@@ -190,41 +187,32 @@ module _ (l : ℕ) (Fine : Act → Type 0)
       run-bounded acts rest (replyOf z xs act .sitting) (seatsAtExit z xs act)
       (subst (Bounded l) (sym left) (opening-bounded l (stateOf z xs) a n))
 
--- No event marks a sheet below 0.
-none-below-zero : (e : Event) → MarksAtLeast 0 e
-unfolding MarksAtLeast
-none-below-zero nothingDone = tt
-none-below-zero (openingDone a n) = tt
-none-below-zero (seatingDone c) = tt
-none-below-zero closingDone = tt
-none-below-zero submissionCounted = tt
-none-below-zero (submissionMarked c n) = omega arith
-
 -- No act that is lent a card marks a sheet below the least cost of this card.
 none-below-least :
     (card : List ℕ) (f : Facts) (a : Act) → LentCard card a → (r : Answer) → answerTo f a ≡ r →
     MarksAtLeast (plannedCost exact (instanceOf card)) (eventWith (actSpec a .done) (actSpec a .refused) r)
-unfolding MarksAtLeast eventWith actSpec
-none-below-least card f (openSitting d a c p w) lent (Cost n) e = tt
-none-below-least card f (seatCandidate d c) lent (Cost n) e = tt
-none-below-least card f (closeSitting d) lent (Cost n) e = tt
-none-below-least card f (submitSheet d c s) (lent, rest) (Cost n) e = rw (sym lent) (submitted-least f d c s e)
-none-below-least card f (readLeast d) lent (Cost n) e = tt
-none-below-least card f (readLowest d c) lent (Cost n) e = tt
-none-below-least card f (readUsed d) lent (Cost n) e = tt
-none-below-least card f a lent (Refused x) e = refused-does (MarksAtLeast _) a x tt (λ d c s same counted. tt)
-
--- Every act is fine where nothing is asked of it.
-each-act : (acts : List Act) → Each (λ a. Unit {0}) acts
-each-act [] = tt
-each-act (a ∷ more) = (tt, each-act more)
+unfolding MarksAtLeast effectOf eventWith actSpec
+none-below-least card f (openSitting d a c p w) lent (Cost n) e k = tt
+none-below-least card f (seatCandidate d c) lent (Cost n) e k = tt
+none-below-least card f (closeSitting d) lent (Cost n) e k = tt
+none-below-least card f (submitSheet d c s) (lent, rest) (Cost n) e k = either (eqb d k) (rw (sym lent) (submitted-least f d c s e))
+  where
+    either : {l : ℕ} (b : Bool) → l ≤ n → Each (λ m. l ≤ m) (cond b (n ∷ []) [])
+    either true h = (h, tt)
+    either false h = tt
+none-below-least card f (readLeast d) lent (Cost n) e k = tt
+none-below-least card f (readLowest d c) lent (Cost n) e k = tt
+none-below-least card f (readUsed d) lent (Cost n) e k = tt
+none-below-least card f a lent (Refused x) e k = refused-does (MarksAtLeast _) a x (λ k. tt) (λ d c s same counted k. tt) k
 
 -- 'a spent allowance gets 17': whatever the acts, no more submissions are used than the allowance.
 pub submissions-within :
     {z : Sitting} {xs : List Seat} {acts : List Act} → StartsAfresh z xs acts → isUnopened (phaseOf (leftBy z xs acts .0 .state)) ≡ false →
     leftBy z xs acts .0 .submissions ≤ leftBy z xs acts .0 .allowance
+unfolding MarksAtLeast
 submissions-within {acts = acts} start o =
-    afresh-bounded 0 (λ a. Unit {0}) (λ f a fine r e. none-below-zero _) start (each-act acts) .within o
+    let marks : (e : Event) → MarksAtLeast 0 e = λ e c. each-all (λ n. 0 ≤ n) (λ n. omega arith) (costsOf c e) in
+    afresh-bounded 0 (λ a. Unit {0}) (λ f a fine r e. marks _) start (each-all (λ a. Unit {0}) (λ a. tt) acts) .within o
 
 -- A lowest cost that is read is not below the bound.
 read-bounded :

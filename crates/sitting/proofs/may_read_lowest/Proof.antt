@@ -1,21 +1,16 @@
-use mathlib.Core.Bool.{Bool·not-not}
 use borrow.Author.Tests.{eq-eqb, ne-eqb}
-use Rattle.sitting.specs.Seen.{mayRead}
 use borrow.Author.Needs.{needs}
 use Rattle.sitting.proofs.may_read_lowest.Statement.{statement}
 use Rattle.sitting.proofs.may_read_lowest.Tie as tie
 
 returns : tie.Need-returns
-unfolding mayRead
 returns c = search (← c .before .is-unopened .ensures, c .if1 .taken)
 
 returns-2 : tie.Need-returns-2
-unfolding mayRead
 returns-2 c = search (eq-eqb, ← c .before .before .is-unopened .ensures, c .before .if1 .left)
 
 returns-3 : tie.Need-returns-3
-unfolding mayRead
-returns-3 c = search (ne-eqb, Bool·not-not, ← c .before .before .is-unopened .ensures, c .before .if1 .left)
+returns-3 c = search (ne-eqb, ← c .before .before .is-unopened .ensures, c .before .if1 .left)
 
 pub may-read-lowest-spec : {M : Type 1} → statement M
 may-read-lowest-spec = tie.close (tie.spec (λ c κs. search needs) returns returns-2 returns-3)

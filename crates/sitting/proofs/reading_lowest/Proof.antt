@@ -2,20 +2,20 @@ use Rattle.lists.specs.Tests.{test-failed, test-passed}
 use Rattle.model.specs.Acts.{actSpec}
 use Rattle.model.specs.Specs.{firstOf}
 use Rattle.model.specs.Sittings.{answerTo}
-use Rattle.sitting.specs.Seen.{seen, unseated, mayRead}
+use Rattle.sitting.specs.Seen.{seen, unseated}
 use Rattle.sitting.proofs.Lowest.{lowest-refused, lowest-none, lowest-some}
 use borrow.Author.Needs.{needs}
 use Rattle.sitting.proofs.reading_lowest.Statement.{statement}
 use Rattle.sitting.proofs.reading_lowest.Tie as tie
 
 returns : tie.Need-returns
-unfolding answerTo actSpec firstOf seen unseated mayRead
+unfolding answerTo actSpec firstOf seen unseated
 returns c =
     let asked = c .before in
     search (lowest-refused, test-failed (asked .before .may-read-lowest .ensures) (asked .if1 .taken))
 
 returns-2 : tie.Need-returns-2
-unfolding answerTo actSpec firstOf seen unseated mayRead
+unfolding answerTo actSpec firstOf seen unseated
 returns-2 c =
     let known = c .before in
     let asked = known .before .before in
@@ -27,7 +27,7 @@ returns-2 c =
     )
 
 returns-3 : tie.Need-returns-3
-unfolding answerTo actSpec firstOf seen unseated mayRead
+unfolding answerTo actSpec firstOf seen unseated
 returns-3 c =
     let known = c .before .before .before .before in
     let asked = known .before .before in
@@ -39,7 +39,7 @@ returns-3 c =
     )
 
 returns-4 : tie.Need-returns-4
-unfolding answerTo actSpec firstOf seen unseated mayRead
+unfolding answerTo actSpec firstOf seen unseated
 returns-4 c =
     let known = c .before .before .before .before in
     let asked = known .before .before in
