@@ -27,35 +27,9 @@ struct show {
     uint8_t *plan, *work, *sheet;
 };
 
-/* The refusals in words. There is no default, so that -Wswitch-enum names a refusal that is missing here. */
-static const char *words(enum lamp_refusal refusal)
-{
-    switch (refusal) {
-    case LAMP_NOT_A_CARD: return "under 17 bytes, or wrong mark";
-    case LAMP_WRONG_VERSION: return "the card's version is not 1";
-    case LAMP_RACK_SIZE: return "m, Q or top outside 1 to 200";
-    case LAMP_SLOT_COUNT: return "T above 1,024";
-    case LAMP_CARD_LENGTH: return "the card's length is not 17 + 4(Q + 1) + 2T";
-    case LAMP_PRICE_RANGE: return "a price or F entry above its bound";
-    case LAMP_NOT_CONVEX: return "table not convex";
-    case LAMP_LOAD_RANGE: return "a load above m * Q";
-    case LAMP_NOT_MONOTONE: return "never given; before release 2.0.0 a table that falls, coarse planner only";
-    case LAMP_BUFFER_TOO_SHORT: return "a buffer shorter than asked for";
-    case LAMP_WRONG_LENGTH: return "a handed-in plan is not T bytes, or a sheet not m * T";
-    case LAMP_ENTRY_RANGE: return "a count above m, or a sheet byte from Q + 1 to 254";
-    case LAMP_LOAD_NOT_SERVED: return "a slot has too little light, or a count cannot serve its load";
-    case LAMP_ZERO_START: return "start 0 of a practice card";
-    case LAMP_NOT_PERMITTED: return "an act that the caller has no right to, at all or as the sitting stands";
-    case LAMP_SEAT_UNAVAILABLE: return "candidate 0, not seated, seated already, or no empty record in the first 32";
-    case LAMP_ALLOWANCE_SPENT: return "the allowance is used up, or outside 1 to 1,000 at an opening";
-    case LAMP_COUNT_LIST: return "list of counts or ratio against the rules";
-    }
-    return "a refusal that this host does not know";
-}
-
 static int refused(struct lamp_answer answer)
 {
-    fprintf(stderr, "refused %" PRIu64 ": %s\n", answer.number, words((enum lamp_refusal)answer.number));
+    fprintf(stderr, "refused %" PRIu64 ": %s\n", answer.number, lamp_words(answer.number));
     return REFUSED;
 }
 

@@ -16,14 +16,12 @@ static const uint8_t card[] = {0x44, 0x4C, 0x53, 0x01, 0x00, 0x03, 0x02, 0x03, 0
 static const char *word(uint64_t number)
 {
     switch (number) {
-    case LAMP_WRONG_LENGTH:
-        return " (roll)";
-    case LAMP_ENTRY_RANGE:
-        return " (entry)";
-    case LAMP_LOAD_NOT_SERVED:
-        return " (light)";
-    default:
-        return "";
+    /* tests/words.py writes the lines from here on, from include/refusals.txt. */
+    case LAMP_WRONG_LENGTH: return " (roll)";
+    case LAMP_ENTRY_RANGE: return " (entry)";
+    case LAMP_LOAD_NOT_SERVED: return " (light)";
+    /* tests/words.py writes the lines up to here. */
+    default: return "";
     }
 }
 

@@ -189,8 +189,18 @@ static uint8_t card[LENGTH_A] = {CARD_A}, plan[3] = {3, 1, 1};
 static uint8_t sheet[9] = {2, 2, 2, 0, LAMP_OFF, LAMP_OFF, 2, LAMP_OFF, LAMP_OFF};
 static uint8_t area[9], work[30];
 
+/* Every number that a call gives has words in lamp.h. */
+static void expect_words(uint64_t number)
+{
+    if (strcmp(lamp_words(number), lamp_words(UINT64_MAX)) != 0)
+        return;
+    faults++;
+    printf("number %" PRIu64 " has no words in lamp.h\n", number);
+}
+
 static void compare(const char *call, struct lamp_answer found, uint64_t number, uint64_t cost)
 {
+    expect_words(found.number);
     compared++;
     if (found.number == number && found.cost == cost)
         return;

@@ -38,7 +38,7 @@
  *         answer = lamp_sheet(card, card_len, plan, slots, sheet, sizeof sheet);
  *     }
  *     if (answer.number != 0)
- *         printf("refused %u\n", (unsigned)answer.number);
+ *         printf("refused %u: %s\n", (unsigned)answer.number, lamp_words(answer.number));
  *
  *
  * TERMS
@@ -485,7 +485,7 @@
  * so on an accepted card a list or ratio against the rules gives 18 with every plan and work buffer.
  * lamp_sitting_submit tests 15, 16 and 17 before 11, 12 and 13, so a caller that may not submit is told
  * nothing of the sheet. The comment at each call below has its refusals in the order in which they are
- * tested. No call sets errno.
+ * tested. No call sets errno. lamp_words below gives the words of each number.
  *
  * The acts of a sitting give a third number, marked, and the sitting. marked is 1 only where
  * lamp_sitting_lowest gives a lowest cost, so that a candidate without a marked sheet can be told from
@@ -660,9 +660,10 @@ LAMP_ASSERT_SIZE(struct lamp_sitting, 32)
 LAMP_ASSERT_SIZE(struct lamp_reply, 56)
 #undef LAMP_ASSERT_SIZE
 
-/* The refusals. The word before the colon is that of the papers which define the planner. They have no words for 14 to
- * 18, and `start`, `right`, `seat`, `allowance` and `groups` are taken from what they say of them. */
+/* The refusals. The word before the colon is that of the papers which define the planner. They have no words from 14
+ * on, and `start` and those after it are taken from what they say of these refusals. */
 enum lamp_refusal {
+    /* tests/words.py writes the lines from here on, from include/refusals.txt. */
     LAMP_NOT_A_CARD = 1,        /* not a card: under 17 bytes, or wrong mark */
     LAMP_WRONG_VERSION = 2,     /* version: the card's version is not 1 */
     LAMP_RACK_SIZE = 3,         /* rack: m, Q or top outside 1 to 200 */
@@ -681,7 +682,39 @@ enum lamp_refusal {
     LAMP_SEAT_UNAVAILABLE = 16, /* seat: candidate 0, not seated, seated already, or no empty record in the first 32 */
     LAMP_ALLOWANCE_SPENT = 17,  /* allowance: the allowance is used up, or outside 1 to 1,000 at an opening */
     LAMP_COUNT_LIST = 18        /* groups: list of counts or ratio against the rules */
+    /* tests/words.py writes the lines up to here. */
 };
+
+/* The words of a refusal, as they stand behind its colon above, for the number that a call gave. For 0 it gives
+ * "success", and for a number that is none of the refusals "no such number". A host may print these words, or have its
+ * own. This is no call of the library: it is compiled with the host, and nothing is proved of it. */
+static inline const char *lamp_words(uint64_t number)
+{
+    switch (number) {
+    case 0: return "success";
+    /* tests/words.py writes the lines from here on, from include/refusals.txt. */
+    case LAMP_NOT_A_CARD: return "under 17 bytes, or wrong mark";
+    case LAMP_WRONG_VERSION: return "the card's version is not 1";
+    case LAMP_RACK_SIZE: return "m, Q or top outside 1 to 200";
+    case LAMP_SLOT_COUNT: return "T above 1,024";
+    case LAMP_CARD_LENGTH: return "the card's length is not 17 + 4(Q + 1) + 2T";
+    case LAMP_PRICE_RANGE: return "a price or F entry above its bound";
+    case LAMP_NOT_CONVEX: return "table not convex";
+    case LAMP_LOAD_RANGE: return "a load above m * Q";
+    case LAMP_NOT_MONOTONE: return "never given; before release 2.0.0 a table that falls, coarse planner only";
+    case LAMP_BUFFER_TOO_SHORT: return "a buffer shorter than asked for";
+    case LAMP_WRONG_LENGTH: return "a handed-in plan is not T bytes, or a sheet not m * T";
+    case LAMP_ENTRY_RANGE: return "a count above m, or a sheet byte from Q + 1 to 254";
+    case LAMP_LOAD_NOT_SERVED: return "a slot has too little light, or a count cannot serve its load";
+    case LAMP_ZERO_START: return "start 0 of a practice card";
+    case LAMP_NOT_PERMITTED: return "an act that the caller has no right to, at all or as the sitting stands";
+    case LAMP_SEAT_UNAVAILABLE: return "candidate 0, not seated, seated already, or no empty record in the first 32";
+    case LAMP_ALLOWANCE_SPENT: return "the allowance is used up, or outside 1 to 1,000 at an opening";
+    case LAMP_COUNT_LIST: return "list of counts or ratio against the rules";
+    /* tests/words.py writes the lines up to here. */
+    default: return "no such number";
+    }
+}
 
 /* Checks a card.
  *

@@ -15,6 +15,7 @@ import xml.etree.ElementTree as ElementTree
 
 from cards import card
 from practice import practice_card
+from words import tool_words
 
 ROOT = pathlib.Path(__file__).resolve().parent.parent
 LAMP = ROOT / "tool" / "target" / "release" / "lamp"
@@ -309,7 +310,7 @@ def groups_as_planners():
             expect(f"{name}, {in_words(counts)}, ratio {ratio}", lamp("key", "-", *groups(counts, ratio), data=data), 0, wanted)
 
 
-RULES = "refused 18: list of counts or ratio against the rules\n"
+RULES = f"refused 18: {tool_words(18)}\n"
 # Lists and ratios against the rules on a rack of 8 modules, with the places that are told.
 AGAINST_RULES = {
     ("0", "1"): ("the list has 1 entry; it has to have 2 to 201", "entry 1, the last, is 0; it has to be 8, the number of modules"),
@@ -741,11 +742,7 @@ def no_sheets(command):
     told("no such sheet", SAMPLES / "none.sheet", "none.sheet: No such file or directory")
 
 
-WORDS = (
-    "refused 11: a handed-in plan or sheet of another length than the show has\n",
-    "refused 12: a count above the modules, or a step above the top step\n",
-    "refused 13: a slot has too little light, or a count cannot serve its load\n",
-)
+WORDS = [f"refused {number}: {tool_words(number)}\n" for number in (11, 12, 13)]
 
 
 def numbers():
@@ -953,7 +950,7 @@ def show_of(top, table, order=range(6)):
     return b"".join(fields[at] + b"\n" for at in order)
 
 
-RACK = "refused 3: modules or top step outside 1 to 200\n"
+RACK = f"refused 3: {tool_words(3)}\n"
 TABLE_USAGE = "usage: lamp table TOP\n"
 WRONG_TABLE = {
     (): ("table: 0 words where it takes TOP", TABLE_USAGE),
@@ -1057,7 +1054,7 @@ def wrong_catalogue_shows():
     expect("a top after the table, and no modules", lamp("check", "-", data=late), 1, places.encode())
     expect("a top of two bytes", lamp("check", "-", data=show_of(256, b"table catalogue")), 2, b"", "line 2, column 5: '256' is too large")
     bright = show_of(2, b"table catalogue").replace(b"loads 3", b"loads 7")
-    place = "refused 8: a load above modules times top step\n  slot 1: load 7, above 6, 3 times 2 (line 6, column 7)\n"
+    place = f"refused 8: {tool_words(8)}\n  slot 1: load 7, above 6, 3 times 2 (line 6, column 7)\n"
     expect("a load above its bound", lamp("check", "-", data=bright), 1, place.encode())
     dear = show_of(2, b"table catalogue").replace(b"warm-up 3", b"warm-up 500000001")
     require("a price above its bound", lamp("check", "-", data=dear)[1].startswith(b"refused 6: "))
@@ -1135,7 +1132,7 @@ def wrong_practice(folder):
     (folder / "a file").write_bytes(b"")
     for words, complaints in WRONG_PRACTICE.items():
         expect(f"practice {words}", lamp("practice", *words, cwd=folder), 2, b"", *complaints)
-    zero = "refused 14: start 0 of a practice card\n  practice cards have the numbers 1 to 4,294,967,295\n"
+    zero = f"refused 14: {tool_words(14)}\n  practice cards have the numbers 1 to 4,294,967,295\n"
     for words in (["0"], ["0", "--into", into], ["0..3", "--into", into], ["0", "--into", "none"]):
         expect(f"practice {words}", lamp("practice", *words, cwd=folder), 1, b"", zero)
     require("nothing is written by wrong use", contents(into) == {} and not (folder / "none").exists())
