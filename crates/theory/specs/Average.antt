@@ -1,4 +1,5 @@
--- The operating cost never falls with more light, since G never falls, and its average over the modules falls with their number.
+-- The operating cost never falls with more light, since G never falls: `more-light`, `lighter`. Its average over the modules never rises with their
+-- number: `average-falls`.
 use Prim.Native.Nat.{ℕ, zero, suc, _+_, _-_, _*_, _/_, _%_, _≤_, _<_}
 use mathlib.Core.Path.{_≡_, ap}
 use mathlib.Core.Logic.{⊎-elim}

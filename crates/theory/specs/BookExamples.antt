@@ -1,4 +1,5 @@
--- The worked examples of docs/COURSE-BOOK.md, on cards that meet the hypotheses of its facts; and that sharper forms of the facts fail.
+-- The worked examples of facts 1 to 5 of docs/COURSE-BOOK.md, on cards that meet the hypotheses of these facts: `book-examples`; and that sharper
+-- forms of the facts fail, as `coarse-sometimes-dearer`.
 use Prim.Native.Nat.{ℕ, _≤_}
 use mathlib.Core.Path.{_≡_, refl, sym, ap, ap₂, _∙_}
 use mathlib.Core.Bool.{true}

@@ -1,5 +1,8 @@
 -- Condition 3: over a list of allowed counts that keeps the rules with the ratio r (02 §8) the least plan costs at most r times as much as any
--- sheet that serves. For all counts r is 1, and for the coarse ones 2. The sheets are those with enough light (02 §2).
+-- sheet that serves: `list-ratio`. For all counts r is 1, `exact-least`, and for the coarse ones 2, `coarse-twice`; of every planner that keeps the
+-- rules it is `planner-bound`. The sheets are those with enough light (02 §2). The sheet of the least plan serves at the plan's cost,
+-- `least-sheet`; the plan found digit by digit is the least plan, `threshold-plan`; and an accepted card meets the hypotheses,
+-- `accepted-plannable`.
 use Prim.Native.Nat.{ℕ, _*_, _^_, _≤_, _<_}
 use mathlib.Core.Path.{_≡_, refl, sym, ap, _∙_}
 use mathlib.Core.Bool.{true}

@@ -1,4 +1,5 @@
--- Columns are convex, so a slot's verdict on a level is by the difference of the column there.
+-- Columns are convex, `column-bends`. So the verdict of a slot on a level, with the column's difference there for the right lead, is right about
+-- the searched plan: `judged-at`, `next-slope`.
 use Prim.Native.Nat.{ℕ, zero, suc, _+_, _-_, _*_, _≤_, _<_, min}
 use mathlib.Core.Path.{_≡_}
 use mathlib.Core.Logic.{⊎-elim}

@@ -1,5 +1,6 @@
--- The rules for a list of allowed counts and its ratio (document 02, §8): what they say of every list, and that the counts of every planner
--- keep them.
+-- The rules for a list of allowed counts and its ratio (document 02, §8) as propositions, `InRules`: that the test `keepsRules` decides them within
+-- its bounds, `rules-hold`, `rules-kept`; what they say of every list, `rules-grow`; and that the counts allowed a planner keep them with its
+-- ratio, if a list that it is handed passes the test, `planner-rules`.
 use Prim.Native.Nat.{ℕ, zero, suc, _+_, _-_, _*_, _^_, _≤_, _<_}
 use mathlib.Core.Path.{_≡_, refl, ap}
 use mathlib.Core.Bool.{true}

@@ -1,4 +1,5 @@
--- The first of the cheapest plans in an enumeration of all plans in tie order is the least plan.
+-- The function `leastPlan`, which gives the first of the cheapest plans in an enumeration of all plans in tie order, gives the least plan,
+-- `least-plan`, and there is only one least plan, `least-plan-unique`.
 use Prim.Native.Nat.{ℕ, zero, suc, _+_, _≤_, _<_}
 use mathlib.Core.Path.{_≡_, refl, sym, ap, _∙_}
 use mathlib.Core.Bool.{Bool, true, false, cond}

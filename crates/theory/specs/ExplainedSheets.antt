@@ -1,5 +1,6 @@
--- The explanation of a sheet as a call (document 02, §7): its answer by that of marking, what its three numbers promise, and what it says of the
--- planners' sheets.
+-- The explanation of a sheet as a call (document 02, §7): its answer by that of marking, `explains-marked`; what its three numbers promise,
+-- `none-negative`, `above-least`, `zero-exactly`; and what it says of the sheets of plans, `made-explained`, `planner-explained`,
+-- `exact-planner-explained`.
 use Prim.Native.Nat.{ℕ, _≤_, _<_}
 use mathlib.Core.Path.{_≡_, refl, sym, ap, _∙_}
 use mathlib.Core.Bool.{true}

@@ -1,6 +1,7 @@
--- Where the points of a sheet went (document 02, §7): the three numbers are whole differences, together the sheet's cost above the least, and
--- each is 0 exactly if changing that one thing alone saves nothing. The sheets of plans have spread 0 and swaps 0, and the exact plan's sheet
--- has all three 0.
+-- Where the points of a sheet went (document 02, §7): the three numbers are whole differences (`spread-whole`, `counts-whole`, and
+-- `switching-at-least` in SheetLaws), together the sheet's cost above the least, `points-together`, and each is 0 exactly if changing that one
+-- thing alone saves nothing, `spread-zero`, `swaps-zero`, `counts-zero`. All three are 0 exactly if no sheet that serves costs less, `all-zero`.
+-- The sheets of plans have spread 0 and swaps 0, `plan-points`, and the exact plan's sheet has counts 0 too, `exact-points`.
 use Prim.Native.Nat.{ℕ, zero, suc, _+_, _≤_, _<_}
 use mathlib.Core.Path.{_≡_, refl}
 use mathlib.Core.Bool.{true}

@@ -1,4 +1,5 @@
--- The generator of practice shows (document 02, §1): it never gets stuck, and it keeps different starts apart.
+-- The generator of practice shows (document 02, §1): no start of 32 bits but 0 ever draws 0, `never-zero`, start 0 draws nothing else,
+-- `zero-repeats`, and different starts never draw the same number at the same place, `starts-apart`.
 use Prim.Native.Nat.{ℕ, zero, suc, _+_, _*_, _/_, _%_, _^_, _≤_, _<_}
 use mathlib.Core.Path.{_≡_, refl, sym, ap, _∙_}
 use mathlib.Core.Logic.{⊎-elim}
@@ -78,7 +79,7 @@ starts-apart a b zero ha hb e = e
 starts-apart a b (suc n) ha hb e =
     starts-apart a b n ha hb (draw-apart _ _ (drawn-below a n ha) (drawn-below b n hb) e)
 
--- No start from 1 on ever draws 0, since start 0 always does: the generator never gets stuck.
+-- No start of 32 bits but 0 ever draws 0, since start 0 always does.
 pub never-zero : (start n : ℕ) → 1 ≤ start → start < states → 1 ≤ drawn start n
 never-zero start n some h =
     ⊎-elim

@@ -1,4 +1,5 @@
--- The dynamic program over a list of allowed counts gives the least plan by counts, first in tie order.
+-- The dynamic program over a list of allowed counts gives the least plan by counts from a start count, first in tie order: `searched-least`, and
+-- its cost: `searched-cost`.
 use Prim.Native.Nat.{ℕ, zero, suc, _+_, _-_, _*_, _≤_, _<_}
 use mathlib.Core.Path.{_≡_, refl, sym, _∙_}
 use mathlib.Core.List.{List, [], _∷_, _++_}

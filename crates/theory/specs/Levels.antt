@@ -1,5 +1,5 @@
--- One slot after a convex column: what it chooses by levels, how much the column after it rises over each level, and that this column is
--- convex too. Level k lies between the places k and k + 1.
+-- One slot after a convex column: what it chooses by levels, `judged`, how much the column after it rises over each level, `slope-after`, and that
+-- this column is convex too, `after-convex`. Level k lies between the places k and k + 1.
 use Prim.Native.Nat.{ℕ, zero, suc, _+_, _-_, _*_, _≤_, _<_, min}
 use mathlib.Core.Path.{_≡_, sym, fun-ext, _∙_}
 use mathlib.Core.Bool.{true, false, false≢true}

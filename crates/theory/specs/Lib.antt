@@ -1,8 +1,9 @@
--- The theorems, a module a subject. Every statement is over instances and lists of any size. The end theorems are in SheetLaws,
--- RunningCosts, ThresholdPlans, Enumeration, Average, CountLists, Condition3, Explanations, RearrangedSheets, SmallestPlans, Refusals,
--- Outcomes, ExplainedSheets, CourseBook, ListedCounts, LongInput, Generator and PracticeCards, and the other modules lead to them.
--- Counterexamples shows that some of their hypotheses are needed, and Applications that they can be met. RelatedCards and BookExamples show
--- that the hypotheses of CourseBook can be met, and that sharper forms of its facts fail.
+-- The theorems, a module a subject. Theorems on shows are over racks, tables and lists of any size with steps below the byte for off, theorems on
+-- cards over accepted cards. The end theorems are in RowCosts, SheetLaws, RunningCosts, ThresholdPlans, Enumeration, Average, CountLists,
+-- Condition3, Explanations, RearrangedSheets, SmallestPlans, Refusals, Outcomes, ExplainedSheets, CourseBook, ListedCounts, LongInput, Generator,
+-- PracticeCards, SittingRuns, SittingBounds and SittingCalls, and the other modules lead to them. Counterexamples shows that some of their
+-- hypotheses are needed, and Applications that they can be met. RelatedCards and BookExamples show that the hypotheses of CourseBook can be met,
+-- and that sharper forms of its facts fail.
 pub mod Columns
 pub mod Hypotheses
 pub mod RowCosts

@@ -1,5 +1,5 @@
--- Racks that switch in groups, on cards (document 02, §8): the planners of document 01 are two of these lists, with ratio 1 there is no other
--- list, and no sheet that keeps to a list costs less than its plan.
+-- Racks that switch in groups, on cards (document 02, §8): the planners of document 01 are two of these lists, `coarse-listed`, `exact-listed`; the
+-- list of all counts is the only one with ratio 1, `ratio-one-list`; and no sheet that keeps to a list costs less than its plan, `within-least`.
 use Prim.Native.Nat.{ℕ, zero, suc, _+_, _≤_, _<_}
 use mathlib.Core.Path.{_≡_, refl}
 use mathlib.Core.Bool.{true}

@@ -1,4 +1,5 @@
--- What is read of a long input: no card that is accepted is longer than 2,869 bytes, so the first 2,870 bytes decide the answer.
+-- What is read of a long input (document 01, 'Program and listing'): no accepted card is longer than 2,869 bytes, so what follows the first 2,870
+-- bytes is without effect on what the program prints: `long-printed`.
 use Prim.Native.Nat.{ℕ, _+_, _≤_}
 use mathlib.Core.Path.{_≡_, _∙_, ap}
 use mathlib.Core.Bool.{Bool, true, false, not, _&&_}

@@ -1,4 +1,6 @@
--- Planners, sheet call and marking agree (condition 2): a planner's plan makes a sheet that is marked at the planner's cost.
+-- What marking, the sheet call and the planners answer, by the card, the list and the buffers. Marking accepts a sheet exactly if it serves,
+-- `mark-accepts`, `mark-number`; an accepted card with buffers long enough is planned by every planner that keeps the rules, `always-planned`; and
+-- the three agree (condition 2): a plan makes a sheet that is marked at the cost named, `made-marked`, `planner-marked`.
 use Prim.Native.Nat.{ℕ, _≤_}
 use mathlib.Core.Path.{_≡_, refl, sym, ap, _∙_}
 use mathlib.Core.Bool.{true, false, not}

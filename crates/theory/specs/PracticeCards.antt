@@ -1,5 +1,5 @@
--- The cards of practice shows (document 02, §1): every one that is written is accepted, and planned by every planner
--- that keeps the rules for its rack.
+-- The cards of practice shows (document 02, §1): every one that is written is accepted, and planned by every planner that keeps the rules for its
+-- rack, `practice-writes`, `practice-planned`; and an area as long as the longest one is enough for every start from 1 on, `practice-enough`.
 use Prim.Native.Nat.{ℕ, _≤_}
 use mathlib.Core.Path.{_≡_, ap}
 use mathlib.Core.List.{List}
@@ -48,7 +48,7 @@ module _ (start : ℕ) where
           omega (arith, card-bytes-length (practiceShow start), practice-length start),
         )
 
-    -- An area as long as the longest card is never refused by 10.
+    -- With an area as long as the longest card no start from 1 on is refused.
     pub practice-enough : 1 ≤ start → longestPractice ≤ length area → numberOf (answer (practiceCard start area)) ≡ 0
     practice-enough some long =
         ap numberOf (practice-given start area (λ e. absurd (omega arith)) (omega (arith, practice-length start)))

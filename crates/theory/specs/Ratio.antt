@@ -1,4 +1,5 @@
--- The least cost over a list of allowed counts that leaves no wide gaps, against the cost of every plan (thesis 5.5, 5.11).
+-- Over a list of allowed counts that grow by r, `GrowsBy`, the least cost by counts, from any start count, is at most r times what every plan that
+-- serves costs with the price of the start: `ratio` (compare thesis 5.5, 5.11).
 use Prim.Native.Nat.{ℕ, zero, suc, _+_, _-_, _*_, _≤_, _<_, min}
 use mathlib.Core.Path.{_≡_, ap}
 use mathlib.Core.Bool.{true}

@@ -1,4 +1,5 @@
--- The swaps by sheets (document 02, §7): they are 0 exactly if no sheet that serves, with the same steps in each slot, costs less.
+-- The swaps by sheets (document 02, §7): they are 0 exactly if no sheet that serves, with the same steps in each slot, costs less:
+-- `swaps-zero-sheets`.
 use Prim.Native.Nat.{ℕ, zero, suc, _-_, _*_, _≤_, _<_}
 use mathlib.Core.Path.{_≡_, refl, sym, ap, _∙_}
 use mathlib.Core.Bool.{true, false, cond}

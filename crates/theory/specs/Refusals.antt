@@ -1,5 +1,6 @@
--- The answer of every call: the first refusal of its list that applies, which is the lowest one where no paragraph of document 02 sets an
--- order, or, where none applies, the cost.
+-- The answer of every call: the first refusal of its list that applies, `answered-first`, which is the lowest one where no paragraph of document 02
+-- sets an order, `OwnOrder`, `refusals-ascend`, `lowest-least`, or, where none applies, the cost, `accepted-none`. No call answers 9, `nine-never`,
+-- and after a refusal every lent buffer of bytes is as it was lent, `refused-unchanged`.
 use Prim.Native.Nat.{ℕ, _+_, _-_, _≤_, _<_}
 use mathlib.Core.Path.{_≡_, refl, sym, ap, _∙_}
 use mathlib.Core.Bool.{true, false, not, true≢false}

@@ -1,5 +1,6 @@
--- The cards of document 02, §3, are there: each accepted card has an accepted card that is the show backwards, one for every larger rack, and
--- one that is the show and then another, where both together have at most 1,024 slots.
+-- The cards of document 02, §3, are there: each accepted card has an accepted card that is the show backwards, `reversed-card`, one for every
+-- larger rack of up to 200 modules, `larger-card`, and one that is the show and then another with equal rack, table and prices, where both together
+-- have at most 1,024 slots, `concatenated-card`.
 use Prim.Native.Nat.{ℕ, _+_, _*_, _≤_, _<_}
 use mathlib.Core.Path.{_≡_, refl, sym, _∙_}
 use mathlib.Core.Bool.{true}

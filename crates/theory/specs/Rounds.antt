@@ -1,4 +1,5 @@
--- Each round of the search digit by digit halves the places in which the searched plan is known to be, until one is left in each slot.
+-- Each round of the search digit by digit halves the places in which the searched plan is known to be, until one is left in each slot:
+-- `rounds-found`.
 use Prim.Native.Nat.{ℕ, zero, suc, _+_, _-_, _^_, _≤_, _<_}
 use mathlib.Core.Path.{_≡_, sym, ap, _∙_}
 use mathlib.Core.Logic.{⊎-elim}

@@ -1,4 +1,5 @@
--- On a convex table the operating cost of a count is the least cost of a row of bytes with enough light, and the row of a plan attains it.
+-- On a convex table the operating cost of a count is the least cost of a row of bytes with enough light, `row-at-least`, and the row of a plan
+-- attains it, `plan-row-cost`. It is the thesis's n·f(L/n) with straight lines between table entries, with G for F: `straight-line`.
 use Prim.Native.Nat.{ℕ, zero, suc, _+_, _-_, _*_, _/_, _%_, _≤_, _<_}
 use mathlib.Core.Path.{_≡_, refl, ap, sym, _∙_}
 use mathlib.Core.Bool.{Bool, true, false, cond, or-true, or-false}

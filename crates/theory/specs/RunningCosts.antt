@@ -1,4 +1,4 @@
--- On a convex table the operating cost of a load is convex in the count.
+-- On a convex table the operating cost of a load is convex in the count, over the counts that serve the load: `running-convex`.
 use Prim.Native.Nat.{ℕ, _+_, _-_, _*_, _/_, _%_, _≤_, _<_}
 use mathlib.Core.Path.{_≡_, ap}
 use mathlib.Core.Logic.{⊎-elim}

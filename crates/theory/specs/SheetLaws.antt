@@ -1,5 +1,6 @@
--- Sheets: their cost by the modules that go on, the thesis's 2.2 and 2.3, the counts of a sheet, and the sheet of a plan, with
--- operating cost and switching cost apart (02 §7).
+-- Sheets: their cost by the modules that go on, `sheet-cost-starts`; the thesis's 2.2 and 2.3, `thesis-cost`, `serves-feasible`; that on a convex
+-- table a sheet that serves costs at least what its counts cost, `sheet-at-least`; and that the sheet of a plan serves and costs just that,
+-- `plan-sheet-serves`, `plan-cost-counts`; operating cost and switching cost also apart (02 §7).
 use Prim.Native.Nat.{ℕ, zero, suc, _+_, _-_, _*_, _/_, _%_, _≤_, _<_}
 use mathlib.Core.Path.{_≡_, refl, ap, ap₂, sym, _∙_, subst}
 use mathlib.Core.Bool.{Bool, true, false, cond}

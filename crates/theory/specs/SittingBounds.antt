@@ -1,5 +1,6 @@
--- What a sitting never tells (document 02, §4): the least cost before closing, a lowest cost below the least, more submissions than the
--- allowance.
+-- What a sitting never tells (document 02, §4): a candidate the least cost before closing, `least-hidden`; where all acts are lent one card, a
+-- lowest cost below the least, `lowest-at-least`; more submissions used than the allowance, `submissions-within`. An accepted opening is answered
+-- as the exact planner, `opened-planned`, and a submission that 1 to 8 and 15 to 17 let pass as marking, `submission-as-marking`.
 use Prim.Native.Nat.{ℕ, zero, suc, _≤_}
 use mathlib.Core.Path.{_≡_, refl, sym, ap, _∙_, subst}
 use mathlib.Core.Bool.{Bool, true, false, cond, not, _&&_, true≢false}

@@ -1,4 +1,6 @@
--- What the calls of a sitting give is what the theorems on all calls and those on sequences of acts speak of (document 02, §4).
+-- The calls of a sitting, beside the theorems on all calls and those on sequences of acts (document 02, §4): the number and the cost of a reply are
+-- those of the answer, `reply-gives`; after a refusal the list of seats at exit is the lent one, `refused-seats`; which acts leave the list, and
+-- which have the same reply with every list; and when a sitting counts as open or closed, `phase-opened`, `phase-closed`.
 use Prim.Native.Nat.{ℕ}
 use mathlib.Core.Path.{_≡_, refl, ap}
 use mathlib.Core.Bool.{Bool, true, false, cond, false≢true}

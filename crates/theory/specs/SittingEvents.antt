@@ -1,4 +1,5 @@
--- What an act of a sitting can do, by the rules that its answer has passed.
+-- What an act of a sitting can do, by the rules that its answer has passed (document 02, §4): `Possible` says which events can happen in a state,
+-- and what an act does is one of them, `acts-possible`.
 use Prim.Native.Nat.{ℕ, _<_}
 use mathlib.Core.Path.{_≡_, refl, sym, ap, _∙_}
 use mathlib.Core.Bool.{Bool, true, false, not, _&&_, true≢false}
@@ -66,7 +67,7 @@ module _ (f : Facts) (d : ℕ) where
         (passed-over (λ n. not (leb 11 n && leb n 13)) (cardTests card ++ submissionTests f d) (sheetTests (instanceOf card) s) _ refl (ap not counted) e) .1)
 
 -- What can happen in a sitting: an opening always; the rest once it is opened. Who is seated is not 0 and has no seat yet, and a seat is empty;
--- a submission that counts leaves the allowance unspent, and a sheet that is marked is that of a seated candidate.
+-- a submission that counts finds the allowance unspent, and a sheet that is marked is that of a seated candidate.
 pub data Possible (s : State) : Event → Type 0 where
   nothing-possible : Possible s nothingDone
   opening-possible : (a n : ℕ) → Possible s (openingDone a n)

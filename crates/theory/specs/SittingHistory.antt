@@ -1,5 +1,6 @@
--- Any sequence of acts is told what the rules tell from the history alone (document 02, §4): 'Any sequence of calls answers as this
--- paragraph's rules do'.
+-- When the state of a sitting is that of a history, a list of events (document 02, §4): `Joined`, and of its seats `SeatsTold`. Then both give the
+-- same facts, `joined-agrees`. The state after an opening is that of every history that ends with it, `opening-joined`, and it stays so with
+-- everything that can happen, `event-joined`.
 use Prim.Native.Nat.{ℕ, _+_, _≤_, _<_}
 use mathlib.Core.Path.{_≡_, refl, sym, ap, _∙_}
 use mathlib.Core.Bool.{true, false, not, true≢false}

@@ -1,4 +1,5 @@
--- Any sequence of acts of a sitting (document 02, §4): what it is told is what the rules tell from the history alone.
+-- Any sequence of acts of a sitting that starts afresh is told what the rules tell from the history alone (document 02, §4): `any-sequence`. What a
+-- call leaves holds the state that the transition makes of the one handed to it: `transition`.
 use Prim.Native.Nat.{ℕ}
 use mathlib.Core.Path.{_≡_, refl, sym, ap, _∙_, subst}
 use mathlib.Core.Bool.{false, true≢false}

@@ -1,4 +1,5 @@
--- One slot's choice is the least over all places that serve, and the smallest place that attains it. So columns rise gradually.
+-- One slot's choice is the least over all places that serve, and the smallest place that attains it: `slot-best`, `column-best`. So a column rises
+-- with the place, by at most the switching price a module: `column-rises`, `column-slope`.
 use Prim.Native.Nat.{ℕ, zero, suc, _+_, _-_, _*_, _≤_, _<_}
 use mathlib.Core.Path.{_≡_, refl, sym, ap, _∙_}
 use mathlib.Core.Bool.{Bool, true, false, cond, false≢true}

@@ -1,5 +1,6 @@
--- Of all plans of least cost the one that the tie rule chooses is the smallest in every slot. The reason: of two plans the slot-wise smaller
--- one and the slot-wise larger one together cost no more than the two, since the price of a rise is convex in the difference of two counts.
+-- Of all plans of least cost the one that the tie rule chooses is the smallest in every slot, `least-plan-smallest`, and no sheet that serves at
+-- the least cost has fewer modules active in a slot, `least-sheet-smallest`. The reason: of two plans the slot-wise smaller one and the slot-wise
+-- larger one together cost no more than the two, since the price of a rise is convex in the difference of two counts.
 use Prim.Native.Nat.{ℕ, zero, suc, _+_, _-_, _≤_, _<_, min, max}
 use mathlib.Core.Path.{_≡_, sym, _∙_}
 use mathlib.Core.Bool.{true}

@@ -1,4 +1,5 @@
--- Switching between two rows of bytes: how many modules go on, and what the changes cost.
+-- Switching between two rows of bytes: how many modules go on, at least as many as the count rises by, `started-at-least`, and between rows of
+-- plans just as many, `plan-started`; and what the changes cost, `change-cost`.
 use Prim.Native.Nat.{ℕ, zero, suc, _+_, _-_, _*_, _≤_, _<_}
 use mathlib.Core.Path.{_≡_, refl, ap, _∙_}
 use mathlib.Core.Bool.{Bool, true, false, cond}

@@ -1,4 +1,4 @@
--- The plan that is found digit by digit is the searched plan, so it is the least plan by counts.
+-- The plan that is found digit by digit is the searched plan, `threshold-searched`, so it is the least plan by counts, `threshold-least`.
 use Prim.Native.Nat.{ℕ, zero, suc, _^_, _≤_, _<_}
 use mathlib.Core.Path.{_≡_, sym, ap, _∙_}
 use mathlib.Core.Logic.{⊎-elim}
