@@ -113,8 +113,8 @@ cardAtExit c = getD (buffersAtExit c) 0 []
 unfoldable pub tableAtExit : Call → List ℕ
 tableAtExit c = getD (buffersAtExit c) 0 []
 
--- The whole outcome: number and cost, then each lent buffer in the order of the parameters. What an explanation returns beside its number is
--- in ExplainedPoints.
+-- What a call answers, number and cost, and then every lent buffer at exit, in the order of the parameters. What an explanation returns beside
+-- its number is in ExplainedPoints, and what an act returns beside these two numbers and leaves of the list of seats in Sittings.
 unfoldable pub outcome : Call → List (List ℕ)
 outcome c = (numberOf (answer c) ∷ costOf (answer c) ∷ []) ∷ buffersAtExit c
 

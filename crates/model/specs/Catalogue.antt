@@ -1,4 +1,5 @@
--- The catalogue module's table (document 02, §5): 'Every customer buys the same module, so its table should come with the software'.
+-- The catalogue module's table (document 02, §5): its rule, `catalogueEntry`, the tests of a whole table, `TestedTable`, and its entries as a
+-- card's fields, `catalogueBytes`.
 use Prim.Native.Nat.{ℕ, _+_, _-_, _*_, _/_}
 use mathlib.Core.Path.{_≡_}
 use mathlib.Core.Bool.{Bool, true}

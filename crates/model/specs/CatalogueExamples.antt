@@ -1,5 +1,5 @@
--- Examples of document 02, §5: the catalogue module's table, the call that writes it, and the lines of its generator. Beside them answers of
--- wrong programs, which differ.
+-- Examples of document 02, §5: the catalogue module's table, the call that writes it, and the lines of its generator. Beside them answers of wrong
+-- programs, which differ, and bytes that the call does not write, of which `WritesTable` is false.
 use Prim.Native.Nat.{ℕ}
 use mathlib.Core.Path.{_≡_, refl}
 use mathlib.Core.Bool.{Bool, cond}

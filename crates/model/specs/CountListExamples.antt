@@ -24,7 +24,7 @@ cardRising = cardOf 4 1 3 2 (1 ∷ 2 ∷ []) (1 ∷ 3 ∷ [])
 abbrev cardLargest : List ℕ
 cardLargest = cardOf 200 1 1 0 (0 ∷ 0 ∷ []) (3 ∷ [])
 
--- The list of the issue: gaps 2, 2 and 4.
+-- A list with the gaps 2, 2 and 4.
 abbrev listE : List ℕ
 listE = 0 ∷ 2 ∷ 4 ∷ 8 ∷ []
 

@@ -1,4 +1,5 @@
--- The show card and what it says (document 01, 'The show card').
+-- A show, `Instance`, and its card (document 01, 'The show card'): the places of the fields, how they are read, `instanceOf`, and written,
+-- `cardBytes`, the bounds of the numbers, and when a table is convex and when it never falls ('Running cost of a count').
 use Prim.Native.Nat.{ℕ, _+_, _-_, _*_}
 use mathlib.Core.Bool.{Bool, _&&_}
 use mathlib.Core.List.{List, [], _∷_, _++_}

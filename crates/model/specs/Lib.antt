@@ -1,4 +1,4 @@
--- What a reader must believe: the terms of documents 01 and 02 and the outcome of every call, as definitions. No theorem stands here but
+-- What a reader must believe: the terms of documents 01 and 02, and what every call answers and leaves, as definitions. No theorem stands here but
 -- the examples. Read in this order.
 pub mod Answers
 pub mod Instance

@@ -1,4 +1,5 @@
--- The planners as data: what they differ in stands in tables (document 01, 'The plans'; 02 §8).
+-- The planners as data, `Planner`, with a table for each thing in which they differ: the counts allowed, the work bytes, the rules of a list and
+-- the ratio; and the plan and the cost of each (document 01, 'The plans'; 02 §8).
 use Prim.Native.Nat.{ℕ, _+_, _*_}
 use mathlib.Core.Bool.{Bool, true}
 use mathlib.Core.List.{List}

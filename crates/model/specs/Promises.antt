@@ -1,7 +1,8 @@
--- What the contracts of the calls promise beyond their outcome, about the call's own number and cost or points and its own bytes at exit: of
--- the sheet call, marking and the planners conditions 2 and 3 of the tender, where the sheets are all lists that serve, of the practice call
--- what document 02, §1, says of its cards, of reading the least cost what §4 says of it, of the catalogue call what its bytes are in a card,
--- and of the explanation of a sheet what §7 says of its three numbers.
+-- What the contracts of the calls promise beyond their outcome, about the call's own number and cost or points and its own bytes at exit: of the
+-- sheet call, marking and the planners conditions 2 and 3 of the tender, where the sheets are all lists that serve, of the planner with a list
+-- condition 3 with its ratio, and that no sheet that keeps to the list costs less (02 §8), of the practice call what 02 §1 says of its cards, of
+-- reading the least cost what §4 says of it, of the catalogue call what its bytes are in a card, and of the explanation of a sheet what §7 says of
+-- its three numbers.
 use Prim.Native.Nat.{ℕ, _+_, _*_, _≤_, _<_}
 use mathlib.Core.Path.{_≡_}
 use mathlib.Core.Bool.{true}

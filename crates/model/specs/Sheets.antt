@@ -1,4 +1,4 @@
--- Sheets: when one serves a show, and what it costs (document 01, 'Terms'; 02 §2).
+-- Sheets: when one serves a show, what it costs, and its counts (document 01, 'Terms'; 02 §2).
 use Prim.Native.Nat.{ℕ, zero, suc, _+_, _*_}
 use mathlib.Core.Bool.{Bool, cond, _&&_, _||_}
 use mathlib.Core.List.{List}

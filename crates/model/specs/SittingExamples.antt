@@ -1,5 +1,5 @@
--- Examples of the acts of a sitting (document 02, §4), on card A, whose least cost is 32: a table of acts, a table of what wrong readings would
--- answer, and a whole sitting.
+-- Examples of the acts of a sitting (document 02, §4), most of them on card A, whose least cost is 32: tables of acts, a table of what wrong
+-- readings would answer, and a table of sequences of acts, among them a whole sitting, by the calls in turn and by its history.
 use Prim.Native.Nat.{ℕ}
 use Prim.Native.String.{String}
 use mathlib.Core.List.{List, [], _∷_, _++_, map}

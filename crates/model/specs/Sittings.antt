@@ -1,5 +1,6 @@
--- What an act of a sitting answers and leaves (document 02, §4), and what a list of acts is told: by the state, by the records that the calls
--- hand on, and by the history alone.
+-- What an act of a sitting answers and does by the facts of the sitting, and what it leaves: of the state, `next`, and of the records that the
+-- calls hand on, `replyOf` and `seatsAtExit` (document 02, §4). What a list of acts is told: by the calls in turn, `toldInTurn`, and by the history
+-- alone, `toldFrom`.
 use Prim.Native.Nat.{ℕ, min}
 use mathlib.Core.Path.{_≡_}
 use mathlib.Core.Bool.{Bool, true, false, cond}
