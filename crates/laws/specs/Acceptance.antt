@@ -1,4 +1,5 @@
--- What an accepted card is known to hold.
+-- The bounds of a show that is in order, `InBounds`, by `in-bounds`; and what an accepted card is known to hold: its show is in order,
+-- `accepted-in-order`, and within these bounds, `accepted-bounds`, and the card has its length, `card-size`.
 use Prim.Native.Nat.{ℕ, _+_, _*_, _≤_, _<_}
 use mathlib.Core.Path.{_≡_}
 use mathlib.Core.Bool.{true, false, not}

@@ -1,4 +1,5 @@
--- Cards whose table is known as bytes: what is read from it, when the card is accepted, and how such a card is made.
+-- Cards whose table is known as bytes: what is read from it, `table-read`; when the card is accepted, `accepted-by-others`; and that a head, a
+-- table and loads make such a card, `table-behind`.
 use Prim.Native.Nat.{ℕ, _+_, _*_, _^_, _≤_, _<_}
 use mathlib.Core.Path.{_≡_, sym, _∙_}
 use mathlib.Core.Bool.{true}

@@ -1,4 +1,5 @@
--- The catalogue module's table (document 02, §5): each test of a whole table, turned into the fact at each entry, and what follows for cards.
+-- The catalogue module's table (document 02, §5): each test of a whole table, turned into the fact at each entry, `entry-is`, `entry-convex`,
+-- `entry-rises`, and what follows for cards, `catalogue-card`.
 use Prim.Native.Nat.{ℕ, zero, suc, _+_, _-_, _*_, _/_, _^_, _≤_, _<_}
 use mathlib.Core.Path.{_≡_, refl, sym, _∙_}
 use mathlib.Core.Bool.{true}

@@ -1,4 +1,5 @@
--- Which counts are in the two lists of allowed counts, and that both lists are in order.
+-- Which counts are in the list of all counts and in that of the coarse ones (document 01, 'The plans'): `all-member`, `coarse-member`; and that
+-- both lists ascend: `all-in-order`, `coarse-in-order`.
 use Prim.Native.Nat.{ℕ, zero, suc, _+_, _^_, _≤_, _<_}
 use mathlib.Core.Path.{_≡_}
 use mathlib.Core.Bool.{Bool, true, false, not, or-true}

@@ -1,4 +1,5 @@
--- The card that is written for a show (`cardBytes`): what is read from it, and when it is accepted.
+-- The card that is written for a show, `cardBytes`: its length, `card-bytes-length`; that a show whose fields fit is read back from it,
+-- `card-bytes-show`; and that it is accepted exactly if the show is in order, `card-bytes-accepted`.
 use Prim.Native.Nat.{ℕ, _+_, _*_, _^_, _≤_, _<_}
 use mathlib.Core.Path.{_≡_, refl, sym, ap, _∙_}
 use mathlib.Core.List.{List, [], _++_, append-nil}

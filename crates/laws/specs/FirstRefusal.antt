@@ -1,4 +1,5 @@
--- The first of some tests that applies, one test at a time.
+-- Laws of `firstOf`, the first of some tests that applies: test by test, of two lists joined, of tests none of which applies, `NoneApplies`, and of
+-- two lists that agree as far as the first test that applies, `Alike`.
 use Prim.Native.Nat.{ℕ}
 use mathlib.Core.Path.{_≡_, refl, sym, _∙_}
 use mathlib.Core.Bool.{true, false, true≢false}

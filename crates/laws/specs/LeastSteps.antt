@@ -1,4 +1,5 @@
--- G and the active step (document 02, §2): what they are on any table, and on a convex one, where the lowest step says both.
+-- G and the active step (document 02, §2). On any table: what they are, `active-least`, `active-cost`, and that G never falls, `least-never-falls`.
+-- On a convex one: the active step is the greater of the step and the lowest step, `active-greater`, and G is convex, `least-convex`.
 use Prim.Native.Nat.{ℕ, _+_, _-_, _≤_, _<_, max}
 use mathlib.Core.Path.{_≡_, sym, ap, _∙_}
 use mathlib.Core.Logic.{⊎-elim}

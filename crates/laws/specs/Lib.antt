@@ -1,4 +1,4 @@
--- Laws of model's definitions that code and theorems both cite, a module a subject.
+-- Laws of model's definitions, which the theorems, the proofs of the code or both cite, a module a subject.
 pub mod AnswerNumber
 pub mod FirstRefusal
 pub mod Acceptance

@@ -1,4 +1,4 @@
--- The operating cost of a count, and the row of a plan, byte by byte.
+-- The operating cost of a count as one formula, `operating-formula`, and a bound for it, `operating-bound`; and the row of a plan, byte by byte.
 use Prim.Native.Nat.{ℕ, zero, suc, _+_, _-_, _*_, _/_, _%_, _≤_, _<_}
 use mathlib.Core.Path.{_≡_, sym}
 use mathlib.Core.Bool.{cond}

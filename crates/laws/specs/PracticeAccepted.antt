@@ -1,5 +1,6 @@
--- The practice show of a start: the bounds of its fields, that its table never falls, and that its card is accepted. All of it holds by
--- the way the show is made: its differences are never negative and never fall.
+-- The practice show of a start (document 02, §1): the bounds of its fields, that its table never falls, `practice-never-falls`, that its card is
+-- accepted, `practice-accepted`, and how long the card is at most, `practice-length`. All of it is proved for every start, by the way the show is
+-- made.
 use Prim.Native.Nat.{ℕ, zero, suc, _+_, _*_, _%_, _≤_, _<_}
 use mathlib.Core.Path.{_≡_}
 use mathlib.Core.Bool.{true}

@@ -1,4 +1,5 @@
--- The answer of the rounded count's call, by its tests, and that it is what the course book's list of cases gives (02 §6).
+-- The answer of the rounded count's call, by its tests, and that it is what the course book's list of cases gives (document 02, §6):
+-- `answered-by-cases`.
 use Prim.Native.Nat.{ℕ, _≤_, _<_}
 use mathlib.Core.Path.{_≡_, sym, ap}
 use mathlib.Core.Bool.{true, false, cond}

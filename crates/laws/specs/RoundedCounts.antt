@@ -1,5 +1,5 @@
--- The rounded count is the smallest allowed count not below a count (document 01, 'The plans'), and the course book's list of cases
--- gives it too (02 §6).
+-- The rounded count is the smallest allowed count not below a count (document 01, 'The plans'): `rounded-least`. In a rack of at most 200 the
+-- course book's list of cases gives it too (02 §6): `rounded-by-cases`.
 use Prim.Native.Nat.{ℕ, zero, suc, _+_, _^_, _≤_, _<_, min}
 use mathlib.Core.Path.{_≡_, refl, sym, _∙_}
 use mathlib.Core.Bool.{and-false}

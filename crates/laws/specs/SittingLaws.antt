@@ -1,4 +1,7 @@
--- What an act of a sitting is told depends on the phase alone while it is unopened, and else on the facts about one candidate.
+-- An act of a sitting (document 02, §4) is answered and told the same, and does the same, in two sittings that agree as far as it can tell,
+-- `AgreeAt`: in the phase, and once opened in the allowance, the submissions used, the least cost, whether a seat is empty, and the seat of the one
+-- candidate that it is about: `answers-agree`, `told-agree`, `events-agree`. Also what a refused act does, `refused-does`, and how a submission on
+-- an accepted card is answered, `submission-on-card`.
 use Prim.Native.Nat.{ℕ}
 use mathlib.Core.Path.{_≡_, refl, sym, ap, _∙_}
 use mathlib.Core.Bool.{Bool, true, false, cond, not, _&&_, _||_}
@@ -31,7 +34,7 @@ concerned (readLeast d) = d
 concerned (readLowest d c) = c
 concerned (readUsed d) = 0
 
--- Two sittings agree in all that the rules ask about them and about candidate c, who is not 0.
+-- Two sittings agree in all that the rules ask about them beside the phase, and about candidate c where c is not 0.
 pub record SameAt (c : ℕ) (f g : Facts) : Type 0 where
   pub same-allowance : f .allowance ≡ g .allowance
   pub same-used : f .used ≡ g .used
@@ -65,7 +68,7 @@ pub once-begun : (p : Phase) (b : Bool) → not (not (isUnopened p) && b) ≡ fa
 once-begun p b e = not-true _ (and-left (not (isUnopened p)) b (not-false _ e))
 
 module _ {c : ℕ} {f g : Facts} (agree : AgreeAt c f g) where
-  -- No candidate but 0 has a seat in one sitting alone.
+  -- Candidate c has a seat in both sittings or in neither; 0 has none.
   no-seat-same : isUnopened (f .phase) ≡ false → noSeat f c ≡ noSeat g c
   no-seat-same o = or-same (eqb c 0) (λ e. ap not (agree .once-opened o .same-seated e))
 

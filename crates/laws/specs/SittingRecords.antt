@@ -1,4 +1,4 @@
--- The records of a sitting hold its state: what an event makes of the records is what it makes of the state.
+-- The records of a sitting hold its state (document 02, §4): what an event makes of the records holds what it makes of the state, `state-after`.
 use Prim.Native.Nat.{ℕ, _≤_, _<_}
 use mathlib.Core.Path.{_≡_, refl, ap, _∙_}
 use mathlib.Core.Bool.{Bool}

@@ -1,4 +1,5 @@
--- Little-endian numbers over the width: the definition, and one law for every width.
+-- Little-endian numbers of any width: read from a list of bytes, `littleEndian`, and written, `bytesOf`. The laws hold for every width; a number
+-- that fits its bytes is read back from them, `little-bytes`.
 use Prim.Native.Nat.{ℕ, zero, suc, _+_, _*_, _/_, _%_, _^_, _≤_, _<_}
 use mathlib.Core.Path.{_≡_, refl, _∙_}
 use mathlib.Core.List.{List, [], _∷_, _++_}

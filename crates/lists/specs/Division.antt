@@ -1,4 +1,4 @@
--- Quotient and remainder.
+-- Bounds of quotient and remainder, where the divisor may be 0, and a product as the sum of two parts.
 use Prim.Native.Nat.{ℕ, zero, suc, _+_, _-_, _*_, _/_, _%_, _≤_, _<_}
 use mathlib.Core.Path.{_≡_, ap, sym, _∙_}
 use mathlib.Core.Logic.{⊎-elim}

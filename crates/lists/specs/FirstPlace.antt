@@ -1,4 +1,5 @@
--- The first place of a list at which a test holds, and a list changed there alone.
+-- Whether a test holds at an element of a list, at how many and at which place first, `occurs`, `countOf`, `firstPlace`; and a list changed at that
+-- place alone, `changeFirst`.
 use Prim.Native.Nat.{ℕ, suc, _+_, _<_}
 use mathlib.Core.Path.{_≡_, refl, sym, ap, _∙_}
 use mathlib.Core.Bool.{Bool, true, false, cond, _||_, true≢false}

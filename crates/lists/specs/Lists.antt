@@ -1,4 +1,5 @@
--- Lists made from functions of an index, what a test keeps of a list, and when two lists are the same.
+-- Lists made from functions of an index, lists in reverse, what a test keeps of a list, a list written over the front of another, and when two
+-- lists are the same.
 use Prim.Native.Nat.{ℕ, zero, suc, _+_, _*_, _<_}
 use mathlib.Core.Path.{_≡_, refl, sym, ap, _∙_}
 use mathlib.Core.Logic.{⊎-elim}

@@ -1,4 +1,4 @@
--- Order laws for products.
+-- Order laws for products, and what a straight line that rises gradually is at most at a point further on, `line-moved`.
 use Prim.Native.Nat.{ℕ, zero, suc, _+_, _*_, _≤_, _<_}
 use mathlib.Core.Path.{_≡_, ap}
 use mathlib.Core.Logic.{⊎-elim}

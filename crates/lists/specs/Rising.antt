@@ -1,4 +1,5 @@
--- Functions that rise.
+-- A function that rises from each index to the next rises to every later one, `rises-to`; and a number between the first and a later value of any
+-- function lies between two neighbouring values, `between`.
 use Prim.Native.Nat.{ℕ, zero, suc, _+_, _≤_, _<_}
 use mathlib.Core.Path.{_≡_}
 use mathlib.Core.Logic.{⊎-elim}

@@ -1,4 +1,5 @@
--- Rows of m entries each, one after the other at the front of a list.
+-- Rows of m entries each, one after the other at the front of a list; and numbers of w bytes each, one after the other, which are read back:
+-- `little-numbers`.
 use Prim.Native.Nat.{ℕ, suc, _+_, _*_, _^_, _≤_, _<_}
 use mathlib.Core.Path.{_≡_, sym, ap, _∙_}
 use mathlib.Core.List.{List, _++_, append-assoc}

@@ -1,4 +1,5 @@
--- A test at every index below a bound, or at one.
+-- A test at every index below a bound, or at one, and at every element of a list; laws of tests; and a loop that tests one index after the other,
+-- `Passed`.
 use Prim.Native.Nat.{ℕ, zero, suc, _+_, _≤_, _<_}
 use mathlib.Core.Path.{_≡_, refl, sym, _∙_}
 use mathlib.Core.Bool.{Bool, true, false, not, _&&_, _||_, true≢false}

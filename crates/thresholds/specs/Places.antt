@@ -1,4 +1,5 @@
--- Lists of allowed counts and their places. A place is an index of the list.
+-- Lists of allowed counts that ascend from 0 to m, `Ascending`, how fast they grow, `GrowsBy`, and laws of their places. A place is an index of the
+-- list.
 use Prim.Native.Nat.{ℕ, zero, suc, _+_, _-_, _*_, _≤_, _<_}
 use mathlib.Core.Path.{_≡_}
 use mathlib.Core.Bool.{true}

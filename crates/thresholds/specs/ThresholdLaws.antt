@@ -1,4 +1,5 @@
--- Laws of what the search digit by digit computes.
+-- Laws of what the search digit by digit computes: the verdict of a slot by cases, the bounds of sides and leads, `side-most`, `lead-most`,
+-- `carried-most`, and a round slot by slot.
 use Prim.Native.Nat.{ℕ, suc, _+_, _-_, _≤_, _<_}
 use mathlib.Core.Path.{_≡_, refl, sym, ap, _∙_}
 use mathlib.Core.Bool.{Bool, true, false, cond}

@@ -1,7 +1,7 @@
--- The least plan over a list of allowed counts, digit by digit of its places. Level j lies between place j and place j + 1 of the list; a
--- plan is above it in a slot if its place there is above j. A round with the width b knows of each slot's place that it is in the 2 b
--- places from `plan t` on, and finds which half it is in: forward through the slots a side of one level for each, then backward the
--- places.
+-- What the search for the least plan over a list of allowed counts computes, digit by digit of its places: `thresholdPlan`. That this is the least
+-- plan is `threshold-plan` in theory. Level j lies between place j and place j + 1 of the list; a plan is above it in a slot if its place there is
+-- above j. A round with the width b knows of each slot's place that it is in the 2 b places from `plan t` on, and finds which half it is in:
+-- forward through the slots a side of one level for each, then backward the places.
 use Prim.Native.Nat.{ℕ, zero, suc, _+_, _-_, _*_, _^_, min}
 use mathlib.Core.Bool.{cond}
 use mathlib.Core.List.{List}
