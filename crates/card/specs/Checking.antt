@@ -1,4 +1,4 @@
--- What checking a card gives.
+-- What checking a card gives, `checkedOf`, and an accepted card with its header, `Ready`, which the crates above ask for.
 use Prim.Native.Nat.{ℕ, _+_, _≤_}
 use mathlib.Core.Path.{_≡_}
 use mathlib.Core.Bool.{Bool, true, _&&_}

@@ -1,1 +1,2 @@
+-- Entries has what writing the entries of the catalogue module's table asks for.
 pub mod Entries

@@ -1,4 +1,4 @@
--- What the tests of the rules ask for.
+-- What the tests of the rules for a list of counts and its ratio (document 02, §8) ask for.
 use Prim.Native.Nat.{ℕ, _≤_}
 
 -- Three entries of a list that rise, and a ratio in its range.

@@ -1,4 +1,5 @@
--- What the functions of this crate count in the rows of a sheet.
+-- What the functions of this crate count in the rows of a sheet: the active modules, and the modules that go on beyond the rise of the count,
+-- `exchanged`.
 use Prim.Native.Nat.{ℕ, suc, _-_}
 use mathlib.Core.Bool.{cond}
 use mathlib.Core.List.{List}

@@ -18,7 +18,7 @@ pub record OnCard (s : List ℕ) (h : Header) (counts : List ℕ) : Type 0 where
 abbrev pub mostLead : ℕ
 mostLead = 200000000000
 
--- A level's price, and what the place below it costs.
+-- A level's price and what the place below it costs, each within its bound.
 pub record Weighable (price lower : ℕ) : Type 0 where
   pub priced : price ≤ mostLead
   pub served : lower ≤ 200000000
