@@ -93,7 +93,8 @@ answers-agree (seatCandidate d c) f g agree =
 answers-agree (closeSitting d) f g agree =
     first-alike _ _ _ _ (refl, (ap (λ (p : Phase). not (supervisor d && isOpened p)) (agree .same-phase), λ e. refl))
 answers-agree (submitSheet d c s) f g agree =
-    first-alike _ _ _ _ (alike-behind (cardTests c) (submissionTests f d ++ sheetTests (instanceOf c) s) (submissionTests g d ++ sheetTests (instanceOf c) s) _ _ (
+    first-alike _ _ _ _ (alike-behind (cardTests c) (submissionTests f d ++ sheetTests (instanceOf c) s)
+    (submissionTests g d ++ sheetTests (instanceOf c) s) _ _ (
       refl,
       (
         ap (λ (p : Phase). not (not (supervisor d) && isOpened p)) (agree .same-phase),
@@ -101,7 +102,7 @@ answers-agree (submitSheet d c s) f g agree =
             let o = while-open (not (supervisor d)) _ e in
             let same = agree .once-opened o in (
               refl,
-              (no-seat-same agree o, λ e′. (refl, (rw (same .same-allowance, same .same-used), λ e″. alike-behind (sheetTests (instanceOf c) s) [] [] _ _ refl))),
+              (no-seat-same agree o, λ e. (refl, (rw (same .same-allowance, same .same-used), λ k. alike-behind (sheetTests (instanceOf c) s) [] [] _ _ refl))),
             ),
       ),
     ))

@@ -20,7 +20,8 @@ pub take-replaced : {A : Type 0} (n : ℕ) (xs ys : List A) → length ys ≡ le
 take-replaced n xs ys size =
     ⊎-elim
     (λ (h : n ≤ length xs). take-at ys (drop n xs) n (size ∙ length-take n xs ∙ omega arith))
-    (λ (h : length xs < n). let short : length xs ≤ n = omega arith in rw (drop-of-length-le xs short, append-nil ys) (take-all n ys (omega (arith, length-take n xs, size))))
+    (λ (h : length xs < n). let short : length xs ≤ n = omega arith in
+    rw (drop-of-length-le xs short, append-nil ys) (take-all n ys (omega (arith, length-take n xs, size))))
     (le-or-lt n (length xs))
 
 -- Every seat of a list is emptied where every record is.

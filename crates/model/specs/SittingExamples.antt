@@ -88,8 +88,10 @@ supervisorRows =
     refused "open: 8 before 10" openNow room (openSitting 0 3 (set cardA 33 7) [] []) 8 ∷
     act "open gives the exact planner's cost" openNow room (openSitting 0 3 cardE (sevens 4) (sevens 28)) 0 5 0 (sittingOf 1 3 0 5) (replicate 3 free) ∷
     act "open while open, on a table that falls" openNow room (openSitting 0 3 cardG (sevens 2) (sevens 4)) 0 2 0 (sittingOf 1 3 0 2) (replicate 3 free) ∷
-    act "seat in the first empty record" openNow (seatOf 5 40 1 9 ∷ odd ∷ free ∷ []) (seatCandidate 0 8) 0 0 0 openNow (seatOf 5 40 1 9 ∷ seatOf 8 0 0 0 ∷ free ∷ []) ∷
-    act "seat, and leave what is beyond the seats" openNow (replicate 32 free ++ (odd ∷ odd ∷ [])) (seatCandidate 0 8) 0 0 0 openNow ((seatOf 8 0 0 0 ∷ replicate 31 free) ++ (odd ∷ odd ∷ [])) ∷
+    act "seat in the first empty record" openNow (seatOf 5 40 1 9 ∷ odd ∷ free ∷ []) (seatCandidate 0 8) 0 0 0 openNow
+    (seatOf 5 40 1 9 ∷ seatOf 8 0 0 0 ∷ free ∷ []) ∷
+    act "seat, and leave what is beyond the seats" openNow (replicate 32 free ++ (odd ∷ odd ∷ [])) (seatCandidate 0 8) 0 0 0 openNow
+    ((seatOf 8 0 0 0 ∷ replicate 31 free) ++ (odd ∷ odd ∷ [])) ∷
     refused "seat by a candidate" openNow room (seatCandidate 5 8) 15 ∷
     refused "seat: 15 before 16" closedNow room (seatCandidate 0 5) 15 ∷
     refused "seat before opening" (sittingOf 3 3 1 32) room (seatCandidate 0 8) 15 ∷
@@ -118,12 +120,14 @@ submissionRows =
     refused "refused by 1, not counted" openNow room (submitSheet 5 (7 ∷ cardA) sheetD) 1 ∷
     refused "refused by 7, not counted" openNow room (submitSheet 5 (set cardA 25 2) sheetD) 7 ∷
     refused "refused by 8, not counted" openNow room (submitSheet 5 (set cardA 29 7) sheetD) 8 ∷
-    act "the first of two records, and none beyond the seats" openNow (seatOf 5 40 1 9 ∷ seatOf 5 40 1 9 ∷ (replicate 30 free ++ (seatOf 5 40 1 9 ∷ []))) (submitSheet 5 cardA sheetD) 0 37 0
+    act "the first of two records, and none beyond the seats" openNow (seatOf 5 40 1 9 ∷ seatOf 5 40 1 9 ∷ (replicate 30 free ++ (seatOf 5 40 1 9 ∷ [])))
+    (submitSheet 5 cardA sheetD) 0 37 0
     (sittingOf 1 3 2 32) (seatOf 5 37 1 9 ∷ seatOf 5 40 1 9 ∷ (replicate 30 free ++ (seatOf 5 40 1 9 ∷ []))) ∷
     refused "a seat beyond the 32nd is none" openNow (replicate 32 free ++ (seatOf 5 40 1 9 ∷ [])) (submitSheet 5 cardA sheetD) 16 ∷
     refused "the card before 15, 16 and 17" (sittingOf 2 3 3 32) room (submitSheet 7 (cardA ++ (7 ∷ [])) []) 5 ∷
     refused "17 before 12" (sittingOf 1 3 3 32) room (submitSheet 5 cardA (set sheetD 0 3)) 17 ∷
-    act "the sitting's least stays" (sittingOf 1 3 1 50) room (submitSheet 5 cardA sheetD) 0 37 0 (sittingOf 1 3 2 50) (seatOf 5 37 1 9 ∷ seatOf 6 0 0 0 ∷ free ∷ []) ∷
+    act "the sitting's least stays" (sittingOf 1 3 1 50) room (submitSheet 5 cardA sheetD) 0 37 0 (sittingOf 1 3 2 50)
+    (seatOf 5 37 1 9 ∷ seatOf 6 0 0 0 ∷ free ∷ []) ∷
     act "an allowance above 1,000 as it stands" (sittingOf 1 1001 1000 32) room (submitSheet 6 cardA sheetD) 0 37 0 (sittingOf 1 1001 1001 32)
     (seatOf 5 40 1 9 ∷ seatOf 6 37 1 0 ∷ free ∷ []) ∷
     refused "a sheet before opening" (sittingOf 0 3 1 32) room (submitSheet 5 cardA sheetD) 15 ∷
@@ -148,7 +152,8 @@ readingRows =
     refused "no least before opening" (sittingOf 0 3 1 32) room (readLeast 0) 15 ∷
     act "the own lowest" openNow room (readLowest 5 5) 0 40 1 openNow room ∷
     act "the own lowest after closing" closedNow room (readLowest 5 5) 0 40 1 closedNow room ∷
-    act "a lowest is the first record's" openNow (seatOf 5 40 1 9 ∷ seatOf 5 35 1 9 ∷ []) (readLowest 0 5) 0 40 1 openNow (seatOf 5 40 1 9 ∷ seatOf 5 35 1 9 ∷ []) ∷
+    act "a lowest is the first record's" openNow (seatOf 5 40 1 9 ∷ seatOf 5 35 1 9 ∷ []) (readLowest 0 5) 0 40 1 openNow
+    (seatOf 5 40 1 9 ∷ seatOf 5 35 1 9 ∷ []) ∷
     refused "no lowest before opening" (sittingOf 0 3 1 32) room (readLowest 0 5) 15 ∷
     refused "lowest: 15 before 16" openNow room (readLowest 5 7) 15 ∷
     refused "the own lowest without a seat" openNow room (readLowest 7 7) 16 ∷
@@ -168,7 +173,8 @@ readingRows =
 sittingWrong : List Example
 sittingWrong =
     refused "a sheet refused by 13 uses nothing" openNow room (submitSheet 5 cardA (replicate 9 255)) 13 ∷
-    act "the lowest is the last" openNow room (submitSheet 5 cardA (set sheetD 8 0)) 0 43 0 (sittingOf 1 3 2 32) (seatOf 5 43 1 9 ∷ seatOf 6 0 0 0 ∷ free ∷ []) ∷
+    act "the lowest is the last" openNow room (submitSheet 5 cardA (set sheetD 8 0)) 0 43 0 (sittingOf 1 3 2 32)
+    (seatOf 5 43 1 9 ∷ seatOf 6 0 0 0 ∷ free ∷ []) ∷
     act "a candidate is told the least" openNow room (readLeast 5) 0 32 0 openNow room ∷
     act "a second closing" closedNow room (closeSitting 0) 0 0 0 closedNow room ∷
     []

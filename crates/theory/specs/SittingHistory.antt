@@ -73,7 +73,8 @@ module _ {seats : ℕ} {ps : List Place} {h : List Event} (told : SeatsTold seat
             ⊎-elim
             (λ (t : eqb c d ≡ true).
             let same : c ≡ d = eqb-true c d t in
-            ap (λ (p : Place). p .lowest) (change-first (isFor 0) (seatedPlace c) (isFor d) (λ p f. t) emptyPlace ps free (ap (λ (x : ℕ). occurs (isFor x) ps) (sym same) ∙ absent))
+            ap (λ (p : Place). p .lowest) (change-first (isFor 0) (seatedPlace c) (isFor d) (λ p f. t) emptyPlace ps free
+            (ap (λ (x : ℕ). occurs (isFor x) ps) (sym same) ∙ absent))
             ∙ sym (unseated-none ps c absent) ∙ told .lowest c real ∙ ap (λ (x : ℕ). lowestAmong (flatMap (costsOf x) h)) same)
             (λ (t : eqb c d ≡ false).
             ap (λ (p : Place). p .lowest) (change-apart (isFor 0) (seatedPlace c) (isFor d) (λ p f. (empty-apart d e p f, t)) emptyPlace ps)
@@ -99,7 +100,8 @@ module _ {seats : ℕ} {ps : List Place} {h : List Event} (told : SeatsTold seat
             ∙ ap (λ (o : Option ℕ). some (lowerOf o n)) (told .lowest c real ∙ ap (λ (x : ℕ). lowestAmong (flatMap (costsOf x) h)) same)
             ∙ sym (lowest-more n _)))
             (λ (t : eqb c d ≡ false).
-            rw t (ap (λ (p : Place). p .lowest) (change-apart (isFor c) (markedPlace n) (isFor d) (λ p f. (seat-apart c d t p f, seat-apart c d t p f)) emptyPlace ps)
+            rw t (ap (λ (p : Place). p .lowest) (change-apart (isFor c) (markedPlace n) (isFor d)
+            (λ p f. (seat-apart c d t p f, seat-apart c d t p f)) emptyPlace ps)
             ∙ told .lowest d e))
             (true-or-false (eqb c d));
       }

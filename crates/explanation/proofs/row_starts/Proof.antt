@@ -40,4 +40,5 @@ returns c = search summed-all
 
 pub row-starts-spec : {M : Type 1} → statement M
 row-starts-spec =
-    tie.close (tie.spec Inv-loop μ-loop loop-holds (λ c. omega arith) (λ c. omega arith) start-of-requires add-n (λ c. omega arith) loop-less loop-again returns)
+    tie.close (tie.spec Inv-loop μ-loop loop-holds (λ c. omega arith) (λ c. omega arith) start-of-requires add-n
+    (λ c. omega arith) loop-less loop-again returns)
