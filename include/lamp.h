@@ -570,7 +570,7 @@ extern "C" {
 #endif
 
 /* The release of this library. */
-#define LAMP_RELEASE "2.7.0"
+#define LAMP_RELEASE "2.8.0"
 
 /* The version of the cards that this library accepts, and of those that it makes. */
 #define LAMP_CARD_VERSION 1
