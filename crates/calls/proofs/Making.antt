@@ -27,7 +27,8 @@ use Rattle.card.specs.declared.Checked.{Checked}
 use Rattle.card.specs.declared.Checked.the-variants.{Invalid}
 use Rattle.card.specs.Checking.{Ready, checkedOf}
 use Rattle.card.proofs.Groups.{refused-answer}
-use Rattle.sheets.specs.SheetRequires.{PlanSized, PlanReady, SheetRoom}
+use Rattle.plans.specs.PlanRequires.{PlanSized, PlanReady}
+use Rattle.sheets.specs.SheetRequires.{SheetRoom}
 use Rattle.card.proofs.Sizes.{sheet-size}
 
 -- An answer and a buffer are those of the sheet call at exit.

@@ -95,13 +95,13 @@ fn check_plan(card: &[u8], h: Header, plan: &[u8], sheet: &[u8]) -> Answer
     if plan.len() != slots {
         return Answer::Refused(Refusal::WrongLength);
     }
-    if !sheets::plan_in_rack(card, h, plan) {
+    if !plans::plan_in_rack(card, h, plan) {
         return Answer::Refused(Refusal::EntryRange);
     }
-    if !sheets::plan_serves(card, h, plan) {
+    if !plans::plan_serves(card, h, plan) {
         return Answer::Refused(Refusal::LoadNotServed);
     }
-    Answer::Cost(sheets::plan_cost(card, h, plan))
+    Answer::Cost(plans::plan_cost(card, h, plan))
 }
 
 // The sheet of a plan on an accepted card: the plan is checked whole before the first byte is written.

@@ -16,7 +16,7 @@ use Rattle.laws.specs.Acceptance.{accepted-bounds}
 use Rattle.theory.specs.SheetLaws.{counts-length}
 use Rattle.card.specs.declared.Header.{Header}
 use Rattle.sheets.specs.SheetRequires.{RowShort}
-use Rattle.sheets.proofs.Loads.{row-there, row-small, row-short}
+use Rattle.sheets.proofs.RowPlaces.{row-there, row-small, row-short}
 use Rattle.sheets.proofs.States.{row-length}
 use Rattle.explanation.specs.Exchanges.{rowStarts, startsAfter, exchangedAfter, exchanged}
 use Rattle.explanation.specs.ExplanationRequires.{CountsKnown}

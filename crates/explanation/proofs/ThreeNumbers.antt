@@ -25,7 +25,8 @@ use Rattle.theory.specs.SheetLaws.{serves-parts, sheet-counts-fit, counts-lengt
 use Rattle.theory.specs.Condition3.{accepted-plannable}
 use Rattle.theory.specs.Explanations.{spread-whole, counts-whole}
 use Rattle.card.specs.declared.Header.{Header}
-use Rattle.sheets.specs.SheetRequires.{SheetSized, PlanReady}
+use Rattle.plans.specs.PlanRequires.{PlanReady}
+use Rattle.sheets.specs.SheetRequires.{SheetSized}
 use Rattle.explanation.specs.Exchanges.{exchanged}
 use Rattle.explanation.specs.ExplanationRequires.{CountsRoom, CountsKnown, Marked, PointsRoom}
 use Rattle.explanation.proofs.SheetRows.{exchanged-most}

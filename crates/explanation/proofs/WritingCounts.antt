@@ -13,7 +13,7 @@ use Rattle.model.specs.Instance.{instanceOf}
 use Rattle.model.specs.Sheets.{activeAt, countsOf}
 use Rattle.card.specs.declared.Header.{Header}
 use Rattle.sheets.specs.SheetRequires.{RowShort}
-use Rattle.sheets.proofs.Loads.{row-there, row-small, row-short}
+use Rattle.sheets.proofs.RowPlaces.{row-there, row-small, row-short}
 use Rattle.explanation.specs.Exchanges.{rowActive}
 use Rattle.explanation.specs.ExplanationRequires.{CountsRoom}
 use Rattle.explanation.proofs.SheetRows.{row-active-is}

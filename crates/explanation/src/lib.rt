@@ -131,7 +131,7 @@ fn points_over(
     write_counts(card, h, sheet, counts);
     let exchanged = exchanged_modules(card, h, sheet, &counts[..]);
     let swaps = exchanged * (h.powerUp + h.powerDown);
-    let planned = sheets::plan_cost(card, h, &counts[..]);
+    let planned = plans::plan_cost(card, h, &counts[..]);
     let least = planners::plan_by(PlannerKind::Exact, card, h, counts, work);
     Points {
         number: 0,

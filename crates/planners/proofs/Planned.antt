@@ -24,7 +24,7 @@ use Rattle.counts.specs.declared.PlannerKind.{PlannerKind}
 use Rattle.counts.specs.declared.PlannerKind.the-variants.{Exact, Coarse}
 use Rattle.counts.specs.AllowedCounts.{CountsRoom, plannerOf, powersUpTo}
 use Rattle.counts.proofs.Powers.{digits-known}
-use Rattle.sheets.specs.SheetRequires.{PlanReady}
+use Rattle.plans.specs.PlanRequires.{PlanReady}
 use Rattle.search.specs.SearchRequires.{Searchable}
 use Rattle.search.proofs.LevelPrices.{few-places}
 use Rattle.planners.specs.PlannerRequires.{Buffers, NumberRoom}

@@ -24,7 +24,7 @@ pub fn least_over(card: &[u8], h: Header, counts: &[u64], plan: &mut [u8], work:
     ensures { λ _. ⌜ now (work .exit) ≡ replicate (length (now (work .entry))) 0 ⌝ }
 {
     search::search(card, h, counts, plan, work);
-    sheets::plan_cost(card, h, plan)
+    plans::plan_cost(card, h, plan)
 }
 
 // A planner's plan and its cost, with room for the planner's counts.

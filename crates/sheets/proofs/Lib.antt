@@ -1,7 +1,6 @@
 pub mod Row
 pub mod SheetBytes
-pub mod SheetSlots
-pub mod Loads
+pub mod RowPlaces
 pub mod Filled
 pub mod States
 pub mod Split

@@ -6,27 +6,16 @@ use mathlib.Core.List.{List}
 use lib.ListN.{length, getD}
 use Rattle.model.specs.Instance.{instanceOf}
 use Rattle.model.specs.Sheets.{isEntry, sheetEntries}
-use Rattle.model.specs.Plans.{planServes}
 use Rattle.model.specs.Specs.{sheetBytes}
 use Rattle.card.specs.declared.Header.{Header}
 use Rattle.card.specs.Checking.{Ready}
 use Rattle.counts.specs.Serving.{Served}
+use Rattle.plans.specs.PlanRequires.{PlanReady}
 
 -- An accepted card with its header, a count n of its rack that can serve the load l, and a row with room for n active modules.
 pub record RowFits (s : List ℕ) (h : Header) (n l : ℕ) (row : List ℕ) : Type 0 where
   pub served : Served s h n l
   pub in-row : n ≤ length row
-
--- An accepted card with its header, and a plan with one count for each slot.
-pub record PlanSized (s : List ℕ) (h : Header) (p : List ℕ) : Type 0 where
-  pub ready : Ready s h
-  pub slotwise : length p ≡ instanceOf s .slots
-
--- An accepted card with its header, and a plan with one count for each slot, which is in the rack and serves the slot's load.
-pub record PlanReady (s : List ℕ) (h : Header) (p : List ℕ) : Type 0 where
-  pub sized : PlanSized s h p
-  pub in-rack : (t : ℕ) → t < instanceOf s .slots → getD p t 0 ≤ instanceOf s .modules
-  pub served : planServes (instanceOf s) p ≡ true
 
 -- A plan that is ready, and a sheet buffer of at least m × T bytes.
 pub record SheetRoom (s : List ℕ) (h : Header) (p sheet : List ℕ) : Type 0 where

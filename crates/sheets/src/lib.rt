@@ -1,17 +1,14 @@
-// The sheet of a plan and its cost, and the marking of a sheet that is handed in.
+// The sheet of a plan, and the marking of a sheet that is handed in.
 use card::Header;
 ghost use mathlib.Core.Path.{_≡_};
 ghost use lib.ListN.{length};
 ghost use Rattle.lists.specs.Lists.{tabulate, writtenOver};
 ghost use Rattle.model.specs.Instance.{instanceOf};
 ghost use Rattle.model.specs.Sheets.{isEntry, stepOf, sheetEntries, sheetLight, sheetCost};
-ghost use Rattle.model.specs.Plans.{moduleByte, sheetOf, planInRack, planServes};
-ghost use Rattle.model.specs.Thesis.{slotCost, countsCost};
+ghost use Rattle.model.specs.Plans.{moduleByte, sheetOf};
 ghost use Rattle.card.specs.Checking.{Ready};
-ghost use Rattle.counts.specs.Serving.{Served};
 ghost use Rattle.sheets.specs.Marks.{rowLight, byteCost, bytesCost, allOff, byteAt, stopCost, rowStopCost};
-ghost use Rattle.sheets.specs.SheetRequires.{RowFits, PlanSized, PlanReady, SheetRoom};
-ghost use Rattle.sheets.specs.SheetRequires.{ByteReady, BytesReady, RowShort, RowPriced, SheetSized, SheetReady};
+ghost use Rattle.sheets.specs.SheetRequires.{RowFits, SheetRoom, ByteReady, BytesReady, RowShort, RowPriced, SheetSized, SheetReady};
 
 // Fills a slot's row: the first n modules are active, the first l mod n of these at the active step of l div n + 1, the others at that
 // of l div n.
@@ -48,70 +45,6 @@ pub fn write_sheet(card: &[u8], h: Header, plan: &[u8], sheet: &mut [u8])
         fill_slot(card, h, n, l, &mut sheet[start..end]);
         t += 1;
     }
-}
-
-// The cost of a slot by counts, where prev modules were active before it: the operating cost, and the switching price for each
-// module that goes on.
-fn slot_cost(card: &[u8], h: Header, prev: u64, n: u64, l: u64) -> u64
-    requires { ⌜ Served (now card) h n l ⌝ }
-    ensures { λ r. ⌜ r ≡ slotCost (instanceOf (now (card .entry))) prev n l ⌝ }
-{
-    let operating = counts::operating_cost(card, h, n, l);
-    if n <= prev {
-        return operating;
-    }
-    let price = h.powerUp + h.powerDown;
-    operating + price * (n - prev)
-}
-
-// The cost of a plan by its counts.
-pub fn plan_cost(card: &[u8], h: Header, plan: &[u8]) -> u64
-    requires { ⌜ PlanReady (now card) h (now plan) ⌝ }
-    ensures { λ r. ⌜ r ≡ countsCost (instanceOf (now (card .entry))) 0 (now (plan .entry)) ⌝ }
-{
-    let mut cost: u64 = 0;
-    let mut prev: u64 = 0;
-    let mut t = 0;
-    while t < plan.len() {
-        let n = card::wide(plan[t]);
-        cost += slot_cost(card, h, prev, n, card::load(card, h, t as u64));
-        prev = n;
-        t += 1;
-    }
-    cost
-}
-
-// Each count of the plan is at most m.
-pub fn plan_in_rack(card: &[u8], h: Header, plan: &[u8]) -> bool
-    requires { ⌜ PlanSized (now card) h (now plan) ⌝ }
-    ensures { λ r. ⌜ r ≡ planInRack (instanceOf (now (card .entry))) (now (plan .entry)) ⌝ }
-{
-    let modules = h.modules;
-    let mut t = 0;
-    while t < plan.len() {
-        if modules < card::wide(plan[t]) {
-            return false;
-        }
-        t += 1;
-    }
-    true
-}
-
-// Each count of the plan can serve its slot's load.
-pub fn plan_serves(card: &[u8], h: Header, plan: &[u8]) -> bool
-    requires { ⌜ PlanSized (now card) h (now plan) ⌝ }
-    ensures { λ r. ⌜ r ≡ planServes (instanceOf (now (card .entry))) (now (plan .entry)) ⌝ }
-{
-    let top_step = h.topStep;
-    let mut t = 0;
-    while t < plan.len() {
-        let most = card::wide(plan[t]) * top_step;
-        if most < card::load(card, h, t as u64) {
-            return false;
-        }
-        t += 1;
-    }
-    true
 }
 
 // The byte is a step up to top, or off.

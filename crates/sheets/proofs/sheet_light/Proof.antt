@@ -6,7 +6,7 @@ use Rattle.lists.specs.Tests.{Passed, passed-none, passed-more, passed-all, pas
 use Rattle.model.specs.Instance.{instanceOf}
 use Rattle.model.specs.Sheets.{lightAt, sheetLight}
 use Rattle.card.proofs.FieldsThere.{sized, in-header, past-header}
-use Rattle.sheets.proofs.Loads.{row-there, row-small, row-short}
+use Rattle.sheets.proofs.RowPlaces.{row-there, row-small, row-short}
 use Rattle.sheets.proofs.States.{light-failed, light-passed}
 use Rattle.sheets.proofs.sheet_light.Statement.{statement}
 use Rattle.sheets.proofs.sheet_light.Tie as tie

@@ -3,7 +3,8 @@ use native.Mathlib.Omega.{arith}
 use lib.ListN.{length}
 use borrow.Author.Needs.{needs}
 use Rattle.model.specs.Instance.{instanceOf}
-use Rattle.sheets.proofs.Loads.{in-slots, no-more-slots, slot-load-there, row-there, row-small, row-fits}
+use Rattle.plans.proofs.Loads.{in-slots, no-more-slots, slot-load-there}
+use Rattle.sheets.proofs.RowPlaces.{row-there, row-small, row-fits}
 use Rattle.sheets.proofs.Filled.{Filled, filled-none, filled-size, filled-room, filled-more, filled-all}
 use Rattle.sheets.proofs.write_sheet.Statement.{statement}
 use Rattle.sheets.proofs.write_sheet.Tie as tie

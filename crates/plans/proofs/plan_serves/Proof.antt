@@ -7,9 +7,9 @@ use Rattle.lists.specs.Tests.{Passed, passed-none, passed-more, passed-all, pas
 use Rattle.model.specs.Instance.{instanceOf}
 use Rattle.model.specs.Counts.{canServe}
 use Rattle.model.specs.Plans.{planServes}
-use Rattle.sheets.proofs.Loads.{in-slots, no-more-slots, slot-load-there, serve-failed, serve-passed}
-use Rattle.sheets.proofs.plan_serves.Statement.{statement}
-use Rattle.sheets.proofs.plan_serves.Tie as tie
+use Rattle.plans.proofs.Loads.{in-slots, no-more-slots, slot-load-there, serve-failed, serve-passed}
+use Rattle.plans.proofs.plan_serves.Statement.{statement}
+use Rattle.plans.proofs.plan_serves.Tie as tie
 
 abbrev Inv-loop : tie.InvT-loop
 Inv-loop card h plan top t₀ t =

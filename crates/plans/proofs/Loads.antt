@@ -8,24 +8,18 @@ use native.Mathlib.Omega.{arith}
 use lib.ListN.{length, getD}
 use lib.Dec.{leb}
 use borrow.Author.Tests.{leb-true, le-leb, lt-leb}
-use borrow.Rule.Slice.PartMut.{midOf}
 use Rattle.lists.specs.Tests.{every-at}
-use Rattle.lists.specs.Parts.{part-length}
-use Rattle.lists.specs.Rows.{row-within}
 use Rattle.model.specs.Instance.{Instance, instanceOf}
 use Rattle.model.specs.Counts.{canServe}
 use Rattle.model.specs.Plans.{planServes}
 use Rattle.model.specs.Thesis.{countAt, slotCost}
-use Rattle.model.specs.Specs.{sheetBytes}
 use Rattle.card.specs.declared.Header.{Header}
 use Rattle.card.specs.Fields.{LoadThere}
 use Rattle.card.specs.Checking.{Ready}
 use Rattle.card.proofs.FieldsThere.{load-there}
-use Rattle.laws.specs.Acceptance.{accepted-bounds}
 use Rattle.counts.specs.Serving.{Served}
-use Rattle.sheets.specs.SheetRequires.{RowFits, PlanSized, PlanReady, RowShort}
-use Rattle.sheets.proofs.SheetBytes.{area-small}
-use Rattle.sheets.proofs.SheetSlots.{slot-most}
+use Rattle.plans.specs.PlanRequires.{PlanSized, PlanReady}
+use Rattle.plans.proofs.SlotCosts.{slot-most}
 
 -- A place in the plan is a slot.
 pub in-slots : {s : List ℕ} {h : Header} {p : List ℕ} {t : ℕ} → PlanSized s h p → t < length p → t < instanceOf s .slots
@@ -38,21 +32,6 @@ slot-load-there given below = load-there (given .ready) (in-slots given below)
 -- Past the plan there are no more slots.
 pub no-more-slots : {s : List ℕ} {h : Header} {p : List ℕ} {t : ℕ} → PlanSized s h p → length p ≤ t → instanceOf s .slots ≤ t
 no-more-slots given past = omega arith
-
--- The row of slot t lies inside a sheet.
-pub row-there : {s : List ℕ} {h : Header} {t size : ℕ} → Ready s h → t < instanceOf s .slots →
-    sheetBytes (instanceOf s) ≤ size → t * h .modules + h .modules ≤ size
-row-there {s} given below room = rw (given .header .modules-is) (row-within (instanceOf s .modules) below room)
-
--- A row ends among the first 200 × 1,024 bytes.
-pub row-small : {s : List ℕ} {h : Header} {t : ℕ} → Ready s h → t < instanceOf s .slots → t * h .modules + h .modules ≤ 204800
-row-small {s} given below = row-there given below (area-small s (given .accepted))
-
--- A row has at most 200 bytes.
-pub row-short :
-    {s : List ℕ} {h : Header} (l : List ℕ) (a : ℕ) → Ready s h → a + h .modules ≤ length l → RowShort (midOf a (a + h .modules - a) l)
-row-short {s} {h} l a given inside =
-    record { short = omega (arith, part-length a (h .modules) l inside, accepted-bounds s (given .accepted) .modules .1) }
 
 -- The tests of a count against the rack and against a load.
 module _ {s : List ℕ} {h : Header} (given : Ready s h) {n x : ℕ} (x-is : x ≡ n) where
@@ -91,14 +70,6 @@ module _ {s : List ℕ} {h : Header} {p : List ℕ} (given : PlanReady s h p) wh
   pub slot-at-most : (t : ℕ) → t < instanceOf s .slots → slotAt (instanceOf s) p t ≤ 200200000000
   unfolding countAt
   slot-at-most t below = slot-most (served-at t below) (countAt 0 p t)
-
--- A slot's row has room for its count.
-pub row-fits :
-    {s : List ℕ} {h : Header} {p : List ℕ} {t n load : ℕ} (l : List ℕ) (a : ℕ) → PlanReady s h p → t < length p →
-    a + h .modules ≤ length l → n ≡ getD p t 0 → load ≡ instanceOf s .load t → RowFits s h n load (midOf a (a + h .modules - a) l)
-row-fits {s} {h} {p} {t} {n} {load} l a given below inside e f =
-    let slot = slot-served given below e f in
-    record { served = slot; in-row = omega (arith, slot .in-rack, part-length a (h .modules) l inside) }
 
 -- A slot's cost by what the loop has at hand.
 pub slot-is :

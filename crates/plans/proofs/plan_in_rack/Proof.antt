@@ -6,9 +6,9 @@ use borrow.Author.Needs.{needs}
 use Rattle.lists.specs.Tests.{Passed, passed-none, passed-more, passed-all, passed-not}
 use Rattle.model.specs.Instance.{instanceOf}
 use Rattle.model.specs.Plans.{planInRack}
-use Rattle.sheets.proofs.Loads.{in-slots, no-more-slots, rack-failed, rack-passed}
-use Rattle.sheets.proofs.plan_in_rack.Statement.{statement}
-use Rattle.sheets.proofs.plan_in_rack.Tie as tie
+use Rattle.plans.proofs.Loads.{in-slots, no-more-slots, rack-failed, rack-passed}
+use Rattle.plans.proofs.plan_in_rack.Statement.{statement}
+use Rattle.plans.proofs.plan_in_rack.Tie as tie
 
 abbrev Inv-loop : tie.InvT-loop
 Inv-loop card plan modules t₀ t = Passed (instanceOf card .slots) (λ u. leb (getD plan u 0) (instanceOf card .modules)) t

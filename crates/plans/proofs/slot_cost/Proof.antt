@@ -1,10 +1,10 @@
 use native.Mathlib.Omega.{arith}
 use Rattle.laws.specs.Acceptance.{accepted-bounds}
 use Rattle.counts.proofs.Shares.{operating-most}
-use Rattle.sheets.proofs.SheetSlots.{switching-most, slot-kept, slot-raised}
+use Rattle.plans.proofs.SlotCosts.{switching-most, slot-kept, slot-raised}
 use borrow.Author.Needs.{needs}
-use Rattle.sheets.proofs.slot_cost.Statement.{statement}
-use Rattle.sheets.proofs.slot_cost.Tie as tie
+use Rattle.plans.proofs.slot_cost.Statement.{statement}
+use Rattle.plans.proofs.slot_cost.Tie as tie
 
 operating-cost-requires : tie.Need-operating-cost-requires
 operating-cost-requires c κs = search needs

@@ -7,9 +7,9 @@ use Rattle.lists.specs.Summing.{Summed, summed-none, summed-more, summed-all, s
 use Rattle.model.specs.Instance.{instanceOf}
 use Rattle.model.specs.Thesis.{countAt, countsCost}
 use Rattle.laws.specs.Acceptance.{accepted-bounds}
-use Rattle.sheets.proofs.Loads.{in-slots, no-more-slots, slot-load-there, slotAt, slot-served, slot-at-most, slot-is, count-next}
-use Rattle.sheets.proofs.plan_cost.Statement.{statement}
-use Rattle.sheets.proofs.plan_cost.Tie as tie
+use Rattle.plans.proofs.Loads.{in-slots, no-more-slots, slot-load-there, slotAt, slot-served, slot-at-most, slot-is, count-next}
+use Rattle.plans.proofs.plan_cost.Statement.{statement}
+use Rattle.plans.proofs.plan_cost.Tie as tie
 
 abbrev Inv-loop : tie.InvT-loop
 Inv-loop card h plan cost₀ prev₀ t₀ cost prev t =

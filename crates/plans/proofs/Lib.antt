@@ -1,0 +1,2 @@
+pub mod SlotCosts
+pub mod Loads
