@@ -5,35 +5,8 @@ use card::Header;
 use model::Answer;
 use model::Refusal;
 ghost use mathlib.Core.Path.{_≡_};
-ghost use Rattle.model.specs.Answers.{refusalNumber};
 ghost use Rattle.model.specs.Calls.{answer, checkCard, runningCost, makeSheet, markSheet, roundCount, sheetAtExit};
 ghost use Rattle.card.specs.Checking.{Ready};
-
-// The number of a refusal.
-pub fn refusal_number(x: Refusal) -> u64
-    ensures { λ r. ⌜ r ≡ refusalNumber x ⌝ }
-{
-    match x {
-        Refusal::NotACard => 1,
-        Refusal::Version => 2,
-        Refusal::RackSize => 3,
-        Refusal::SlotCount => 4,
-        Refusal::CardLength => 5,
-        Refusal::PriceRange => 6,
-        Refusal::NotConvex => 7,
-        Refusal::LoadRange => 8,
-        Refusal::NotMonotone => 9,
-        Refusal::BufferTooShort => 10,
-        Refusal::WrongLength => 11,
-        Refusal::EntryRange => 12,
-        Refusal::LoadNotServed => 13,
-        Refusal::ZeroStart => 14,
-        Refusal::NotPermitted => 15,
-        Refusal::SeatUnavailable => 16,
-        Refusal::AllowanceSpent => 17,
-        Refusal::CountList => 18,
-    }
-}
 
 // Checks a card: refusals 1 to 8, else cost 0.
 pub fn check_card(card: &[u8]) -> Answer

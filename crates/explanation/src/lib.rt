@@ -176,7 +176,7 @@ fn refused(x: Refusal) -> Points
     ensures { λ r. ⌜ r ≡ noPoints x ⌝ }
 {
     Points {
-        number: calls::refusal_number(x),
+        number: model::refusal_number(x),
         spread: 0,
         swaps: 0,
         counts: 0,

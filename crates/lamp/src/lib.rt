@@ -30,7 +30,7 @@ fn to_c(a: Answer) -> LampAnswer
     match a {
         Answer::Cost(cost) => LampAnswer { number: 0, cost },
         Answer::Refused(x) => LampAnswer {
-            number: calls::refusal_number(x),
+            number: model::refusal_number(x),
             cost: 0,
         },
     }

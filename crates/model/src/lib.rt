@@ -1,4 +1,6 @@
-// What the planner answers: types only. What every call must answer is defined in specs/.
+// What the planner answers: types, and the number of a refusal. What every call must answer is defined in specs/.
+ghost use mathlib.Core.Path.{_≡_};
+ghost use Rattle.model.specs.Answers.{refusalNumber};
 
 // One variant for each number: document 01's table in section 'Refused', 1 to 13, and then the numbers of document 02.
 pub enum Refusal {
@@ -38,6 +40,32 @@ pub enum Refusal {
     AllowanceSpent,
     // 18, a list of allowed counts, or its ratio, against the rules (02 §8)
     CountList,
+}
+
+// The number of a refusal.
+pub fn refusal_number(x: Refusal) -> u64
+    ensures { λ r. ⌜ r ≡ refusalNumber x ⌝ }
+{
+    match x {
+        Refusal::NotACard => 1,
+        Refusal::Version => 2,
+        Refusal::RackSize => 3,
+        Refusal::SlotCount => 4,
+        Refusal::CardLength => 5,
+        Refusal::PriceRange => 6,
+        Refusal::NotConvex => 7,
+        Refusal::LoadRange => 8,
+        Refusal::NotMonotone => 9,
+        Refusal::BufferTooShort => 10,
+        Refusal::WrongLength => 11,
+        Refusal::EntryRange => 12,
+        Refusal::LoadNotServed => 13,
+        Refusal::ZeroStart => 14,
+        Refusal::NotPermitted => 15,
+        Refusal::SeatUnavailable => 16,
+        Refusal::AllowanceSpent => 17,
+        Refusal::CountList => 18,
+    }
 }
 
 // The answer of a call: a cost (the rounded count in its place), or a refusal.

@@ -50,7 +50,7 @@ fn print_accepted(card: &[u8], h: Header, out: &mut [u8]) -> usize
     let planned = planners::plan_show_on(PlannerKind::Exact, card, h, &mut plan, &mut work);
     match planned {
         Answer::Cost(cost) => print_plan(card, h, &plan, cost, out),
-        Answer::Refused(x) => listing::write_refusal(out, calls::refusal_number(x)),
+        Answer::Refused(x) => listing::write_refusal(out, model::refusal_number(x)),
     }
 }
 
@@ -62,7 +62,7 @@ fn print_card(card: &[u8], out: &mut [u8]) -> usize
 {
     match card::check(card) {
         Checked::Valid(h) => print_accepted(card, h, out),
-        Checked::Invalid(x) => listing::write_refusal(out, calls::refusal_number(x)),
+        Checked::Invalid(x) => listing::write_refusal(out, model::refusal_number(x)),
     }
 }
 

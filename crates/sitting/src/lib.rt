@@ -52,7 +52,7 @@ fn reply_giving(answer: Answer, marked: u64, sitting: Sitting) -> Reply
             sitting,
         },
         Answer::Refused(x) => Reply {
-            number: calls::refusal_number(x),
+            number: model::refusal_number(x),
             cost: 0,
             marked: 0,
             sitting,

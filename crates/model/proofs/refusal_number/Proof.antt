@@ -1,6 +1,6 @@
 use borrow.Author.Needs.{needs}
-use Rattle.calls.proofs.refusal_number.Statement.{statement}
-use Rattle.calls.proofs.refusal_number.Tie as tie
+use Rattle.model.proofs.refusal_number.Statement.{statement}
+use Rattle.model.proofs.refusal_number.Tie as tie
 
 returns : tie.Need-returns
 returns c = rw (c .enum-told .given .1)
