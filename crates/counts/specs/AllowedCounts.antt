@@ -4,14 +4,6 @@ use mathlib.Core.List.{List}
 use lib.ListN.{length}
 use lib.Count.{leadingZeros}
 use Rattle.lists.specs.Lists.{tabulate}
-use Rattle.model.specs.Planners.{Planner, exact, coarse}
-use Rattle.counts.specs.declared.PlannerKind.{PlannerKind}
-use Rattle.counts.specs.declared.PlannerKind.the-variants.{Exact, Coarse}
-
--- The planner that a kind stands for.
-abbrev pub plannerOf : PlannerKind → Planner
-plannerOf Exact = exact
-plannerOf Coarse = coarse
 
 -- There is room for all counts from 0 to m.
 pub record AllRoom (counts : List ℕ) (m : ℕ) : Type 0 where
@@ -22,12 +14,6 @@ pub record CoarseRoom (counts : List ℕ) (m : ℕ) : Type 0 where
   pub some : 1 ≤ m
   pub most : m ≤ 200
   pub room : 10 ≤ length counts
-
--- A rack has from 1 to 200 modules, and there is room for all counts of the largest rack.
-pub record CountsRoom (counts : List ℕ) (m : ℕ) : Type 0 where
-  pub some : 1 ≤ m
-  pub most : m ≤ 200
-  pub room : 201 ≤ length counts
 
 -- A power of two that the table of powers has.
 pub record PowerListed (k : ℕ) : Type 0 where

@@ -7,15 +7,7 @@ ghost use Rattle.lists.specs.Lists.{writtenOver};
 ghost use Rattle.model.specs.Instance.{instanceOf};
 ghost use Rattle.model.specs.Counts.{operatingCost, allCounts, coarseCounts, roundedCount, printedCases, caseValue};
 ghost use Rattle.counts.specs.Serving.{Served};
-ghost use Rattle.model.specs.Planners.{allowedCounts};
-ghost use Rattle.counts.specs.AllowedCounts.{AllRoom, CoarseRoom, CountsRoom, RackCount, PowerListed, plannerOf};
-ghost use Rattle.counts.specs.AllowedCounts.{numbersBelow, firstPowers, powersUpTo};
-
-// The two planners of document 01.
-pub enum PlannerKind {
-    Exact,
-    Coarse,
-}
+ghost use Rattle.counts.specs.AllowedCounts.{AllRoom, CoarseRoom, RackCount, PowerListed, numbersBelow, firstPowers, powersUpTo};
 
 // The powers of two among the coarse counts of the largest rack.
 const POWERS: [u16; 8] = [1, 2, 4, 8, 16, 32, 64, 128];
@@ -49,7 +41,7 @@ fn fill_powers(part: &mut [u64])
 }
 
 // The coarse planner's allowed counts for a rack of m: 0, each power of two up to m, and m. Returns how many they are.
-fn fill_coarse(counts: &mut [u64], m: u64) -> usize
+pub fn fill_coarse(counts: &mut [u64], m: u64) -> usize
     requires { ⌜ CoarseRoom (now counts) m ⌝ }
     ensures { λ r. ⌜ r ≡ length (coarseCounts m) ⌝ }
     ensures { λ r. ⌜ now (counts .exit) ≡ writtenOver (coarseCounts m) (now (counts .entry)) ⌝ }
@@ -77,7 +69,7 @@ fn fill_places(part: &mut [u64])
 }
 
 // The exact planner's allowed counts for a rack of m: all from 0 to m. Returns how many they are.
-fn fill_all(counts: &mut [u64], m: u64) -> usize
+pub fn fill_all(counts: &mut [u64], m: u64) -> usize
     requires { ⌜ AllRoom (now counts) m ⌝ }
     ensures { λ r. ⌜ r ≡ length (allCounts m) ⌝ }
     ensures { λ r. ⌜ now (counts .exit) ≡ writtenOver (allCounts m) (now (counts .entry)) ⌝ }
@@ -85,18 +77,6 @@ fn fill_all(counts: &mut [u64], m: u64) -> usize
     let end = m as usize + 1;
     fill_places(&mut counts[..end]);
     end
-}
-
-// A planner's allowed counts for a rack of m. Returns how many they are.
-pub fn fill_counts(kind: PlannerKind, counts: &mut [u64], m: u64) -> usize
-    requires { ⌜ CountsRoom (now counts) m ⌝ }
-    ensures { λ r. ⌜ r ≡ length (allowedCounts (plannerOf kind) m) ⌝ }
-    ensures { λ r. ⌜ now (counts .exit) ≡ writtenOver (allowedCounts (plannerOf kind) m) (now (counts .entry)) ⌝ }
-{
-    match kind {
-        PlannerKind::Exact => fill_all(counts, m),
-        PlannerKind::Coarse => fill_coarse(counts, m),
-    }
 }
 
 // The value of the count's case in the course book's list (02 §6): the case's last count. A count above 200 is in no case and gets 0.

@@ -2,10 +2,10 @@
 // answers every input.
 use card::Checked;
 use card::Header;
-use counts::PlannerKind;
 use model::Answer;
 use model::Points;
 use model::Refusal;
+use planners::PlannerKind;
 ghost use mathlib.Core.Path.{_≡_};
 ghost use Prim.Native.Nat.{_-_, _≤_};
 ghost use lib.ListN.{length, replicate};

@@ -1,10 +1,10 @@
 // The public calls: numbers and byte slices over the C boundary. Each answers every input, with the answer of the call below it.
-use counts::PlannerKind;
 use model::Answer;
 use model::Points;
 use model::Reply;
 use model::Seat;
 use model::Sitting;
+use planners::PlannerKind;
 ghost use mathlib.Core.Path.{_≡_};
 ghost use mathlib.Core.List.{[]};
 ghost use Rattle.model.specs.Planners.{exact, coarse, listed};

@@ -1,10 +1,10 @@
 // The program: reads a card from standard input, and prints its exact plan or its refusal.
 use card::Checked;
 use card::Header;
-use counts::PlannerKind;
 use libc::STDIN_FILENO;
 use libc::STDOUT_FILENO;
 use model::Answer;
+use planners::PlannerKind;
 ghost use mathlib.Core.Path.{_≡_};
 ghost use lib.ListN.{length};
 ghost use Rattle.lists.specs.Lists.{writtenOver};

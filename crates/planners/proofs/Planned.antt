@@ -20,14 +20,14 @@ use Rattle.theory.specs.CountLists.{planner-rules}
 use Rattle.theory.specs.Condition3.{accepted-plannable, threshold-plan, least-plan-fits, least-cost-counts}
 use Rattle.card.specs.declared.Header.{Header}
 use Rattle.card.specs.Checking.{Ready}
-use Rattle.counts.specs.declared.PlannerKind.{PlannerKind}
-use Rattle.counts.specs.declared.PlannerKind.the-variants.{Exact, Coarse}
-use Rattle.counts.specs.AllowedCounts.{CountsRoom, plannerOf, powersUpTo}
+use Rattle.counts.specs.AllowedCounts.{powersUpTo}
 use Rattle.counts.proofs.Powers.{digits-known}
 use Rattle.plans.specs.PlanRequires.{PlanReady}
 use Rattle.search.specs.SearchRequires.{Searchable}
 use Rattle.search.proofs.LevelPrices.{few-places}
-use Rattle.planners.specs.PlannerRequires.{Buffers, NumberRoom}
+use Rattle.planners.specs.declared.PlannerKind.{PlannerKind}
+use Rattle.planners.specs.declared.PlannerKind.the-variants.{Exact, Coarse}
+use Rattle.planners.specs.PlannerRequires.{plannerOf, CountsRoom, Buffers, NumberRoom}
 use Rattle.planners.proofs.Fronts.{front-is}
 
 -- A cost and a plan are those of the least plan over counts, and the work bytes are cleared.

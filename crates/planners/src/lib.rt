@@ -2,19 +2,36 @@
 // over a list of counts (`least_over`) and the test on the areas (`has_room`) serve the planner over a list too.
 use card::Checked;
 use card::Header;
-use counts::PlannerKind;
 use model::Answer;
 use model::Refusal;
 ghost use mathlib.Core.Path.{_≡_};
 ghost use lib.ListN.{length, replicate};
+ghost use Rattle.lists.specs.Lists.{writtenOver};
 ghost use Rattle.model.specs.Instance.{instanceOf};
 ghost use Rattle.model.specs.Plans.{leastPlan, leastCost};
-ghost use Rattle.model.specs.Planners.{workBytes, plannedBy, plannedCost};
+ghost use Rattle.model.specs.Planners.{allowedCounts, workBytes, plannedBy, plannedCost};
 ghost use Rattle.model.specs.Calls.{planShow, answer, planAtExit, workAtExit};
 ghost use Rattle.card.specs.Checking.{Ready};
-ghost use Rattle.counts.specs.AllowedCounts.{plannerOf};
 ghost use Rattle.search.specs.SearchRequires.{Searchable};
-ghost use Rattle.planners.specs.PlannerRequires.{NumberRoom, Buffers, hasRoom, roomFor};
+ghost use Rattle.planners.specs.PlannerRequires.{plannerOf, CountsRoom, NumberRoom, Buffers, hasRoom, roomFor};
+
+// The two planners of document 01.
+pub enum PlannerKind {
+    Exact,
+    Coarse,
+}
+
+// A planner's allowed counts for a rack of m. Returns how many they are.
+pub fn fill_counts(kind: PlannerKind, counts: &mut [u64], m: u64) -> usize
+    requires { ⌜ CountsRoom (now counts) m ⌝ }
+    ensures { λ r. ⌜ r ≡ length (allowedCounts (plannerOf kind) m) ⌝ }
+    ensures { λ r. ⌜ now (counts .exit) ≡ writtenOver (allowedCounts (plannerOf kind) m) (now (counts .entry)) ⌝ }
+{
+    match kind {
+        PlannerKind::Exact => counts::fill_all(counts, m),
+        PlannerKind::Coarse => counts::fill_coarse(counts, m),
+    }
+}
 
 // The least plan over a list of allowed counts and its cost: the search writes the plan, and the cost is that of its counts.
 pub fn least_over(card: &[u8], h: Header, counts: &[u64], plan: &mut [u8], work: &mut [u8]) -> u64
@@ -42,7 +59,7 @@ fn plan_with_counts(
     ensures { λ _. ⌜ now (plan .exit) ≡ plannedBy (plannerOf kind) (instanceOf (now (card .entry))) ⌝ }
     ensures { λ _. ⌜ now (work .exit) ≡ replicate (length (now (work .entry))) 0 ⌝ }
 {
-    let width = counts::fill_counts(kind, counts, h.modules);
+    let width = fill_counts(kind, counts, h.modules);
     least_over(card, h, &counts[..width], plan, work)
 }
 

@@ -3,12 +3,12 @@
 // stands for open and 2 for closed.
 use card::Checked;
 use card::Header;
-use counts::PlannerKind;
 use model::Answer;
 use model::Refusal;
 use model::Reply;
 use model::Seat;
 use model::Sitting;
+use planners::PlannerKind;
 use seats::View;
 ghost use mathlib.Core.Path.{_≡_};
 ghost use mathlib.Core.List.{[]};

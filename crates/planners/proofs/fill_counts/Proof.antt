@@ -1,7 +1,7 @@
 use Rattle.model.specs.Planners.{allowedCounts}
 use borrow.Author.Needs.{needs}
-use Rattle.counts.proofs.fill_counts.Statement.{statement}
-use Rattle.counts.proofs.fill_counts.Tie as tie
+use Rattle.planners.proofs.fill_counts.Statement.{statement}
+use Rattle.planners.proofs.fill_counts.Tie as tie
 
 enum-told : tie.Need-enum-told
 enum-told c = search needs
