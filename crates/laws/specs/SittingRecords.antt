@@ -16,7 +16,7 @@ use Rattle.model.specs.SittingState.{Place, State, isFor, emptyPlace, seatedPla
 use Rattle.model.specs.SittingState.{isOf, lowestOf, placeOf, stateOf, emptySeat, seatedRecord, markedRecord, sittingAfter, seatsAfter}
 
 -- The first n elements of a list, replaced by as many others, are those.
-pub take-replaced : {A : Type 0} (n : ℕ) (xs ys : List A) → length ys ≡ length (take n xs) → take n (ys ++ drop n xs) ≡ ys
+take-replaced : {A : Type 0} (n : ℕ) (xs ys : List A) → length ys ≡ length (take n xs) → take n (ys ++ drop n xs) ≡ ys
 take-replaced n xs ys size =
     ⊎-elim
     (λ (h : n ≤ length xs). take-at ys (drop n xs) n (size ∙ length-take n xs ∙ omega arith))

@@ -144,7 +144,7 @@ module _ (c s w : List ℕ) where
 -- The sheets that our own plans make.
 module _ (c w : List ℕ) (given : Accepted c) (room : workBytes exact (instanceOf c) ≤ length w) where
   -- The sheet of a plan is explained, and has spread 0 and swaps 0.
-  pub plan-explained :
+  plan-explained :
       (p : List ℕ) → PlanFits (instanceOf c) p →
       (pointsOf c (sheetOf (instanceOf c) p) w .number ≡ 0) × (pointsOf c (sheetOf (instanceOf c) p) w .spread ≡ 0) ×
       (pointsOf c (sheetOf (instanceOf c) p) w .swaps ≡ 0)
@@ -156,7 +156,7 @@ module _ (c w : List ℕ) (given : Accepted c) (room : workBytes exact (instance
       (zero, rw (points-are c s w zero) (plan-points p fit .0), rw (points-are c s w zero) (plan-points p fit .1))
 
   -- The exact plan's sheet has no points above the least at all.
-  pub exact-explained :
+  exact-explained :
       pointsOf c (sheetOf (instanceOf c) (plannedBy exact (instanceOf c))) w ≡ record { number = 0; spread = 0; swaps = 0; counts = 0 }
   unfolding pointsWith
   exact-explained =

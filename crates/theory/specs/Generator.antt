@@ -51,7 +51,7 @@ unfolding draw
 draw-below s h = left-below 5 _ (right-below _ (left-below 13 s h))
 
 -- Every draw of a start is a number of 32 bits.
-pub drawn-below : (start n : ℕ) → start < states → drawn start n < states
+drawn-below : (start n : ℕ) → start < states → drawn start n < states
 unfolding drawn
 drawn-below start zero h = h
 drawn-below start (suc n) h = draw-below (drawn start n) (drawn-below start n h)

@@ -41,10 +41,10 @@ passed-over test (t ∷ ts) us a {y} all fails e =
     (true-or-false (t .applies))
 
 -- A submission that counts has been let pass by 15, 16 and 17.
-pub record Counts (f : Facts) (d : ℕ) : Type 0 where
-  pub open-still : isUnopened (f .phase) ≡ false
-  pub seat-known : noSeat f d ≡ false
-  pub not-spent : f .used < f .allowance
+record Counts (f : Facts) (d : ℕ) : Type 0 where
+  open-still : isUnopened (f .phase) ≡ false
+  seat-known : noSeat f d ≡ false
+  not-spent : f .used < f .allowance
 
 module _ (f : Facts) (d : ℕ) where
   counts : (a : Answer) {n : ℕ} → firstOf (submissionTests f d) a ≡ Cost n → Counts f d
@@ -54,12 +54,12 @@ module _ (f : Facts) (d : ℕ) where
 
   module _ (card s : List ℕ) where
     -- A submission that is answered with a cost counts.
-    pub marked-counts : {n : ℕ} → answerTo f (submitSheet d card s) ≡ Cost n → Counts f d
+    marked-counts : {n : ℕ} → answerTo f (submitSheet d card s) ≡ Cost n → Counts f d
     unfolding answerTo actSpec
     marked-counts e = counts _ (sym (first-append (submissionTests f d) _ _) ∙ on-card-cost card _ _ e .1)
 
     -- 'A sheet refused by 11 to 13 uses up one hand-in too.'
-    pub refused-counts :
+    refused-counts :
         {x : Refusal} → answerTo f (submitSheet d card s) ≡ Refused x → (leb 11 (refusalNumber x) && leb (refusalNumber x) 13) ≡ true → Counts f d
     unfolding answerTo actSpec cardTests allOf
     refused-counts e counted =
