@@ -11,11 +11,7 @@ pub first-drawn :
     OfStart
     (record {
       start = start;
-      modules = 1 + a % 200;
-      topStep = 1 + b % 200;
-      slots = c % 65;
-      powerUp = d % 1001;
-      powerDown = e % 1001;
+      fields = record { modules = 1 + a % 200; topStep = 1 + b % 200; slots = c % 65; powerUp = d % 1001; powerDown = e % 1001 };
       firstEntry = f % 1001;
       state = f;
     })

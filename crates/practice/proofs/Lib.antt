@@ -1,5 +1,5 @@
 pub mod DrawnFields
 pub mod TableLoop
 pub mod LoadsLoop
-pub mod CardParts
+pub mod DrawnCard
 pub mod PracticeAnswers

@@ -1,73 +1,72 @@
--- The loop that draws and writes the loads of a practice show.
+-- The loop that draws the loads of a practice show.
 use Prim.Native.Nat.{ℕ, suc, _+_, _*_, _%_, _≤_, _<_}
-use mathlib.Core.Path.{_≡_, refl}
+use mathlib.Core.Path.{_≡_, refl, sym, subst}
 use mathlib.Core.List.{List}
 use native.Mathlib.Nat.{add-zero, mul-le-mul}
 use native.Mathlib.Omega.{arith}
-use Rattle.lists.specs.Bytes.{bytesOf}
-use Rattle.lists.specs.Writing.{Room, Written, RowsWritten, rows-none, rows-room, rows-more, rows-all}
-use Rattle.model.specs.Instance.{loadBytes}
+use lib.ListN.{length, set}
+use Rattle.lists.specs.Filling.{Upto, upto-none, upto-more}
 use Rattle.model.specs.Practice.{draw, drawn, practiceShow}
 use Rattle.laws.specs.PracticeAccepted.{practice-sizes}
 use Rattle.practice.specs.declared.FirstDraws.{FirstDraws}
-use Rattle.practice.specs.declared.AfterTable.{AfterTable}
-use Rattle.practice.specs.Drawing.{OfStart, LoadsRoom}
+use Rattle.practice.specs.Drawing.{OfStart, LoadDraws}
 use Rattle.practice.proofs.DrawnFields.{next-draw}
 
--- Loads so far: those of the first t slots are written.
-pub record LoadsSoFar (first : FirstDraws) (bound p : ℕ) (old : List ℕ) (t : ℕ) (new : List ℕ) (place state : ℕ) : Type 0 where
-  pub is : OfStart first
-  pub bound-is : bound ≡ first .modules * first .topStep + 1
-  pub written : RowsWritten (λ j. bytesOf 2 (practiceShow (first .start) .load j)) (practiceShow (first .start) .slots) p old t new place
-  pub state-is : state ≡ drawn (first .start) (6 + first .topStep + t)
-
 -- m × Q is a small number.
-pub full-range : {first : FirstDraws} → OfStart first → first .modules * first .topStep ≤ 40000
+pub full-range : {first : FirstDraws} → OfStart first → first .fields .modules * first .fields .topStep ≤ 40000
 full-range {first} is =
     let (_, most, _, top, _) = practice-sizes (first .start) in
     rw (is .modules-is, is .top-is) (mul-le-mul most top)
 
--- Before the first turn nothing is written.
+-- Loads so far: those of the first t slots stand in the list.
+pub record LoadsSoFar (first : FirstDraws) (bound after : ℕ) (old : List ℕ) (t : ℕ) (new : List ℕ) (state : ℕ) : Type 0 where
+  pub given : LoadDraws first after old
+  pub bound-is : bound ≡ first .fields .modules * first .fields .topStep + 1
+  pub below : t ≤ first .fields .slots
+  pub filled : Upto (practiceShow (first .start) .load) t old new
+  pub state-is : state ≡ drawn (first .start) (6 + first .fields .topStep + t)
+
+-- Before the first turn nothing is filled.
 pub loads-start :
-    {first : FirstDraws} {after : AfterTable} {old : List ℕ} → LoadsRoom first after old →
-    LoadsSoFar first (first .modules * first .topStep + 1) (after .place) old 0 old (after .place) (after .state)
-loads-start {first} room =
+    {first : FirstDraws} {after : ℕ} {old : List ℕ} → LoadDraws first after old →
+    LoadsSoFar first (first .fields .modules * first .fields .topStep + 1) after old 0 old after
+loads-start {first} given =
     record {
-      is = room .behind .is;
+      given = given;
       bound-is = refl;
-      written = rows-none _ _ (room .behind .room);
-      state-is = rw (add-zero (6 + first .topStep)) (room .state-is);
+      below = omega arith;
+      filled = upto-none _ _;
+      state-is = rw (add-zero (6 + first .fields .topStep)) (given .state-is);
     }
 
 module _
-    {first : FirstDraws} {bound p t : ℕ} {old new : List ℕ} {place state : ℕ} (so : LoadsSoFar first bound p old t new place state) where
-  -- Drawn is the next state.
-  module _ {s : ℕ} (drew : s ≡ draw state) where
-    next-state : s ≡ drawn (first .start) (7 + first .topStep + t)
-    next-state =
-        let one-more : 7 + first .topStep + t ≡ suc (6 + first .topStep + t) = omega arith in
-        rw one-more (next-draw (first .start) (6 + first .topStep + t) (so .state-is) drew)
+    {first : FirstDraws} {bound after t : ℕ} {old new : List ℕ} {state : ℕ} (so : LoadsSoFar first bound after old t new state) where
+  -- There is a place for the load of the next slot.
+  pub load-place : t < first .fields .slots → t < length new
+  load-place b = omega (arith, so .given .long, so .filled .size)
 
-    load-is : s % bound ≡ practiceShow (first .start) .load t
-    unfolding practiceShow
-    load-is = rw (next-state, so .bound-is, so .is .modules-is, so .is .top-is)
+  -- One more load is drawn and stored.
+  pub loads-turn : {s : ℕ} → s ≡ draw state → t < first .fields .slots → LoadsSoFar first bound after old (t + 1) (set new t (s % bound)) s
+  unfolding practiceShow
+  loads-turn {s} drew b =
+      record {
+        given = so .given;
+        bound-is = so .bound-is;
+        below = omega arith;
+        filled = upto-more (so .filled) (omega (arith, so .given .long)) load-is;
+        state-is = let at : 6 + first .fields .topStep + (t + 1) ≡ 7 + first .fields .topStep + t = omega arith in rw at next-state;
+      }
+    where
+      next-state : s ≡ drawn (first .start) (7 + first .fields .topStep + t)
+      next-state =
+          let one-more : 7 + first .fields .topStep + t ≡ suc (6 + first .fields .topStep + t) = omega arith in
+          rw one-more (next-draw (first .start) (6 + first .fields .topStep + t) (so .state-is) drew)
 
-    -- There is room for the load that is drawn.
-    pub load-room : Room (loadBytes (practiceShow (first .start))) p old → t < first .slots → Room (bytesOf 2 (s % bound)) place new
-    load-room room b = rw load-is (rows-room room (so .written) (omega (arith, so .is .slots-is)))
+      load-is : s % bound ≡ practiceShow (first .start) .load t
+      load-is = rw (next-state, so .bound-is, so .given .is .modules-is, so .given .is .top-is)
 
-    -- One more load is written.
-    pub loads-turn :
-        {newer : List ℕ} {after : ℕ} → t < first .slots → Written (bytesOf 2 (s % bound)) place new newer after →
-        LoadsSoFar first bound p old (t + 1) newer after s
-    loads-turn b wrote =
-        record {
-          is = so .is;
-          bound-is = so .bound-is;
-          written = rows-more (so .written) (omega (arith, so .is .slots-is)) (rw load-is at wrote);
-          state-is = let at : 6 + first .topStep + (t + 1) ≡ 7 + first .topStep + t = omega arith in rw at next-state;
-        }
-
-  -- After the last turn all loads are written.
-  pub loads-end : first .slots ≤ t → Written (loadBytes (practiceShow (first .start))) p old new place
-  loads-end b = rows-all (so .written) (omega (arith, so .is .slots-is))
+  -- After the last turn all loads stand in the list.
+  pub loads-end : first .fields .slots ≤ t → Upto (practiceShow (first .start) .load) (first .fields .slots) old new
+  loads-end b =
+      let last : t ≡ first .fields .slots = omega (arith, so .below) in
+      subst (λ (n : ℕ). Upto (practiceShow (first .start) .load) n old new) last (so .filled)

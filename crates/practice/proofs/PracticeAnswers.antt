@@ -52,12 +52,12 @@ module _ (start : ℕ) (card : List ℕ) where
 
 module _ {first : FirstDraws} (is : OfStart first) {start : ℕ} (from : first .start ≡ start) where
   -- The length that is worked out is the card's.
-  pub length-is : {size : ℕ} → size ≡ loadPlace (first .topStep) (first .slots) → size ≡ cardLength (practiceShow start)
+  pub length-is : {size : ℕ} → size ≡ loadPlace (first .fields .topStep) (first .fields .slots) → size ≡ cardLength (practiceShow start)
   unfolding cardLength
   length-is e = rw (← from, e, is .top-is, is .slots-is)
 
   -- An area of at least that length has room for the card.
-  pub card-room : {card : List ℕ} → cardLength (practiceShow start) ≤ length card → DrawnRoom cardBytes first 0 card
+  pub card-room : {card : List ℕ} → cardLength (practiceShow start) ≤ length card → DrawnRoom first card
   card-room {card} b =
       let long : cardLength (practiceShow (first .start)) ≤ length card = rw from b in
       record { is = is; room = record { room = omega (arith, card-bytes-length (practiceShow (first .start))) } }

@@ -1,16 +1,17 @@
--- The loop that draws and writes the table of a practice show.
+-- The loop that draws the table of a practice show.
 use Prim.Native.Nat.{ℕ, zero, suc, _+_, _%_, _≤_, _<_}
-use mathlib.Core.Path.{_≡_, refl, ap, _∙_}
+use mathlib.Core.Path.{_≡_, refl, sym, subst, ap, _∙_}
 use mathlib.Core.List.{List}
 use native.Mathlib.Numerals.{add-one}
 use native.Mathlib.Omega.{arith}
-use Rattle.lists.specs.Bytes.{bytesOf}
-use Rattle.lists.specs.Writing.{Room, Written, RowsWritten, rows-none, rows-room, rows-more, rows-all}
-use Rattle.model.specs.Instance.{tableBytes}
-use Rattle.model.specs.Practice.{draw, drawn, practiceDifference, practiceEntry, practiceShow}
+use lib.ListN.{length, set}
+use mir.Syntax.{w32}
+use mir.Val.{Fits}
+use Rattle.lists.specs.Filling.{Upto, upto-none, upto-more}
+use Rattle.model.specs.Practice.{draw, drawn, practiceDifference, practiceEntry}
 use Rattle.laws.specs.PracticeAccepted.{practice-sizes, difference-most, entry-most}
 use Rattle.practice.specs.declared.FirstDraws.{FirstDraws}
-use Rattle.practice.specs.Drawing.{OfStart, DrawnRoom, SmallDifference, nextDifference}
+use Rattle.practice.specs.Drawing.{OfStart, TableDraws, SmallDifference, nextDifference}
 use Rattle.practice.proofs.DrawnFields.{next-draw}
 
 module _ (start : ℕ) where
@@ -27,46 +28,49 @@ module _ (start : ℕ) where
       let place : 7 + suc k ≡ 8 + k = omega arith in
       rw (e, f, place)
 
--- A table so far: the first k entries are written, and entry k is drawn.
-pub record TableSoFar (first : FirstDraws) (p : ℕ) (old : List ℕ) (k : ℕ) (new : List ℕ) (place state difference entry : ℕ) : Type 0 where
-  pub is : OfStart first
-  pub written : RowsWritten (λ j. bytesOf 4 (practiceShow (first .start) .table j)) (practiceShow (first .start) .topStep + 1) p old k new place
-  pub below : k ≤ first .topStep
+-- A table so far: the first k entries stand in the list, and entry k is drawn.
+pub record TableSoFar (first : FirstDraws) (old : List ℕ) (k : ℕ) (new : List ℕ) (state difference entry : ℕ) : Type 0 where
+  pub given : TableDraws first old
+  pub filled : Upto (practiceEntry (first .start)) k old new
+  pub below : k ≤ first .fields .topStep
   pub state-is : state ≡ drawn (first .start) (6 + k)
   pub difference-is : difference ≡ differenceTo (first .start) k
-  pub entry-is : entry ≡ practiceShow (first .start) .table k
+  pub entry-is : entry ≡ practiceEntry (first .start) k
 
--- Before the first turn nothing is written, and F(0) is drawn.
-pub table-starts :
-    {first : FirstDraws} {p : ℕ} {old : List ℕ} → DrawnRoom tableBytes first p old → TableSoFar first p old 0 old p (first .state) 0 (first .firstEntry)
-unfolding practiceShow differenceTo
-table-starts {first} room =
+-- Before the first turn nothing is filled, and F(0) is drawn.
+pub table-starts : {first : FirstDraws} {old : List ℕ} → TableDraws first old → TableSoFar first old 0 old (first .state) 0 (first .firstEntry)
+unfolding differenceTo
+table-starts given =
     record {
-      is = room .is;
-      written = rows-none _ _ (room .room);
+      given = given;
+      filled = upto-none _ _;
       below = omega arith;
-      state-is = room .is .state-is;
+      state-is = given .is .state-is;
       difference-is = refl;
-      entry-is = room .is .first-is;
+      entry-is = given .is .first-is;
     }
 
 module _
-    {first : FirstDraws} {p k : ℕ} {old new : List ℕ} {place state difference entry : ℕ} (so : TableSoFar first p old k new place state difference entry) where
-  top : first .topStep ≤ 200
-  top = let (_, _, _, most, _) = practice-sizes (first .start) in omega (arith, so .is .top-is)
+    {first : FirstDraws} {k : ℕ} {old new : List ℕ} {state difference entry : ℕ} (so : TableSoFar first old k new state difference entry) where
+  top : first .fields .topStep ≤ 200
+  top = let (_, _, _, most, _) = practice-sizes (first .start) in omega (arith, so .given .is .top-is)
 
-  -- There is room for the entry that is drawn.
-  pub entry-room : DrawnRoom tableBytes first p old → Room (bytesOf 4 entry) place new
-  entry-room room = rw (so .entry-is) (rows-room (room .room) (so .written) (omega (arith, so .is .top-is)))
+  -- There is a place for the entry that is drawn.
+  pub entry-place : k < length new
+  entry-place = omega (arith, so .below, so .given .long, so .filled .size)
 
   -- The difference that led to the entry is small.
   pub difference-small : SmallDifference difference
   unfolding differenceTo
   difference-small = record { most = go k (so .below) (so .difference-is) }
     where
-      go : (j : ℕ) → j ≤ first .topStep → difference ≡ differenceTo (first .start) j → difference ≤ 1000
+      go : (j : ℕ) → j ≤ first .fields .topStep → difference ≡ differenceTo (first .start) j → difference ≤ 1000
       go zero b e = omega arith
       go (suc j) b e = omega (arith, top, difference-most (first .start) j)
+
+  -- The entry is stored.
+  pub stored : Upto (practiceEntry (first .start)) (k + 1) old (set new k entry)
+  stored = upto-more (so .filled) (omega (arith, so .below, so .given .long)) (so .entry-is)
 
   -- Drawn are the next state and the next difference.
   module _ {s d : ℕ} (drew : s ≡ draw state) (next : d ≡ nextDifference k difference s) where
@@ -79,34 +83,31 @@ module _
     next-drawn = next ∙ next-is (first .start) k difference s (so .difference-is) next-state
 
     next-entry : entry + d ≡ practiceEntry (first .start) (suc k)
-    unfolding practiceShow practiceEntry
+    unfolding practiceEntry
     next-entry = omega (arith, so .entry-is, next-drawn)
 
-    -- The next entry is small.
-    pub next-small : k < first .topStep → entry + d ≤ 123000
-    next-small b = omega (arith, next-entry, top, entry-most (first .start) (suc k) (omega (arith, top)))
+    -- The next entry fits 32 bits.
+    pub next-fits : k < first .fields .topStep → Fits w32 (entry + d)
+    next-fits b = record { fits = omega (arith, next-entry, top, entry-most (first .start) (suc k) (omega (arith, top))) }
 
-    -- One more entry is written, and the next one drawn.
-    pub table-turns :
-        {newer : List ℕ} {after : ℕ} → k < first .topStep → Written (bytesOf 4 entry) place new newer after →
-        TableSoFar first p old (k + 1) newer after s d (entry + d)
-    unfolding differenceTo practiceShow
-    table-turns b wrote =
+    -- One more entry is stored, and the next one drawn.
+    pub table-turns : k < first .fields .topStep → TableSoFar first old (k + 1) (set new k entry) s d (entry + d)
+    unfolding differenceTo
+    table-turns b =
         record {
-          is = so .is;
-          written = rows-more (so .written) (omega (arith, so .is .top-is)) (rw (so .entry-is) at wrote);
+          given = so .given;
+          filled = stored;
           below = omega arith;
           state-is = let at : 6 + (k + 1) ≡ 7 + k = omega arith in rw at next-state;
           difference-is = rw (add-one k) next-drawn;
           entry-is = rw (add-one k) next-entry;
         }
 
-  -- With the last entry the table is written, and the state is that before the loads.
+  -- With the last entry the table stands in the list, and the state is that before the loads.
   pub table-ends :
-      {newer : List ℕ} {after : ℕ} → first .topStep ≤ k → Written (bytesOf 4 entry) place new newer after →
-      Written (tableBytes (practiceShow (first .start))) p old newer after × (state ≡ drawn (first .start) (6 + first .topStep))
-  table-ends b wrote =
-      let last : first .topStep ≡ k = omega arith in (
-        rows-all (rows-more (so .written) (omega (arith, so .is .top-is)) (rw (so .entry-is) at wrote)) (omega (arith, so .is .top-is)),
-        rw last (so .state-is),
-      )
+      first .fields .topStep ≤ k →
+      Upto (practiceEntry (first .start)) (first .fields .topStep + 1) old (set new k entry) ×
+      (state ≡ drawn (first .start) (6 + first .fields .topStep))
+  table-ends b =
+      let last : first .fields .topStep ≡ k = omega (arith, so .below) in
+      (subst (λ (n : ℕ). Upto (practiceEntry (first .start)) (n + 1) old (set new k entry)) (sym last) stored, rw last (so .state-is))

@@ -1,20 +1,20 @@
 -- What the functions that draw and write a practice card ask for and give.
-use Prim.Native.Nat.{ℕ, zero, suc, _+_, _%_, _≤_}
+use Prim.Native.Nat.{ℕ, zero, suc, _+_, _%_, _≤_, _<_}
 use mathlib.Core.Path.{_≡_}
 use mathlib.Core.List.{List}
+use lib.ListN.{length}
 use Rattle.lists.specs.Writing.{Room}
-use Rattle.model.specs.Instance.{Instance, loadBytes}
+use Rattle.model.specs.Instance.{cardBytes}
 use Rattle.model.specs.Practice.{drawn, practiceEntry, practiceShow}
 use Rattle.practice.specs.declared.FirstDraws.{FirstDraws}
-use Rattle.practice.specs.declared.AfterTable.{AfterTable}
 
 -- The first draws are those of their start: the fields are the practice show's, and the state is draw 6.
 pub record OfStart (first : FirstDraws) : Type 0 where
-  pub modules-is : first .modules ≡ practiceShow (first .start) .modules
-  pub top-is : first .topStep ≡ practiceShow (first .start) .topStep
-  pub slots-is : first .slots ≡ practiceShow (first .start) .slots
-  pub up-is : first .powerUp ≡ practiceShow (first .start) .powerUp
-  pub down-is : first .powerDown ≡ practiceShow (first .start) .powerDown
+  pub modules-is : first .fields .modules ≡ practiceShow (first .start) .modules
+  pub top-is : first .fields .topStep ≡ practiceShow (first .start) .topStep
+  pub slots-is : first .fields .slots ≡ practiceShow (first .start) .slots
+  pub up-is : first .fields .powerUp ≡ practiceShow (first .start) .powerUp
+  pub down-is : first .fields .powerDown ≡ practiceShow (first .start) .powerDown
   pub first-is : first .firstEntry ≡ practiceEntry (first .start) 0
   pub state-is : first .state ≡ drawn (first .start) 6
 
@@ -28,12 +28,23 @@ unfoldable pub nextDifference : (k d s : ℕ) → ℕ
 nextDifference zero d s = s % 11
 nextDifference (suc k) d s = d + s % 4
 
--- Room from a place on for some bytes of the practice show whose first draws are given.
-pub record DrawnRoom (bytes : Instance → List ℕ) (first : FirstDraws) (p : ℕ) (out : List ℕ) : Type 0 where
+-- The first draws of a start, and a list with room for the table.
+pub record TableDraws (first : FirstDraws) (table : List ℕ) : Type 0 where
   pub is : OfStart first
-  pub room : Room (bytes (practiceShow (first .start))) p out
+  pub long : first .fields .topStep < length table
 
--- Room for the loads behind the table, after whose draws the generator is in the state given.
-pub record LoadsRoom (first : FirstDraws) (after : AfterTable) (out : List ℕ) : Type 0 where
-  pub behind : DrawnRoom loadBytes first (after .place) out
-  pub state-is : after .state ≡ drawn (first .start) (6 + first .topStep)
+-- The first draws of a start, the state of the generator after the table, and a list with room for the loads.
+pub record LoadDraws (first : FirstDraws) (after : ℕ) (loads : List ℕ) : Type 0 where
+  pub is : OfStart first
+  pub state-is : after ≡ drawn (first .start) (6 + first .fields .topStep)
+  pub long : first .fields .slots ≤ length loads
+
+-- The first draws of a start, and an area with room for its card.
+pub record DrawnRoom (first : FirstDraws) (out : List ℕ) : Type 0 where
+  pub is : OfStart first
+  pub room : Room (cardBytes (practiceShow (first .start))) 0 out
+
+-- Lists with room for every table and for all loads.
+pub record Lists (table loads : List ℕ) : Type 0 where
+  pub entries : length table ≡ 201
+  pub slotwise : length loads ≡ 64

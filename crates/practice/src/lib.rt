@@ -1,31 +1,21 @@
-// Practice cards (document 02, §1): the generator, and the bytes of the card that it draws from a start.
+// Practice cards (document 02, §1): the generator, and the card of the show that it draws from a start.
+use encoder::Fields;
 use model::Answer;
 use model::Refusal;
 ghost use mathlib.Core.Path.{_≡_};
-ghost use mathlib.Core.List.{_++_};
 ghost use Prim.Native.Nat.{_+_};
-ghost use Rattle.lists.specs.Bytes.{bytesOf};
-ghost use Rattle.lists.specs.Writing.{Room, Written};
-ghost use Rattle.model.specs.Instance.{loadPlace, frontBytes, tableBytes, loadBytes, cardBytes};
-ghost use Rattle.model.specs.Practice.{draw, drawn, practiceShow};
+ghost use Rattle.lists.specs.Filling.{Upto};
+ghost use Rattle.lists.specs.Writing.{Written};
+ghost use Rattle.model.specs.Instance.{cardBytes};
+ghost use Rattle.model.specs.Practice.{draw, drawn, practiceEntry, practiceShow};
 ghost use Rattle.model.specs.Calls.{answer, practiceCard, cardAtExit};
-ghost use Rattle.practice.specs.Drawing.{OfStart, SmallDifference, nextDifference, DrawnRoom, LoadsRoom};
+ghost use Rattle.practice.specs.Drawing.{OfStart, SmallDifference, nextDifference, TableDraws, LoadDraws, DrawnRoom, Lists};
 
 // What the first six draws of a start give, with the start and the state of the generator after them.
 struct FirstDraws {
     start: u32,
-    modules: u32,
-    topStep: u32,
-    slots: u32,
-    powerUp: u32,
-    powerDown: u32,
+    fields: Fields,
     firstEntry: u32,
-    state: u32,
-}
-
-// The place after the table, and the state of the generator after its draws.
-struct AfterTable {
-    place: usize,
     state: u32,
 }
 
@@ -49,23 +39,19 @@ fn draw_first(start: u32) -> FirstDraws
     let up = xorshift(slots);
     let down = xorshift(up);
     let entry = xorshift(down);
-    FirstDraws {
-        start,
+    let fields = Fields {
         modules: 1 + modules % 200,
         topStep: 1 + top % 200,
         slots: slots % 65,
         powerUp: up % 1001,
         powerDown: down % 1001,
+    };
+    FirstDraws {
+        start,
+        fields,
         firstEntry: entry % 1001,
         state: entry,
     }
-}
-
-// The length of the card.
-fn card_length(first: FirstDraws) -> usize
-    ensures { λ r. ⌜ r ≡ loadPlace (first .topStep) (first .slots) ⌝ }
-{
-    17 + 4 * (first.topStep as usize + 1) + 2 * (first.slots as usize)
 }
 
 // The difference after the one given, from the state that is drawn for it: the first one, where k is 0, is the draw mod 11, and each next one
@@ -80,83 +66,61 @@ fn next_difference(k: u32, difference: u32, state: u32) -> u32
     difference + state % 4
 }
 
-// Writes the mark and the version.
-fn put_front(out: &mut [u8], at: usize) -> usize
-    requires { ⌜ Room frontBytes at (now out) ⌝ }
-    ensures { λ r. ⌜ Written frontBytes at (now (out .entry)) (now (out .exit)) r ⌝ }
+// Draws the table into a list. Returns the state of the generator after it.
+fn draw_table(first: FirstDraws, table: &mut [u32]) -> u32
+    requires { ⌜ TableDraws first (now table) ⌝ }
+    ensures { λ _. ⌜ Upto (practiceEntry (first .start)) (first .fields .topStep + 1) (now (table .entry)) (now (table .exit)) ⌝ }
+    ensures { λ r. ⌜ r ≡ drawn (first .start) (6 + first .fields .topStep) ⌝ }
 {
-    let version = buffers::put_bytes(out, at, b"DLS");
-    buffers::put_two(out, version, 1)
-}
-
-// Writes m, Q and T.
-fn put_sizes(out: &mut [u8], at: usize, modules: u32, top: u32, slots: u32) -> usize
-    requires { ⌜ Room (bytesOf 1 modules ++ (bytesOf 1 top ++ bytesOf 2 slots)) at (now out) ⌝ }
-    ensures { λ r. ⌜ Written (bytesOf 1 modules ++ (bytesOf 1 top ++ bytesOf 2 slots)) at (now (out .entry)) (now (out .exit)) r ⌝ }
-{
-    let second = buffers::put_one(out, at, modules);
-    let third = buffers::put_one(out, second, top);
-    buffers::put_two(out, third, slots)
-}
-
-// Writes the two prices.
-fn put_prices(out: &mut [u8], at: usize, up: u32, down: u32) -> usize
-    requires { ⌜ Room (bytesOf 4 up ++ bytesOf 4 down) at (now out) ⌝ }
-    ensures { λ r. ⌜ Written (bytesOf 4 up ++ bytesOf 4 down) at (now (out .entry)) (now (out .exit)) r ⌝ }
-{
-    let second = buffers::put_four(out, at, up);
-    buffers::put_four(out, second, down)
-}
-
-// Draws and writes the table.
-fn put_table(out: &mut [u8], at: usize, first: FirstDraws) -> AfterTable
-    requires { ⌜ DrawnRoom tableBytes first at (now out) ⌝ }
-    ensures { λ r. ⌜ Written (tableBytes (practiceShow (first .start))) at (now (out .entry)) (now (out .exit)) (r .place) ⌝ }
-    ensures { λ r. ⌜ r .state ≡ drawn (first .start) (6 + first .topStep) ⌝ }
-{
-    let mut place = at;
     let mut state = first.state;
     let mut difference = 0;
     let mut entry = first.firstEntry;
     let mut k = 0;
-    while k < first.topStep {
-        place = buffers::put_four(out, place, entry);
+    while k < first.fields.topStep {
+        table[k as usize] = entry;
         state = xorshift(state);
         difference = next_difference(k, difference, state);
         entry += difference;
         k += 1;
     }
-    place = buffers::put_four(out, place, entry);
-    AfterTable { place, state }
+    table[k as usize] = entry;
+    state
 }
 
-// Draws and writes the loads.
-fn put_loads(out: &mut [u8], first: FirstDraws, after: AfterTable) -> usize
-    requires { ⌜ LoadsRoom first after (now out) ⌝ }
-    ensures { λ r. ⌜ Written (loadBytes (practiceShow (first .start))) (after .place) (now (out .entry)) (now (out .exit)) r ⌝ }
+// Draws the loads into a list, from the state after the table.
+fn draw_loads(first: FirstDraws, after: u32, loads: &mut [u32])
+    requires { ⌜ LoadDraws first after (now loads) ⌝ }
+    ensures { λ _. ⌜ Upto (practiceShow (first .start) .load) (first .fields .slots) (now (loads .entry)) (now (loads .exit)) ⌝ }
 {
-    let bound = first.modules * first.topStep + 1;
-    let mut place = after.place;
-    let mut state = after.state;
+    let bound = first.fields.modules * first.fields.topStep + 1;
+    let mut state = after;
     let mut t = 0;
-    while t < first.slots {
+    while t < first.fields.slots {
         state = xorshift(state);
-        place = buffers::put_two(out, place, state % bound);
+        loads[t as usize] = state % bound;
         t += 1;
     }
-    place
+}
+
+// Draws the table and the loads into two lists, and writes the card.
+fn put_drawn(card: &mut [u8], first: FirstDraws, table: &mut [u32], loads: &mut [u32]) -> usize
+    requires { ⌜ DrawnRoom first (now card) ⌝ }
+    requires { ⌜ Lists (now table) (now loads) ⌝ }
+    ensures { λ r. ⌜ Written (cardBytes (practiceShow (first .start))) 0 (now (card .entry)) (now (card .exit)) r ⌝ }
+{
+    let after = draw_table(first, table);
+    draw_loads(first, after, loads);
+    encoder::put_card(card, first.fields, table, loads)
 }
 
 // Writes the card.
-fn put_card(out: &mut [u8], first: FirstDraws) -> usize
-    requires { ⌜ DrawnRoom cardBytes first 0 (now out) ⌝ }
-    ensures { λ r. ⌜ Written (cardBytes (practiceShow (first .start))) 0 (now (out .entry)) (now (out .exit)) r ⌝ }
+fn put_practice(card: &mut [u8], first: FirstDraws) -> usize
+    requires { ⌜ DrawnRoom first (now card) ⌝ }
+    ensures { λ r. ⌜ Written (cardBytes (practiceShow (first .start))) 0 (now (card .entry)) (now (card .exit)) r ⌝ }
 {
-    let sizes = put_front(out, 0);
-    let prices = put_sizes(out, sizes, first.modules, first.topStep, first.slots);
-    let table = put_prices(out, prices, first.powerUp, first.powerDown);
-    let after = put_table(out, table, first);
-    put_loads(out, first, after)
+    let mut table = [0u32; 201];
+    let mut loads = [0u32; 64];
+    put_drawn(card, first, &mut table, &mut loads)
 }
 
 // The practice card of a start: refusals 14 and 10, in this order, else cost 0.
@@ -165,13 +129,13 @@ pub fn practice_card(start: u32, card: &mut [u8]) -> Answer
     ensures { λ r. ⌜ now (card .exit) ≡ cardAtExit (practiceCard start (now (card .entry))) ⌝ }
 {
     let first = draw_first(start);
-    let size = card_length(first);
+    let size = encoder::card_length(first.fields);
     if start == 0 {
         return Answer::Refused(Refusal::ZeroStart);
     }
     if card.len() < size {
         return Answer::Refused(Refusal::BufferTooShort);
     }
-    put_card(card, first);
+    put_practice(card, first);
     Answer::Cost(0)
 }

@@ -14,8 +14,8 @@ returns-2 c =
     let size = length-is (drew .0) (drew .1) (sized .card-length .ensures) in
     short-refused _ _ (c .before .if1 .left) (omega arith)
 
-put-card-requires : tie.Need-put-card-requires
-put-card-requires c κs =
+put-practice-requires : tie.Need-put-practice-requires
+put-practice-requires c κs =
     let sized = c .before .before .before in
     let drew = sized .before .draw-first .ensures in
     let size = length-is (drew .0) (drew .1) (sized .card-length .ensures) in
@@ -27,9 +27,9 @@ returns-3 c =
     let sized = wrote .before .before .before .before in
     let drew = sized .before .draw-first .ensures in
     let size = length-is (drew .0) (drew .1) (sized .card-length .ensures) in
-    card-given _ _ (wrote .before .before .before .if1 .left) (omega arith) (from-start (drew .0) (drew .1) (wrote .put-card .ensures))
+    card-given _ _ (wrote .before .before .before .if1 .left) (omega arith) (from-start (drew .0) (drew .1) (wrote .put-practice .ensures))
 
 pub practice-card-spec : {M : Type 1} → statement M
 practice-card-spec =
     tie.close
-    (tie.spec (λ c κs. search needs) (λ c κs. search needs) returns returns-2 put-card-requires (λ c. search needs) returns-3)
+    (tie.spec (λ c κs. search needs) (λ c κs. search needs) returns returns-2 put-practice-requires (λ c. search needs) returns-3)

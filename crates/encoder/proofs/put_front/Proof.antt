@@ -1,8 +1,8 @@
 use borrow.Author.Needs.{needs}
 use Rattle.lists.specs.Bytes.{bytesOf}
 use Rattle.lists.specs.Writing.{written-more}
-use Rattle.practice.proofs.put_front.Statement.{statement}
-use Rattle.practice.proofs.put_front.Tie as tie
+use Rattle.encoder.proofs.put_front.Statement.{statement}
+use Rattle.encoder.proofs.put_front.Tie as tie
 
 put-bytes-requires : tie.Need-put-bytes-requires
 put-bytes-requires c κs = search needs

@@ -1,7 +1,7 @@
 use borrow.Author.Needs.{needs}
 use Rattle.lists.specs.Writing.{room-first, room-rest, written-more}
-use Rattle.practice.proofs.put_sizes.Statement.{statement}
-use Rattle.practice.proofs.put_sizes.Tie as tie
+use Rattle.encoder.proofs.put_sizes.Statement.{statement}
+use Rattle.encoder.proofs.put_sizes.Tie as tie
 
 put-one-requires : tie.Need-put-one-requires
 put-one-requires c κs = search room-first

@@ -1,7 +1,7 @@
 use borrow.Author.Needs.{needs}
 use Rattle.lists.specs.Writing.{room-first, room-rest, written-more}
-use Rattle.practice.proofs.put_prices.Statement.{statement}
-use Rattle.practice.proofs.put_prices.Tie as tie
+use Rattle.encoder.proofs.put_prices.Statement.{statement}
+use Rattle.encoder.proofs.put_prices.Tie as tie
 
 put-four-requires : tie.Need-put-four-requires
 put-four-requires c κs = search room-first

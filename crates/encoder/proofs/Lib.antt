@@ -1,0 +1,2 @@
+pub mod CardParts
+pub mod SameCards

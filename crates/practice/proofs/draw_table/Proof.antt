@@ -1,0 +1,48 @@
+use Prim.Native.Nat.{_-_}
+use native.Mathlib.Omega.{arith}
+use borrow.Author.Needs.{needs}
+use Rattle.practice.proofs.TableLoop.{TableSoFar, entry-place, difference-small, stored, next-fits, table-starts, table-turns, table-ends}
+use Rattle.practice.proofs.draw_table.Statement.{statement}
+use Rattle.practice.proofs.draw_table.Tie as tie
+
+abbrev Inv-loop : tie.InvT-loop
+Inv-loop first table₀ state₀ difference₀ entry₀ k₀ table state difference entry k = TableSoFar first table₀ k table state difference entry
+
+abbrev μ-loop : tie.MeasureT-loop
+μ-loop first table₀ state₀ difference₀ entry₀ k₀ table state difference entry k = first .fields .topStep - k
+
+loop-holds : tie.Need-loop-holds Inv-loop μ-loop
+loop-holds c = search table-starts
+
+mul-table : tie.Need-mul-table Inv-loop μ-loop
+mul-table c = search needs
+
+slice-write-table : tie.Need-slice-write-table Inv-loop μ-loop
+slice-write-table c = search entry-place
+
+next-difference-requires : tie.Need-next-difference-requires Inv-loop μ-loop
+next-difference-requires c κs = search difference-small
+
+add-entry : tie.Need-add-entry Inv-loop μ-loop
+add-entry c = search next-fits
+
+loop-again : tie.Need-loop-again Inv-loop μ-loop
+loop-again c = search table-turns
+
+mul-table-2 : tie.Need-mul-table-2 Inv-loop μ-loop
+mul-table-2 c = search needs
+
+slice-write-table-2 : tie.Need-slice-write-table-2 Inv-loop μ-loop
+slice-write-table-2 c = search entry-place
+
+same-length : tie.Need-same-length Inv-loop μ-loop
+same-length c = stored (c .before .before .loop .inv) .size
+
+returns : tie.Need-returns Inv-loop μ-loop
+returns c = table-ends (c .before .before .loop .inv) (omega arith)
+
+pub draw-table-spec : {M : Type 1} → statement M
+draw-table-spec =
+    tie.close
+    (tie.spec Inv-loop μ-loop loop-holds (λ c. search needs) mul-table slice-write-table (λ c κs. search needs) next-difference-requires
+    add-entry (λ c. omega arith) (λ c. omega arith) loop-again (λ c. search needs) mul-table-2 slice-write-table-2 same-length returns)
