@@ -9,7 +9,7 @@ use Rattle.lists.specs.Filling.{Upto, upto-none, upto-more}
 use Rattle.model.specs.Practice.{draw, drawn, practiceShow}
 use Rattle.laws.specs.PracticeAccepted.{practice-sizes}
 use Rattle.practice.specs.declared.FirstDraws.{FirstDraws}
-use Rattle.practice.specs.Drawing.{OfStart, LoadDraws}
+use Rattle.practice.specs.Drawing.{OfStart}
 use Rattle.practice.proofs.DrawnFields.{next-draw}
 
 -- m × Q is a small number.
@@ -19,8 +19,9 @@ full-range {first} is =
     rw (is .modules-is, is .top-is) (mul-le-mul most top)
 
 -- Loads so far: those of the first t slots stand in the list.
-pub record LoadsSoFar (first : FirstDraws) (bound after : ℕ) (old : List ℕ) (t : ℕ) (new : List ℕ) (state : ℕ) : Type 0 where
-  pub given : LoadDraws first after old
+pub record LoadsSoFar (first : FirstDraws) (bound : ℕ) (old : List ℕ) (t : ℕ) (new : List ℕ) (state : ℕ) : Type 0 where
+  pub is : OfStart first
+  pub long : length old ≡ 64
   pub bound-is : bound ≡ first .fields .modules * first .fields .topStep + 1
   pub below : t ≤ first .fields .slots
   pub filled : Upto (practiceShow (first .start) .load) t old new
@@ -28,32 +29,38 @@ pub record LoadsSoFar (first : FirstDraws) (bound after : ℕ) (old : List ℕ) 
 
 -- Before the first turn nothing is filled.
 pub loads-start :
-    {first : FirstDraws} {after : ℕ} {old : List ℕ} → LoadDraws first after old →
-    LoadsSoFar first (first .fields .modules * first .fields .topStep + 1) after old 0 old after
-loads-start {first} given =
+    {first : FirstDraws} {after : ℕ} {old : List ℕ} → OfStart first → length old ≡ 64 →
+    after ≡ drawn (first .start) (6 + first .fields .topStep) →
+    LoadsSoFar first (first .fields .modules * first .fields .topStep + 1) old 0 old after
+loads-start {first} is long drew =
     record {
-      given = given;
+      is = is;
+      long = long;
       bound-is = refl;
       below = omega arith;
       filled = upto-none _ _;
-      state-is = rw (add-zero (6 + first .fields .topStep)) (given .state-is);
+      state-is = rw (add-zero (6 + first .fields .topStep)) drew;
     }
 
 module _
-    {first : FirstDraws} {bound after t : ℕ} {old new : List ℕ} {state : ℕ} (so : LoadsSoFar first bound after old t new state) where
+    {first : FirstDraws} {bound t : ℕ} {old new : List ℕ} {state : ℕ} (so : LoadsSoFar first bound old t new state) where
+  slots : first .fields .slots ≤ 64
+  slots = let (_, _, _, _, most) = practice-sizes (first .start) in omega (arith, so .is .slots-is)
+
   -- There is a place for the load of the next slot.
   pub load-place : t < first .fields .slots → t < length new
-  load-place b = omega (arith, so .given .long, so .filled .size)
+  load-place b = omega (arith, slots, so .long, so .filled .size)
 
   -- One more load is drawn and stored.
-  pub loads-turn : {s : ℕ} → s ≡ draw state → t < first .fields .slots → LoadsSoFar first bound after old (t + 1) (set new t (s % bound)) s
+  pub loads-turn : {s : ℕ} → s ≡ draw state → t < first .fields .slots → LoadsSoFar first bound old (t + 1) (set new t (s % bound)) s
   unfolding practiceShow
   loads-turn {s} drew b =
       record {
-        given = so .given;
+        is = so .is;
+        long = so .long;
         bound-is = so .bound-is;
         below = omega arith;
-        filled = upto-more (so .filled) (omega (arith, so .given .long)) load-is;
+        filled = upto-more (so .filled) (omega (arith, slots, so .long)) load-is;
         state-is = let at : 6 + first .fields .topStep + (t + 1) ≡ 7 + first .fields .topStep + t = omega arith in rw at next-state;
       }
     where
@@ -63,7 +70,7 @@ module _
           rw one-more (next-draw (first .start) (6 + first .fields .topStep + t) (so .state-is) drew)
 
       load-is : s % bound ≡ practiceShow (first .start) .load t
-      load-is = rw (next-state, so .bound-is, so .given .is .modules-is, so .given .is .top-is)
+      load-is = rw (next-state, so .bound-is, so .is .modules-is, so .is .top-is)
 
   -- After the last turn all loads stand in the list.
   pub loads-end : first .fields .slots ≤ t → Upto (practiceShow (first .start) .load) (first .fields .slots) old new

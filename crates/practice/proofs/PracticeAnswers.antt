@@ -5,7 +5,7 @@ use mathlib.Core.List.{List}
 use native.Mathlib.Omega.{arith}
 use lib.ListN.{length}
 use borrow.Author.Tests.{eq-eqb, ne-eqb, lt-ltb}
-use Rattle.lists.specs.Writing.{Written, written-start}
+use Rattle.lists.specs.Writing.{Room, Written, written-start}
 use Rattle.model.specs.declared.Refusal.the-variants.{ZeroStart, BufferTooShort}
 use Rattle.model.specs.declared.Answer.{Answer}
 use Rattle.model.specs.declared.Answer.the-variants.{Cost, Refused}
@@ -16,7 +16,7 @@ use Rattle.model.specs.Calls.{practiceCard, specOf, answer, buffersAtExit, card
 use Rattle.laws.specs.Encoding.{card-bytes-length}
 use Rattle.laws.specs.PracticeAccepted.{practice-given}
 use Rattle.practice.specs.declared.FirstDraws.{FirstDraws}
-use Rattle.practice.specs.Drawing.{OfStart, DrawnRoom}
+use Rattle.practice.specs.Drawing.{OfStart}
 
 module _ (start : ℕ) (card : List ℕ) where
   -- The area at exit, by the answer.
@@ -57,10 +57,10 @@ module _ {first : FirstDraws} (is : OfStart first) {start : ℕ} (from : first .
   length-is e = rw (← from, e, is .top-is, is .slots-is)
 
   -- An area of at least that length has room for the card.
-  pub card-room : {card : List ℕ} → cardLength (practiceShow start) ≤ length card → DrawnRoom first card
+  pub card-room : {card : List ℕ} → cardLength (practiceShow start) ≤ length card → Room (cardBytes (practiceShow (first .start))) 0 card
   card-room {card} b =
       let long : cardLength (practiceShow (first .start)) ≤ length card = rw from b in
-      record { is = is; room = record { room = omega (arith, card-bytes-length (practiceShow (first .start))) } }
+      record { room = omega (arith, card-bytes-length (practiceShow (first .start))) }
 
   -- The card that is written is that of the start.
   pub from-start :

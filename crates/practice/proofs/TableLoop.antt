@@ -11,7 +11,7 @@ use Rattle.lists.specs.Filling.{Upto, upto-none, upto-more}
 use Rattle.model.specs.Practice.{draw, drawn, practiceDifference, practiceEntry}
 use Rattle.laws.specs.PracticeAccepted.{practice-sizes, difference-most, entry-most}
 use Rattle.practice.specs.declared.FirstDraws.{FirstDraws}
-use Rattle.practice.specs.Drawing.{OfStart, TableDraws, SmallDifference, nextDifference}
+use Rattle.practice.specs.Drawing.{OfStart, SmallDifference, nextDifference}
 use Rattle.practice.proofs.DrawnFields.{next-draw}
 
 module _ (start : ℕ) where
@@ -30,7 +30,8 @@ module _ (start : ℕ) where
 
 -- A table so far: the first k entries stand in the list, and entry k is drawn.
 pub record TableSoFar (first : FirstDraws) (old : List ℕ) (k : ℕ) (new : List ℕ) (state difference entry : ℕ) : Type 0 where
-  pub given : TableDraws first old
+  pub is : OfStart first
+  pub long : length old ≡ 201
   pub filled : Upto (practiceEntry (first .start)) k old new
   pub below : k ≤ first .fields .topStep
   pub state-is : state ≡ drawn (first .start) (6 + k)
@@ -38,26 +39,29 @@ pub record TableSoFar (first : FirstDraws) (old : List ℕ) (k : ℕ) (new : Lis
   pub entry-is : entry ≡ practiceEntry (first .start) k
 
 -- Before the first turn nothing is filled, and F(0) is drawn.
-pub table-starts : {first : FirstDraws} {old : List ℕ} → TableDraws first old → TableSoFar first old 0 old (first .state) 0 (first .firstEntry)
+pub table-starts :
+    {first : FirstDraws} {old : List ℕ} → OfStart first → length old ≡ 201 →
+    TableSoFar first old 0 old (first .state) 0 (first .firstEntry)
 unfolding differenceTo
-table-starts given =
+table-starts is long =
     record {
-      given = given;
+      is = is;
+      long = long;
       filled = upto-none _ _;
       below = omega arith;
-      state-is = given .is .state-is;
+      state-is = is .state-is;
       difference-is = refl;
-      entry-is = given .is .first-is;
+      entry-is = is .first-is;
     }
 
 module _
     {first : FirstDraws} {k : ℕ} {old new : List ℕ} {state difference entry : ℕ} (so : TableSoFar first old k new state difference entry) where
   top : first .fields .topStep ≤ 200
-  top = let (_, _, _, most, _) = practice-sizes (first .start) in omega (arith, so .given .is .top-is)
+  top = let (_, _, _, most, _) = practice-sizes (first .start) in omega (arith, so .is .top-is)
 
   -- There is a place for the entry that is drawn.
   pub entry-place : k < length new
-  entry-place = omega (arith, so .below, so .given .long, so .filled .size)
+  entry-place = omega (arith, so .below, top, so .long, so .filled .size)
 
   -- The difference that led to the entry is small.
   pub difference-small : SmallDifference difference
@@ -70,7 +74,7 @@ module _
 
   -- The entry is stored.
   pub stored : Upto (practiceEntry (first .start)) (k + 1) old (set new k entry)
-  stored = upto-more (so .filled) (omega (arith, so .below, so .given .long)) (so .entry-is)
+  stored = upto-more (so .filled) (omega (arith, so .below, top, so .long)) (so .entry-is)
 
   -- Drawn are the next state and the next difference.
   module _ {s d : ℕ} (drew : s ≡ draw state) (next : d ≡ nextDifference k difference s) where
@@ -95,7 +99,8 @@ module _
     unfolding differenceTo
     table-turns b =
         record {
-          given = so .given;
+          is = so .is;
+          long = so .long;
           filled = stored;
           below = omega arith;
           state-is = let at : 6 + (k + 1) ≡ 7 + k = omega arith in rw at next-state;

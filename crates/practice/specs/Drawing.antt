@@ -1,10 +1,6 @@
 -- What the functions that draw and write a practice card ask for and give.
-use Prim.Native.Nat.{ℕ, zero, suc, _+_, _%_, _≤_, _<_}
+use Prim.Native.Nat.{ℕ, zero, suc, _+_, _%_, _≤_}
 use mathlib.Core.Path.{_≡_}
-use mathlib.Core.List.{List}
-use lib.ListN.{length}
-use Rattle.lists.specs.Writing.{Room}
-use Rattle.model.specs.Instance.{cardBytes}
 use Rattle.model.specs.Practice.{drawn, practiceEntry, practiceShow}
 use Rattle.practice.specs.declared.FirstDraws.{FirstDraws}
 
@@ -27,24 +23,3 @@ pub record SmallDifference (d : ℕ) : Type 0 where
 unfoldable pub nextDifference : (k d s : ℕ) → ℕ
 nextDifference zero d s = s % 11
 nextDifference (suc k) d s = d + s % 4
-
--- The first draws of a start, and a list with room for the table.
-pub record TableDraws (first : FirstDraws) (table : List ℕ) : Type 0 where
-  pub is : OfStart first
-  pub long : first .fields .topStep < length table
-
--- The first draws of a start, the state of the generator after the table, and a list with room for the loads.
-pub record LoadDraws (first : FirstDraws) (after : ℕ) (loads : List ℕ) : Type 0 where
-  pub is : OfStart first
-  pub state-is : after ≡ drawn (first .start) (6 + first .fields .topStep)
-  pub long : first .fields .slots ≤ length loads
-
--- The first draws of a start, and an area with room for its card.
-pub record DrawnRoom (first : FirstDraws) (out : List ℕ) : Type 0 where
-  pub is : OfStart first
-  pub room : Room (cardBytes (practiceShow (first .start))) 0 out
-
--- Lists with room for every table and for all loads.
-pub record Lists (table loads : List ℕ) : Type 0 where
-  pub entries : length table ≡ 201
-  pub slotwise : length loads ≡ 64

@@ -4,12 +4,13 @@ use model::Answer;
 use model::Refusal;
 ghost use mathlib.Core.Path.{_≡_};
 ghost use Prim.Native.Nat.{_+_};
+ghost use lib.ListN.{length};
 ghost use Rattle.lists.specs.Filling.{Upto};
-ghost use Rattle.lists.specs.Writing.{Written};
+ghost use Rattle.lists.specs.Writing.{Room, Written};
 ghost use Rattle.model.specs.Instance.{cardBytes};
 ghost use Rattle.model.specs.Practice.{draw, drawn, practiceEntry, practiceShow};
 ghost use Rattle.model.specs.Calls.{answer, practiceCard, cardAtExit};
-ghost use Rattle.practice.specs.Drawing.{OfStart, SmallDifference, nextDifference, TableDraws, LoadDraws, DrawnRoom, Lists};
+ghost use Rattle.practice.specs.Drawing.{OfStart, SmallDifference, nextDifference};
 
 // What the first six draws of a start give, with the start and the state of the generator after them.
 struct FirstDraws {
@@ -68,7 +69,8 @@ fn next_difference(k: u32, difference: u32, state: u32) -> u32
 
 // Draws the table into a list. Returns the state of the generator after it.
 fn draw_table(first: FirstDraws, table: &mut [u32]) -> u32
-    requires { ⌜ TableDraws first (now table) ⌝ }
+    requires { ⌜ OfStart first ⌝ }
+    requires { ⌜ length (now table) ≡ 201 ⌝ }
     ensures { λ _. ⌜ Upto (practiceEntry (first .start)) (first .fields .topStep + 1) (now (table .entry)) (now (table .exit)) ⌝ }
     ensures { λ r. ⌜ r ≡ drawn (first .start) (6 + first .fields .topStep) ⌝ }
 {
@@ -89,7 +91,9 @@ fn draw_table(first: FirstDraws, table: &mut [u32]) -> u32
 
 // Draws the loads into a list, from the state after the table.
 fn draw_loads(first: FirstDraws, after: u32, loads: &mut [u32])
-    requires { ⌜ LoadDraws first after (now loads) ⌝ }
+    requires { ⌜ OfStart first ⌝ }
+    requires { ⌜ length (now loads) ≡ 64 ⌝ }
+    requires { ⌜ after ≡ drawn (first .start) (6 + first .fields .topStep) ⌝ }
     ensures { λ _. ⌜ Upto (practiceShow (first .start) .load) (first .fields .slots) (now (loads .entry)) (now (loads .exit)) ⌝ }
 {
     let bound = first.fields.modules * first.fields.topStep + 1;
@@ -104,8 +108,10 @@ fn draw_loads(first: FirstDraws, after: u32, loads: &mut [u32])
 
 // Draws the table and the loads into two lists, and writes the card.
 fn put_drawn(card: &mut [u8], first: FirstDraws, table: &mut [u32], loads: &mut [u32]) -> usize
-    requires { ⌜ DrawnRoom first (now card) ⌝ }
-    requires { ⌜ Lists (now table) (now loads) ⌝ }
+    requires { ⌜ OfStart first ⌝ }
+    requires { ⌜ Room (cardBytes (practiceShow (first .start))) 0 (now card) ⌝ }
+    requires { ⌜ length (now table) ≡ 201 ⌝ }
+    requires { ⌜ length (now loads) ≡ 64 ⌝ }
     ensures { λ r. ⌜ Written (cardBytes (practiceShow (first .start))) 0 (now (card .entry)) (now (card .exit)) r ⌝ }
 {
     let after = draw_table(first, table);
@@ -115,7 +121,8 @@ fn put_drawn(card: &mut [u8], first: FirstDraws, table: &mut [u32], loads: &mut 
 
 // Writes the card.
 fn put_practice(card: &mut [u8], first: FirstDraws) -> usize
-    requires { ⌜ DrawnRoom first (now card) ⌝ }
+    requires { ⌜ OfStart first ⌝ }
+    requires { ⌜ Room (cardBytes (practiceShow (first .start))) 0 (now card) ⌝ }
     ensures { λ r. ⌜ Written (cardBytes (practiceShow (first .start))) 0 (now (card .entry)) (now (card .exit)) r ⌝ }
 {
     let mut table = [0u32; 201];

@@ -6,22 +6,22 @@ use Rattle.practice.proofs.draw_loads.Statement.{statement}
 use Rattle.practice.proofs.draw_loads.Tie as tie
 
 abbrev Inv-loop : tie.InvT-loop
-Inv-loop first after loads₀ bound state₀ t₀ loads state t = LoadsSoFar first bound after loads₀ t loads state
+Inv-loop first after loads₀ bound state₀ t₀ loads state t = LoadsSoFar first bound loads₀ t loads state
 
 abbrev μ-loop : tie.MeasureT-loop
 μ-loop first after loads₀ bound state₀ t₀ loads state t = first .fields .slots - t
 
 mul-bound : tie.Need-mul-bound Inv-loop μ-loop
-mul-bound c = omega (arith, full-range (c .before .before .pre .is))
+mul-bound c = omega (arith, full-range (c .before .before .pre .0))
 
 add-bound : tie.Need-add-bound Inv-loop μ-loop
-add-bound c = omega (arith, full-range (c .before .before .pre .is))
+add-bound c = omega (arith, full-range (c .before .before .pre .0))
 
 loop-holds : tie.Need-loop-holds Inv-loop μ-loop
 loop-holds c = search loads-start
 
 rem-loads : tie.Need-rem-loads Inv-loop μ-loop
-rem-loads c = omega arith
+rem-loads c = omega (arith, c .before .before .before .loop .inv .bound-is)
 
 mul-loads : tie.Need-mul-loads Inv-loop μ-loop
 mul-loads c = search needs

@@ -19,7 +19,7 @@ put-practice-requires c κs =
     let sized = c .before .before .before in
     let drew = sized .before .draw-first .ensures in
     let size = length-is (drew .0) (drew .1) (sized .card-length .ensures) in
-    card-room (drew .0) (drew .1) (omega arith)
+    (drew .0, card-room (drew .0) (drew .1) (omega arith))
 
 returns-3 : tie.Need-returns-3
 returns-3 c =

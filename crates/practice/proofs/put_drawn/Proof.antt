@@ -1,13 +1,13 @@
 use borrow.Author.Needs.{needs}
-use Rattle.practice.proofs.DrawnCard.{table-draws, load-draws, drawn-room, drawn-written}
+use Rattle.practice.proofs.DrawnCard.{drawn-room, drawn-written}
 use Rattle.practice.proofs.put_drawn.Statement.{statement}
 use Rattle.practice.proofs.put_drawn.Tie as tie
 
 draw-table-requires : tie.Need-draw-table-requires
-draw-table-requires c κs = search table-draws
+draw-table-requires c κs = search needs
 
 draw-loads-requires : tie.Need-draw-loads-requires
-draw-loads-requires c κs = search load-draws
+draw-loads-requires c κs = search needs
 
 put-card-requires : tie.Need-put-card-requires
 put-card-requires c κs = search drawn-room
