@@ -8,6 +8,7 @@ put-bytes-requires : tie.Need-put-bytes-requires
 put-bytes-requires c κs = search needs
 
 put-two-requires : tie.Need-put-two-requires
+unfolding bytesOf
 put-two-requires c κs = search needs
 
 returns : tie.Need-returns
