@@ -1,24 +1,28 @@
 -- A slot's row, filled in three parts.
-use Prim.Native.Nat.{ℕ, _-_, _+_, _/_, _%_, _≤_}
-use mathlib.Core.Path.{_≡_, sym, _∙_}
+use Prim.Native.Nat.{ℕ, _-_, _+_, _/_, _%_, _≤_, _<_}
+use mathlib.Core.Path.{_≡_, refl, sym, ap, _∙_}
+use mathlib.Core.Bool.{Bool, true, false, cond}
 use mathlib.Core.List.{List, _++_}
 use native.Mathlib.Omega.{arith}
 use lib.ListN.{length, take, drop, replicate}
+use lib.Dec.{ltb}
+use borrow.Author.Tests.{lt-ltb, le-ltb}
 use mir.Syntax.{w8}
 use mir.Val.{Fits}
 use borrow.Rule.Slice.PartMut.{midOf, putMid}
-use Rattle.lists.specs.Lists.{tabulate, tabulate-constant}
+use Rattle.lists.specs.Lists.{tabulate, tabulate-same, tabulate-constant}
 use Rattle.lists.specs.Filling.{Upto, upto-all}
 use Rattle.lists.specs.Parts.{upto-front, upto-part}
 use Rattle.model.specs.Instance.{Instance, instanceOf}
 use Rattle.model.specs.MoreLight.{activeStep}
 use Rattle.model.specs.Plans.{moduleByte}
 use Rattle.laws.specs.Acceptance.{accepted-bounds}
-use Rattle.laws.specs.Operating.{byte-above, byte-at, byte-off}
+use Rattle.laws.specs.Operating.{byte-off}
 use Rattle.card.specs.declared.Header.{Header}
 use Rattle.card.proofs.Lowest.{active-most}
 use Rattle.counts.specs.Serving.{Served}
-use Rattle.counts.proofs.Shares.{rest-below, step-small}
+use Rattle.counts.proofs.Shares.{step-small}
+use Rattle.sheets.specs.Marks.{slotByte}
 
 -- The active step of a step at most one above the quotient fits a byte.
 pub active-fits :
@@ -32,21 +36,43 @@ pub row-off :
     new ≡ tabulate (length row) (moduleByte i n l)
 row-off i n l row e filled = filled ∙ sym (tabulate-constant (length row) (λ k h. byte-off i n l k (omega arith)))
 
-module _ (i : Instance) (n l : ℕ) (some : n ≡ 0 → ⊥) where
-  -- The parts are the first l mod n modules, the other active ones, and those that are off.
-  pub row-filled :
-      (row : List ℕ) {a b : ℕ} {next step rest : List ℕ} → n ≤ length row → a ≡ activeStep i (l / n) → b ≡ activeStep i (l / n + 1) →
-      next ≡ replicate (length (take (l % n) row)) b →
-      let first : List ℕ = next ++ drop (l % n) row in
-      step ≡ replicate (length (midOf (l % n) (n - l % n) first)) a →
-      let active : List ℕ = putMid (l % n) (n - l % n) first step in
-      rest ≡ replicate (length (midOf n (length active - n) active)) 255 →
-      putMid n (length active - n) active rest ≡ tabulate (length row) (moduleByte i n l)
-  row-filled row {a} {b} {next} {step} {rest} h low high e f g =
-      let r = rest-below n l some in
-      let first : Upto (moduleByte i n l) (l % n) row (next ++ drop (l % n) row) =
-      upto-front (omega arith) e (λ k g. byte-above i n l k g (omega arith) ∙ sym high) in
-      let active : Upto (moduleByte i n l) n row (putMid (l % n) (n - l % n) (next ++ drop (l % n) row) step) =
-      upto-part first (omega arith) h f (λ k c d. byte-at i n l k c d ∙ sym low) in
-      upto-all (upto-part active (omega arith) (omega arith) g (λ k c d. byte-off i n l k c))
-      (omega arith)
+-- The bytes of the three parts.
+module _ (n r low high k : ℕ) where
+  high-byte : k < r → r ≤ n → slotByte n r low high k ≡ high
+  unfolding slotByte
+  high-byte h g = rw (lt-ltb k n (omega arith), lt-ltb k r h)
+
+  low-byte : r ≤ k → k < n → slotByte n r low high k ≡ low
+  unfolding slotByte
+  low-byte h g = rw (lt-ltb k n g, le-ltb k r h)
+
+  off-byte : n ≤ k → slotByte n r low high k ≡ 255
+  unfolding slotByte
+  off-byte h = rw (le-ltb k n h)
+
+-- The parts are the first r modules, the other active ones, and those that are off.
+pub row-filled :
+    (n r low high : ℕ) (row : List ℕ) {first others rest : List ℕ} → r ≤ n → n ≤ length row → first ≡ replicate (length (take r row)) high →
+    let begun : List ℕ = first ++ drop r row in
+    others ≡ replicate (length (midOf r (n - r) begun)) low →
+    let active : List ℕ = putMid r (n - r) begun others in
+    rest ≡ replicate (length (midOf n (length active - n) active)) 255 →
+    putMid n (length active - n) active rest ≡ tabulate (length row) (slotByte n r low high)
+row-filled n r low high row {first} {others} {rest} below inside e f g =
+    let begun : Upto (slotByte n r low high) r row (first ++ drop r row) =
+    upto-front (omega arith) e (λ k c. high-byte n r low high k c below) in
+    let active : Upto (slotByte n r low high) n row (putMid r (n - r) (first ++ drop r row) others) =
+    upto-part begun below inside f (λ k c d. low-byte n r low high k c d) in
+    upto-all (upto-part active (omega arith) (omega arith) g (λ k c d. off-byte n r low high k c)) (omega arith)
+
+-- A row whose modules share the load is the slot's row.
+pub row-shared :
+    (i : Instance) (n l : ℕ) (row : List ℕ) {low high : ℕ} {new : List ℕ} → low ≡ activeStep i (l / n) → high ≡ activeStep i (l / n + 1) →
+    new ≡ tabulate (length row) (slotByte n (l % n) low high) → new ≡ tabulate (length row) (moduleByte i n l)
+unfolding slotByte moduleByte
+row-shared i n l row low-is high-is filled =
+    filled ∙ tabulate-same (length row) (λ k h. rw (low-is, high-is) (ap (λ (x : ℕ). cond (ltb k n) x 255) (go (ltb k (l % n)))))
+  where
+    go : (b : Bool) → cond b (activeStep i (l / n + 1)) (activeStep i (l / n)) ≡ activeStep i (cond b (l / n + 1) (l / n))
+    go true = refl
+    go false = refl

@@ -3,9 +3,14 @@ use Prim.Native.Nat.{ℕ, _+_}
 use mathlib.Core.Bool.{cond}
 use mathlib.Core.List.{List}
 use lib.ListN.{length, getD}
+use lib.Dec.{ltb}
 use Rattle.lists.specs.Sums.{sum}
 use Rattle.model.specs.Instance.{Instance}
 use Rattle.model.specs.Sheets.{off, isOff, stepOf, stepCost, changeCost}
+
+-- The byte of module k in a slot with n active modules, of which the first r are at the step high and the others at the step low.
+unfoldable pub slotByte : (n r low high k : ℕ) → ℕ
+slotByte n r low high k = cond (ltb k n) (cond (ltb k r) high low) off
 
 -- The steps of a row's active modules, summed: lightAt of one slot.
 unfoldable pub rowLight : List ℕ → ℕ

@@ -1,5 +1,6 @@
 // The sheet of a plan, and the marking of a sheet that is handed in.
 use card::Header;
+ghost use Prim.Native.Nat.{_≤_};
 ghost use mathlib.Core.Path.{_≡_};
 ghost use lib.ListN.{length};
 ghost use Rattle.lists.specs.Lists.{tabulate, writtenOver};
@@ -7,12 +8,23 @@ ghost use Rattle.model.specs.Instance.{instanceOf};
 ghost use Rattle.model.specs.Sheets.{isEntry, stepOf, sheetEntries, sheetLight, sheetCost};
 ghost use Rattle.model.specs.Plans.{moduleByte, sheetOf};
 ghost use Rattle.card.specs.Checking.{Ready};
-ghost use Rattle.sheets.specs.Marks.{rowLight, byteCost, bytesCost, allOff, byteAt, stopCost, rowStopCost};
+ghost use Rattle.sheets.specs.Marks.{slotByte, rowLight, byteCost, bytesCost, allOff, byteAt, stopCost, rowStopCost};
 ghost use Rattle.sheets.specs.SheetRequires.{RowFits, SheetRoom, ByteReady, BytesReady, RowShort, RowPriced, SheetSized, SheetReady};
 
-// Fills a slot's row: the first n modules are active, the first l mod n of these at the active step of l div n + 1, the others at that
-// of l div n.
-fn fill_slot(card: &[u8], h: Header, n: u64, l: u64, row: &mut [u8])
+// Fills a slot's row: the first modules are active, the first `rest` of these at the step high, the others at the step low, and the modules
+// behind them are off.
+fn fill_slot(active: usize, rest: usize, low: u8, high: u8, row: &mut [u8])
+    requires { ⌜ rest ≤ active ⌝ }
+    requires { ⌜ active ≤ length (now row) ⌝ }
+    ensures { λ _. ⌜ now (row .exit) ≡ tabulate (length (now (row .entry))) (slotByte active rest low high) ⌝ }
+{
+    buffers::fill(&mut row[..rest], high);
+    buffers::fill(&mut row[rest..active], low);
+    buffers::fill(&mut row[active..], 255);
+}
+
+// Writes the row of a slot with count n and load l: l mod n modules are at the active step of l div n + 1, the others at that of l div n.
+fn write_slot(card: &[u8], h: Header, n: u64, l: u64, row: &mut [u8])
     requires { ⌜ RowFits (now card) h n l (now row) ⌝ }
     ensures { λ _. ⌜ now (row .exit) ≡ tabulate (length (now (row .entry))) (moduleByte (instanceOf (now (card .entry))) n l) ⌝ }
 {
@@ -20,14 +32,11 @@ fn fill_slot(card: &[u8], h: Header, n: u64, l: u64, row: &mut [u8])
         buffers::fill(row, 255);
         return;
     }
-    let active = n as usize;
     let rest = (l % n) as usize;
     let step = l / n;
     let low = card::active_step(card, h, step) as u8;
     let high = card::active_step(card, h, step + 1) as u8;
-    buffers::fill(&mut row[..rest], high);
-    buffers::fill(&mut row[rest..active], low);
-    buffers::fill(&mut row[active..], 255);
+    fill_slot(n as usize, rest, low, high, row);
 }
 
 // Writes the sheet of a plan. Each slot's part is lent to the slot filler, which sees that slot alone.
@@ -42,7 +51,7 @@ pub fn write_sheet(card: &[u8], h: Header, plan: &[u8], sheet: &mut [u8])
         let l = card::load(card, h, t as u64);
         let start = t * modules;
         let end = start + modules;
-        fill_slot(card, h, n, l, &mut sheet[start..end]);
+        write_slot(card, h, n, l, &mut sheet[start..end]);
         t += 1;
     }
 }

@@ -23,9 +23,6 @@ loop-holds c = search loads-start
 rem-loads : tie.Need-rem-loads Inv-loop μ-loop
 rem-loads c = omega (arith, c .before .before .before .loop .inv .bound-is)
 
-mul-loads : tie.Need-mul-loads Inv-loop μ-loop
-mul-loads c = search needs
-
 slice-write-loads : tie.Need-slice-write-loads Inv-loop μ-loop
 slice-write-loads c = search load-place
 
@@ -41,5 +38,5 @@ returns c = search loads-end
 pub draw-loads-spec : {M : Type 1} → statement M
 draw-loads-spec =
     tie.close
-    (tie.spec Inv-loop μ-loop mul-bound add-bound loop-holds (λ c κs. search needs) rem-loads (λ c. search needs) mul-loads
+    (tie.spec Inv-loop μ-loop mul-bound add-bound loop-holds (λ c κs. search needs) rem-loads (λ c. search needs) (λ c. search needs)
     slice-write-loads (λ c. omega arith) (λ c. omega arith) loop-again same-length returns)

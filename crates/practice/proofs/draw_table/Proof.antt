@@ -14,9 +14,6 @@ abbrev μ-loop : tie.MeasureT-loop
 loop-holds : tie.Need-loop-holds Inv-loop μ-loop
 loop-holds c = search table-starts
 
-mul-table : tie.Need-mul-table Inv-loop μ-loop
-mul-table c = search needs
-
 slice-write-table : tie.Need-slice-write-table Inv-loop μ-loop
 slice-write-table c = search entry-place
 
@@ -28,9 +25,6 @@ add-entry c = search next-fits
 
 loop-again : tie.Need-loop-again Inv-loop μ-loop
 loop-again c = search table-turns
-
-mul-table-2 : tie.Need-mul-table-2 Inv-loop μ-loop
-mul-table-2 c = search needs
 
 slice-write-table-2 : tie.Need-slice-write-table-2 Inv-loop μ-loop
 slice-write-table-2 c = search entry-place
@@ -44,5 +38,6 @@ returns c = table-ends (c .before .before .loop .inv) (omega arith)
 pub draw-table-spec : {M : Type 1} → statement M
 draw-table-spec =
     tie.close
-    (tie.spec Inv-loop μ-loop loop-holds (λ c. search needs) mul-table slice-write-table (λ c κs. search needs) next-difference-requires
-    add-entry (λ c. omega arith) (λ c. omega arith) loop-again (λ c. search needs) mul-table-2 slice-write-table-2 same-length returns)
+    (tie.spec Inv-loop μ-loop loop-holds (λ c. search needs) (λ c. search needs) slice-write-table (λ c κs. search needs)
+    next-difference-requires add-entry (λ c. omega arith) (λ c. omega arith) loop-again (λ c. search needs) (λ c. search needs)
+    slice-write-table-2 same-length returns)

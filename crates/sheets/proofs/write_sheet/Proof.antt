@@ -40,14 +40,14 @@ add-end c =
     let sized = start (test .before) .pre .plan .sized in
     record { fits = omega (arith, row-small (sized .ready) (in-slots sized (test .loop-test .taken))) }
 
-part-fill-slot-end : tie.Need-part-fill-slot-end Inv-loop μ-loop
-part-fill-slot-end c =
+part-write-slot-end : tie.Need-part-write-slot-end Inv-loop μ-loop
+part-write-slot-end c =
     let loop = c .before .before .before .before in
     let given = start loop .pre in
     row-there (given .plan .sized .ready) (search in-slots) (filled-room (loop .loop .inv) (given .room))
 
-fill-slot-requires : tie.Need-fill-slot-requires Inv-loop μ-loop
-fill-slot-requires c κs =
+write-slot-requires : tie.Need-write-slot-requires Inv-loop μ-loop
+write-slot-requires c κs =
     let test = c .before .before .before .before in
     let given = start (test .before) .pre in
     let below = in-slots (given .plan .sized) (test .loop-test .taken) in
@@ -72,4 +72,4 @@ returns c = filled-all (c .before .loop .inv) (start (c .before) .pre .room) (se
 pub write-sheet-spec : {M : Type 1} → statement M
 write-sheet-spec =
     tie.close (tie.spec Inv-loop μ-loop loop-holds (λ c. omega arith) wide-requires load-requires mul-start add-end (λ c. omega arith)
-    (λ c. omega arith) part-fill-slot-end fill-slot-requires (λ c. omega arith) loop-less loop-again same-length returns)
+    (λ c. omega arith) part-write-slot-end write-slot-requires (λ c. omega arith) loop-less loop-again same-length returns)
