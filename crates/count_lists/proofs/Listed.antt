@@ -1,10 +1,10 @@
 -- The planner over a list, by its tests: what is a planner's in general is applied to it.
-use Prim.Native.Nat.{ℕ, _*_, _≤_}
+use Prim.Native.Nat.{ℕ, _*_}
 use mathlib.Core.Path.{_≡_, refl}
-use mathlib.Core.Bool.{true, false}
-use mathlib.Core.List.{List, _++_}
+use mathlib.Core.Bool.{Bool, true, false}
+use mathlib.Core.List.{List}
 use native.Mathlib.Omega.{arith}
-use lib.ListN.{length, take, drop, replicate}
+use lib.ListN.{length}
 use mir.Syntax.{w64}
 use mir.Val.{Fits}
 use Rattle.model.specs.declared.Refusal.the-variants.{BufferTooShort, CountList}
@@ -17,10 +17,9 @@ use Rattle.theory.specs.CountLists.{rules-hold}
 use Rattle.card.specs.declared.Header.{Header}
 use Rattle.card.specs.Checking.{Ready}
 use Rattle.card.proofs.Sizes.{product-fits}
-use Rattle.search.specs.SearchRequires.{Searchable}
-use Rattle.planners.specs.PlannerRequires.{Buffers, hasRoom, roomFor}
-use Rattle.planners.proofs.Planned.{LeastFound, over-counts, planned-over}
-use Rattle.planners.proofs.Planning.{Planned, plan-unlisted, plan-short, plan-room, work-room, parts-lent, plan-done}
+use Rattle.planners.specs.PlannerRequires.{CountsReady, eitherShort, shortFor}
+use Rattle.planners.proofs.Searched.{LeastWritten}
+use Rattle.planners.proofs.Planning.{buffers-given, counts-ready, plan-written, Planned, plan-unlisted, plan-short, plan-done}
 
 module _ (l : List ℕ) (r : ℕ) (s p w : List ℕ) {h : Header} (ready : Ready s h) where
   abbrev k : Planner
@@ -41,31 +40,22 @@ module _ (l : List ℕ) (r : ℕ) (s p w : List ℕ) {h : Header} (ready : Ready
     unfolding workBytes
     asked-is = rw (ready .header .slots-is)
 
-    pub short : hasRoom (length l * h .slots) (instanceOf s) (length p) (length w) ≡ false → Planned k s p w (Refused BufferTooShort) p w
-    short e = plan-short k s p w ready keeps (rw asked-is at e)
+    module _ {short : Bool} (is : short ≡ eitherShort (length l * h .slots) (instanceOf s) (length p) (length w)) where
+      same : short ≡ shortFor k (instanceOf s) (length p) (length w)
+      same = rw asked-is at is
 
-    module _ (enough : hasRoom (length l * h .slots) (instanceOf s) (length p) (length w) ≡ true) where
-      room : roomFor k (instanceOf s) (length p) (length w) ≡ true
-      room = rw asked-is at enough
+      pub too-short : short ≡ true → Planned k s p w (Refused BufferTooShort) p w
+      too-short e = plan-short k s p w ready keeps same e
 
-      pub plan-long : h .slots ≤ length p
-      plan-long = plan-room k s p w ready room
+      module _ (none : short ≡ false) where
+        own : l ≡ allowedCounts k (instanceOf s .modules)
+        unfolding allowedCounts
+        own = refl
 
-      pub work-long : length l * h .slots ≤ length w
-      work-long = work-room k s p w ready room asked-is
+        pub over-list : CountsReady s h l (length l * h .slots) p w
+        over-list = counts-ready k (buffers-given ready same none) keeps own asked-is
 
-      lent : Buffers k s h (take (h .slots) p) (take (length l * h .slots) w)
-      lent = parts-lent k s p w ready room asked-is
-
-      own : l ≡ allowedCounts k (instanceOf s .modules)
-      unfolding allowedCounts
-      own = refl
-
-      pub over-list : Searchable s h l (take (h .slots) p) (take (length l * h .slots) w)
-      over-list = over-counts k lent keeps own
-
-      pub done :
-          {cost : ℕ} {plan work : List ℕ} →
-          LeastFound (instanceOf s) l cost plan work (replicate (length (take (length l * h .slots) w)) 0) →
-          Planned k s p w (Cost cost) (plan ++ drop (h .slots) p) (work ++ drop (length l * h .slots) w)
-      done found = plan-done k s p w ready room asked-is keeps (planned-over k lent keeps own found)
+        pub done :
+            {cost : ℕ} {plan work : List ℕ} → LeastWritten (instanceOf s) l (length l * h .slots) p w cost plan work →
+            Planned k s p w (Cost cost) plan work
+        done found = plan-done k s p w ready keeps same none (plan-written k (buffers-given ready same none) keeps own asked-is found)

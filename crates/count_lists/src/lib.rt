@@ -3,7 +3,6 @@ use card::Checked;
 use card::Header;
 use model::Answer;
 use model::Refusal;
-ghost use Prim.Native.Nat.{_≤_};
 ghost use mathlib.Core.Path.{_≡_};
 ghost use lib.ListN.{length, replicate};
 ghost use Rattle.lists.specs.Lists.{writtenOver};
@@ -12,8 +11,7 @@ ghost use Rattle.model.specs.Plans.{leastPlan, leastCost};
 ghost use Rattle.model.specs.Planners.{listed};
 ghost use Rattle.model.specs.Calls.{planShow, answer, planAtExit, workAtExit};
 ghost use Rattle.card.specs.Checking.{Ready};
-ghost use Rattle.search.specs.SearchRequires.{Searchable};
-ghost use Rattle.planners.specs.PlannerRequires.{NumberRoom};
+ghost use Rattle.planners.specs.PlannerRequires.{CountsReady};
 
 // The entries of a list as numbers of eight bytes.
 fn widen(list: &[u16], counts: &mut [u64])
@@ -27,45 +25,24 @@ fn widen(list: &[u16], counts: &mut [u64])
     }
 }
 
-// The counts of a list at the front of the numbers. Returns how many they are.
-fn fill_list(list: &[u16], counts: &mut [u64]) -> usize
-    requires { ⌜ length (now list) ≤ length (now counts) ⌝ }
-    ensures { λ r. ⌜ r ≡ length (now (list .entry)) ⌝ }
-    ensures { λ r. ⌜ now (counts .exit) ≡ writtenOver (now (list .entry)) (now (counts .entry)) ⌝ }
-{
-    let end = list.len();
-    widen(list, &mut counts[..end]);
-    end
-}
-
-// The least plan over the counts of a list and its cost, with room for the counts.
-fn least_with_counts(
+// The least plan over the counts of a list and its cost.
+fn plan_over_list(
     card: &[u8],
     h: Header,
     list: &[u16],
-    counts: &mut [u64],
+    asked: usize,
     plan: &mut [u8],
     work: &mut [u8],
 ) -> u64
-    requires { ⌜ Searchable (now card) h (now list) (now plan) (now work) ⌝ }
-    requires { ⌜ NumberRoom (now counts) ⌝ }
+    requires { ⌜ CountsReady (now card) h (now list) asked (now plan) (now work) ⌝ }
     ensures { λ r. ⌜ r ≡ leastCost (instanceOf (now (card .entry))) (now (list .entry)) ⌝ }
-    ensures { λ _. ⌜ now (plan .exit) ≡ leastPlan (instanceOf (now (card .entry))) (now (list .entry)) ⌝ }
-    ensures { λ _. ⌜ now (work .exit) ≡ replicate (length (now (work .entry))) 0 ⌝ }
-{
-    let width = fill_list(list, counts);
-    planners::least_over(card, h, &counts[..width], plan, work)
-}
-
-// The least plan over the counts of a list and its cost.
-fn least_over_list(card: &[u8], h: Header, list: &[u16], plan: &mut [u8], work: &mut [u8]) -> u64
-    requires { ⌜ Searchable (now card) h (now list) (now plan) (now work) ⌝ }
-    ensures { λ r. ⌜ r ≡ leastCost (instanceOf (now (card .entry))) (now (list .entry)) ⌝ }
-    ensures { λ _. ⌜ now (plan .exit) ≡ leastPlan (instanceOf (now (card .entry))) (now (list .entry)) ⌝ }
-    ensures { λ _. ⌜ now (work .exit) ≡ replicate (length (now (work .entry))) 0 ⌝ }
+    ensures { λ _. ⌜ now (plan .exit) ≡ writtenOver (leastPlan (instanceOf (now (card .entry))) (now (list .entry))) (now (plan .entry)) ⌝ }
+    ensures { λ _. ⌜ now (work .exit) ≡ writtenOver (replicate asked 0) (now (work .entry)) ⌝ }
 {
     let mut counts = [0u64; 201];
-    least_with_counts(card, h, list, &mut counts, plan, work)
+    let width = list.len();
+    widen(list, &mut counts[..width]);
+    planners::plan_over(card, h, &counts[..width], asked, plan, work)
 }
 
 // The planner over a list on an accepted card: refusals 18 and 10, in this order.
@@ -85,12 +62,11 @@ fn plan_listed_on(
     if !count_rules::keeps_rules(list, ratio, h.modules) {
         return Answer::Refused(Refusal::CountList);
     }
-    let slots = h.slots as usize;
-    let asked = list.len() * slots;
-    if !planners::has_room(card, h, asked, plan.len(), work.len()) {
+    let asked = list.len() * (h.slots as usize);
+    if planners::either_short(card, h, asked, plan.len(), work.len()) {
         return Answer::Refused(Refusal::BufferTooShort);
     }
-    Answer::Cost(least_over_list(card, h, list, &mut plan[..slots], &mut work[..asked]))
+    Answer::Cost(plan_over_list(card, h, list, asked, plan, work))
 }
 
 // The planner over a list: refusals 1 to 8, 18 and 10, in this order.

@@ -1,10 +1,10 @@
 -- The explanation of a sheet, by its tests: the numbers that it returns, and its work buffer at exit.
 use Prim.Native.Nat.{ℕ, _≤_, _<_}
 use mathlib.Core.Path.{_≡_, sym, ap, _∙_}
-use mathlib.Core.List.{List, _++_}
+use mathlib.Core.List.{List}
 use native.Mathlib.Omega.{arith}
-use lib.ListN.{length, take, drop, replicate, length-replicate}
-use lib.Seq.{length-take-le}
+use lib.ListN.{length, replicate}
+use Rattle.lists.specs.Lists.{writtenOver}
 use Rattle.model.specs.declared.Refusal.{Refusal}
 use Rattle.model.specs.declared.Refusal.the-variants.{BufferTooShort}
 use Rattle.model.specs.declared.Answer.{Answer}
@@ -24,18 +24,11 @@ use Rattle.card.specs.declared.Checked.{Checked}
 use Rattle.card.specs.declared.Checked.the-variants.{Invalid}
 use Rattle.card.specs.Checking.{Ready, checkedOf}
 use Rattle.card.proofs.Groups.{refused-answer}
-use Rattle.explanation.specs.ExplanationRequires.{Marked, PointsRoom, WorkRoom, CountsArray}
+use Rattle.explanation.specs.ExplanationRequires.{Marked, WorkRoom}
 
--- The front of the array of counts, as it is lent on.
-module _ {s : List ℕ} {h : Header} (r : Ready s h) {counts : List ℕ} (array : CountsArray counts) where
-  pub slots-within : h .slots ≤ length counts
-  slots-within = omega (arith, accepted-bounds s (r .accepted) .slots)
-
-  pub slots-counted : h .slots ≡ length (take (h .slots) counts)
-  slots-counted = sym (length-take-le (h .slots) counts slots-within)
-
-  pub points-lent : {work : List ℕ} → WorkRoom s work → PointsRoom s h (take (h .slots) counts) work
-  points-lent room = record { ready = r; plan-size = sym slots-counted ∙ r .header .slots-is; work-room = room .work-room }
+-- The longest show has 1,024 slots.
+pub slots-most : {s : List ℕ} {h : Header} → Ready s h → h .slots ≤ 1024
+slots-most {s} r = omega (arith, r .header .slots-is, accepted-bounds s (r .accepted) .slots)
 
 -- Numbers and a buffer are those of an explanation at exit.
 abbrev pub Explained : (c s w : List ℕ) → Points → (work : List ℕ) → Type 0
@@ -59,13 +52,13 @@ module _ (c s w : List ℕ) where
       enough : workBytes exact (instanceOf c) ≤ length w
       enough = omega arith
 
+      pub work-lent : WorkRoom c w
+      work-lent = record { work-room = enough }
+
       pub refused-sheet :
           {a : Answer} {x : Refusal} {points : Points} → a ≡ answer (markSheet c s) → a ≡ Refused x → points ≡ noPoints x →
           Explained c s w points w
       refused-sheet is e none = kept (explain-unmarked c s w (r .accepted) enough (sym is ∙ e)) none
-
-      pub work-counted : n ≡ length (take n w)
-      work-counted = sym (length-take-le n w room)
 
       -- Where marking gives a cost, it is that of a sheet that serves.
       module _ {a : Answer} {cost : ℕ} (is : a ≡ answer (markSheet c s)) (e : a ≡ Cost cost) where
@@ -76,16 +69,9 @@ module _ (c s w : List ℕ) where
             let full = mark-accepts c s (r .accepted) .1 served in
             record { ready = r; served = served; cost-is = ap costOf (sym given ∙ full) }
 
-        pub work-lent : WorkRoom c (take n w)
-        work-lent = record { work-room = omega (arith, work-counted) }
-
         pub explained :
-            {points : Points} {work : List ℕ} → points ≡ pointsWith (Cost 0) (instanceOf c) s → work ≡ replicate (length (take n w)) 0 →
-            Explained c s w points (work ++ drop n w)
+            {points : Points} {work : List ℕ} → points ≡ pointsWith (Cost 0) (instanceOf c) s →
+            work ≡ writtenOver (replicate (workBytes exact (instanceOf c)) 0) w → Explained c s w points work
         unfolding pointsOf atExit
         explained found cleared =
-            let given = explain-marked c s w (r .accepted) enough (sym is ∙ e) in
-            let zeros = length-take-le n w room ∙ n-is in (
-              rw given found,
-              rw (work-left c s w, given, cleared, zeros, length-replicate {A = ℕ} (workBytes exact (instanceOf c)) 0, n-is),
-            )
+            let given = explain-marked c s w (r .accepted) enough (sym is ∙ e) in (rw given found, cleared ∙ rw (work-left c s w, given))

@@ -1,10 +1,11 @@
 -- The three numbers of a sheet that serves, from its cost, the modules that go on beyond the rises of its counts, the cost of its counts as a
 -- plan, and the exact planner's cost.
 use Prim.Native.Nat.{ℕ, _+_, _-_, _*_, _≤_}
-use mathlib.Core.Path.{_≡_, sym, _∙_}
+use mathlib.Core.Path.{_≡_, sym, ap, _∙_}
 use mathlib.Core.List.{List}
 use native.Mathlib.Nat.{mul-le-mul, mul-comm, sub-le, le-trans}
 use native.Mathlib.Omega.{arith}
+use lib.ListN.{length}
 use mir.Syntax.{w64}
 use mir.Val.{Fits}
 use borrow.Author.Tests.{eqb-true}
@@ -27,6 +28,7 @@ use Rattle.theory.specs.Explanations.{spread-whole, counts-whole}
 use Rattle.card.specs.declared.Header.{Header}
 use Rattle.plans.specs.PlanRequires.{PlanReady}
 use Rattle.sheets.specs.SheetRequires.{SheetSized}
+use Rattle.planners.specs.PlannerRequires.{BuffersFor}
 use Rattle.explanation.specs.Exchanges.{exchanged}
 use Rattle.explanation.specs.ExplanationRequires.{CountsRoom, CountsKnown, Marked, PointsRoom}
 use Rattle.explanation.proofs.SheetRows.{exchanged-most}
@@ -43,8 +45,8 @@ module _ {s : List ℕ} {h : Header} {sheet : List ℕ} {cost : ℕ} (m : Marked
   counts-fit : PlanFits (instanceOf s) (countsOf (instanceOf s) sheet)
   counts-fit = sheet-counts-fit (instanceOf s) sheet (plannable .steps) (m .served)
 
-  pub counts-room : {counts work : List ℕ} → PointsRoom s h counts work → CountsRoom s h sheet counts
-  counts-room room = record { sized = sheet-sized; slotwise = room .plan-size }
+  pub counts-room : {counts work : List ℕ} → PointsRoom s counts work → CountsRoom s h sheet counts
+  counts-room room = record { sized = sheet-sized; slotwise = room .slotwise }
 
   price-most : h .powerUp + h .powerDown ≤ 1000000000
   price-most = omega (arith, accepted-bounds s (m .ready .accepted) .powerUp, accepted-bounds s (m .ready .accepted) .powerDown)
@@ -72,6 +74,15 @@ module _ {s : List ℕ} {h : Header} {sheet : List ℕ} {cost : ℕ} (m : Marked
           in-rack = counts-fit .in-rack;
           served = counts-fit .served;
         })
+
+    -- The exact planner's plan takes their place.
+    pub buffers-ready : {old work : List ℕ} → PointsRoom s old work → BuffersFor exact s h counts work
+    buffers-ready room =
+        record {
+          ready = m .ready;
+          plan-room = omega (arith, ap length are, counts-fit .slotwise);
+          work-room = room .work-room .work-room;
+        }
 
     module _ {x : ℕ} (x-is : x ≡ exchanged (instanceOf s) sheet) where
       pub swaps-fits : Fits w64 (x * (h .powerUp + h .powerDown))

@@ -10,7 +10,6 @@ use Rattle.model.specs.Planners.{exact, workBytes}
 use Rattle.card.specs.declared.Header.{Header}
 use Rattle.card.specs.Checking.{Ready}
 use Rattle.sheets.specs.SheetRequires.{SheetSized}
-use Rattle.planners.specs.PlannerRequires.{Buffers}
 
 -- An accepted card with its header, a sheet of m × T bytes, and room for one count for each slot.
 pub record CountsRoom (s : List ℕ) (h : Header) (sheet counts : List ℕ) : Type 0 where
@@ -28,14 +27,11 @@ pub record Marked (s : List ℕ) (h : Header) (sheet : List ℕ) (cost : ℕ) : 
   pub served : serves (instanceOf s) sheet ≡ true
   pub cost-is : cost ≡ sheetCost (instanceOf s) sheet
 
--- The exact planner's buffers, where the counts stand in the plan's.
-abbrev pub PointsRoom : (s : List ℕ) → Header → (counts work : List ℕ) → Type 0
-PointsRoom s = Buffers exact s
-
 -- The exact planner's work bytes.
 pub record WorkRoom (s work : List ℕ) : Type 0 where
   pub work-room : workBytes exact (instanceOf s) ≤ length work
 
--- Room for one count for each slot of the longest show.
-pub record CountsArray (counts : List ℕ) : Type 0 where
-  pub size : length counts ≡ 1024
+-- The same, and room for one count for each slot.
+pub record PointsRoom (s counts work : List ℕ) : Type 0 where
+  pub slotwise : length counts ≡ instanceOf s .slots
+  pub work-room : WorkRoom s work

@@ -9,15 +9,17 @@ use planners::PlannerKind;
 ghost use mathlib.Core.Path.{_≡_};
 ghost use Prim.Native.Nat.{_-_, _≤_};
 ghost use lib.ListN.{length, replicate};
+ghost use Rattle.lists.specs.Lists.{writtenOver};
 ghost use Rattle.model.specs.declared.Answer.the-variants.{Cost};
 ghost use Rattle.model.specs.Instance.{instanceOf};
 ghost use Rattle.model.specs.Sheets.{activeOf, countsOf};
+ghost use Rattle.model.specs.Planners.{exact, workBytes};
 ghost use Rattle.model.specs.Calls.{explainSheet};
 ghost use Rattle.model.specs.ExplainedPoints.{noPoints, pointsWith, pointsOf, explainedWork};
 ghost use Rattle.card.specs.Checking.{Ready};
 ghost use Rattle.sheets.specs.SheetRequires.{RowShort};
 ghost use Rattle.explanation.specs.Exchanges.{startOf, rowActive, rowStarts, exchanged};
-ghost use Rattle.explanation.specs.ExplanationRequires.{CountsRoom, CountsKnown, Marked, WorkRoom, PointsRoom, CountsArray};
+ghost use Rattle.explanation.specs.ExplanationRequires.{CountsRoom, CountsKnown, Marked, WorkRoom, PointsRoom};
 
 // 1 for the byte of an active module, 0 for off.
 fn active_of(b: u8) -> u8
@@ -124,9 +126,9 @@ fn points_over(
     work: &mut [u8],
 ) -> Points
     requires { ⌜ Marked (now card) h (now sheet) cost ⌝ }
-    requires { ⌜ PointsRoom (now card) h (now counts) (now work) ⌝ }
+    requires { ⌜ PointsRoom (now card) (now counts) (now work) ⌝ }
     ensures { λ r. ⌜ r ≡ pointsWith (Cost 0) (instanceOf (now (card .entry))) (now (sheet .entry)) ⌝ }
-    ensures { λ _. ⌜ now (work .exit) ≡ replicate (length (now (work .entry))) 0 ⌝ }
+    ensures { λ _. ⌜ now (work .exit) ≡ writtenOver (replicate (workBytes exact (instanceOf (now (card .entry)))) 0) (now (work .entry)) ⌝ }
 {
     write_counts(card, h, sheet, counts);
     let exchanged = exchanged_modules(card, h, sheet, &counts[..]);
@@ -141,34 +143,16 @@ fn points_over(
     }
 }
 
-// The three numbers of a sheet that serves, with room for the counts of the longest show.
-fn points_with_counts(
-    card: &[u8],
-    h: Header,
-    sheet: &[u8],
-    cost: u64,
-    counts: &mut [u8],
-    work: &mut [u8],
-) -> Points
-    requires { ⌜ Marked (now card) h (now sheet) cost ⌝ }
-    requires { ⌜ WorkRoom (now card) (now work) ⌝ }
-    requires { ⌜ CountsArray (now counts) ⌝ }
-    ensures { λ r. ⌜ r ≡ pointsWith (Cost 0) (instanceOf (now (card .entry))) (now (sheet .entry)) ⌝ }
-    ensures { λ _. ⌜ now (work .exit) ≡ replicate (length (now (work .entry))) 0 ⌝ }
-{
-    let slots = h.slots as usize;
-    points_over(card, h, sheet, cost, &mut counts[..slots], work)
-}
-
 // The three numbers of a sheet that serves, with its cost.
 fn points_of(card: &[u8], h: Header, sheet: &[u8], cost: u64, work: &mut [u8]) -> Points
     requires { ⌜ Marked (now card) h (now sheet) cost ⌝ }
     requires { ⌜ WorkRoom (now card) (now work) ⌝ }
     ensures { λ r. ⌜ r ≡ pointsWith (Cost 0) (instanceOf (now (card .entry))) (now (sheet .entry)) ⌝ }
-    ensures { λ _. ⌜ now (work .exit) ≡ replicate (length (now (work .entry))) 0 ⌝ }
+    ensures { λ _. ⌜ now (work .exit) ≡ writtenOver (replicate (workBytes exact (instanceOf (now (card .entry)))) 0) (now (work .entry)) ⌝ }
 {
     let mut counts = [0u8; 1024];
-    points_with_counts(card, h, sheet, cost, &mut counts, work)
+    let slots = h.slots as usize;
+    points_over(card, h, sheet, cost, &mut counts[..slots], work)
 }
 
 // A refusal's number and no points.
@@ -194,7 +178,7 @@ fn explain_on(card: &[u8], h: Header, sheet: &[u8], work: &mut [u8]) -> Points
         return refused(Refusal::BufferTooShort);
     }
     match calls::mark_sheet_on(card, h, sheet) {
-        Answer::Cost(cost) => points_of(card, h, sheet, cost, &mut work[..asked]),
+        Answer::Cost(cost) => points_of(card, h, sheet, cost, work),
         Answer::Refused(x) => refused(x),
     }
 }

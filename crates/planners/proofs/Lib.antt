@@ -1,3 +1,3 @@
 pub mod Fronts
-pub mod Planned
+pub mod Searched
 pub mod Planning

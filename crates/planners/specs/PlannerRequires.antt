@@ -1,12 +1,12 @@
 -- The planner of a kind, and what the planners ask for.
 use Prim.Native.Nat.{ℕ, _≤_}
-use mathlib.Core.Path.{_≡_}
-use mathlib.Core.Bool.{Bool, not, _&&_}
+use mathlib.Core.Bool.{Bool, _||_}
 use mathlib.Core.List.{List}
 use lib.ListN.{length}
 use lib.Dec.{ltb}
 use Rattle.model.specs.Instance.{Instance, instanceOf}
 use Rattle.model.specs.Planners.{Planner, exact, coarse, workBytes}
+use Rattle.thresholds.specs.Places.{Ascending}
 use Rattle.card.specs.declared.Header.{Header}
 use Rattle.card.specs.Checking.{Ready}
 use Rattle.planners.specs.declared.PlannerKind.{PlannerKind}
@@ -23,20 +23,26 @@ pub record CountsRoom (counts : List ℕ) (m : ℕ) : Type 0 where
   pub most : m ≤ 200
   pub room : 201 ≤ length counts
 
--- An accepted card with its header, a plan of T bytes, and the work bytes that a planner asks for.
-pub record Buffers (k : Planner) (s : List ℕ) (h : Header) (plan work : List ℕ) : Type 0 where
+-- An accepted card with its header, a plan buffer with a byte for each slot, and a work buffer with the bytes asked for.
+pub record Buffers (s : List ℕ) (h : Header) (asked : ℕ) (plan work : List ℕ) : Type 0 where
   pub ready : Ready s h
-  pub plan-size : length plan ≡ instanceOf s .slots
-  pub work-room : workBytes k (instanceOf s) ≤ length work
+  pub plan-room : instanceOf s .slots ≤ length plan
+  pub work-room : asked ≤ length work
 
--- Room for a number for each count of the largest rack.
-pub record NumberRoom (numbers : List ℕ) : Type 0 where
-  pub room : length numbers ≡ 201
+-- The same, with the work bytes that a planner asks for.
+abbrev pub BuffersFor : Planner → (s : List ℕ) → Header → (plan work : List ℕ) → Type 0
+BuffersFor k s h = Buffers s h (workBytes k (instanceOf s))
 
--- Areas of these lengths have a byte for each slot and so many work bytes.
-unfoldable pub hasRoom : (asked : ℕ) → Instance → (plan work : ℕ) → Bool
-hasRoom n i p w = not (ltb p (i .slots)) && not (ltb w n)
+-- The same, with a list of allowed counts, and at least a work byte for each slot asked for.
+pub record CountsReady (s : List ℕ) (h : Header) (counts : List ℕ) (asked : ℕ) (plan work : List ℕ) : Type 0 where
+  pub buffers : Buffers s h asked plan work
+  pub allowed : Ascending counts (instanceOf s .modules)
+  pub enough : instanceOf s .slots ≤ asked
 
--- Areas of these lengths have the bytes that a planner asks for.
-abbrev pub roomFor : Planner → Instance → (plan work : ℕ) → Bool
-roomFor k i = hasRoom (workBytes k i) i
+-- One of two buffers of these lengths is too short: the plan's for a byte for each slot, or the work's for the bytes asked for.
+unfoldable pub eitherShort : (asked : ℕ) → Instance → (plan work : ℕ) → Bool
+eitherShort n i p w = ltb p (i .slots) || ltb w n
+
+-- The same, with the work bytes that a planner asks for.
+abbrev pub shortFor : Planner → Instance → (plan work : ℕ) → Bool
+shortFor k i = eitherShort (workBytes k i) i

@@ -1,5 +1,5 @@
-// The exact and the coarse planner: one search, over the counts that are allowed the planner, and their call, which answers every input. The search
-// over a list of counts (`least_over`) and the test on the areas (`has_room`) serve the planner over a list too.
+// The exact and the coarse planner: one search, over the counts that are allowed the planner, and their call, which answers every input. The plan
+// over a list of counts (`plan_over`) and the test on the buffers (`either_short`) serve the planner over a list too.
 use card::Checked;
 use card::Header;
 use model::Answer;
@@ -12,8 +12,7 @@ ghost use Rattle.model.specs.Plans.{leastPlan, leastCost};
 ghost use Rattle.model.specs.Planners.{allowedCounts, workBytes, plannedBy, plannedCost};
 ghost use Rattle.model.specs.Calls.{planShow, answer, planAtExit, workAtExit};
 ghost use Rattle.card.specs.Checking.{Ready};
-ghost use Rattle.search.specs.SearchRequires.{Searchable};
-ghost use Rattle.planners.specs.PlannerRequires.{plannerOf, CountsRoom, NumberRoom, Buffers, hasRoom, roomFor};
+ghost use Rattle.planners.specs.PlannerRequires.{plannerOf, CountsRoom, BuffersFor, CountsReady, eitherShort, shortFor};
 
 // The two planners of document 01.
 pub enum PlannerKind {
@@ -22,7 +21,7 @@ pub enum PlannerKind {
 }
 
 // A planner's allowed counts for a rack of m. Returns how many they are.
-pub fn fill_counts(kind: PlannerKind, counts: &mut [u64], m: u64) -> usize
+fn fill_counts(kind: PlannerKind, counts: &mut [u64], m: u64) -> usize
     requires { ⌜ CountsRoom (now counts) m ⌝ }
     ensures { λ r. ⌜ r ≡ length (allowedCounts (plannerOf kind) m) ⌝ }
     ensures { λ r. ⌜ now (counts .exit) ≡ writtenOver (allowedCounts (plannerOf kind) m) (now (counts .entry)) ⌝ }
@@ -33,45 +32,23 @@ pub fn fill_counts(kind: PlannerKind, counts: &mut [u64], m: u64) -> usize
     }
 }
 
-// The least plan over a list of allowed counts and its cost: the search writes the plan, and the cost is that of its counts.
-pub fn least_over(card: &[u8], h: Header, counts: &[u64], plan: &mut [u8], work: &mut [u8]) -> u64
-    requires { ⌜ Searchable (now card) h (now counts) (now plan) (now work) ⌝ }
-    ensures { λ r. ⌜ r ≡ leastCost (instanceOf (now (card .entry))) (now (counts .entry)) ⌝ }
-    ensures { λ _. ⌜ now (plan .exit) ≡ leastPlan (instanceOf (now (card .entry))) (now (counts .entry)) ⌝ }
-    ensures { λ _. ⌜ now (work .exit) ≡ replicate (length (now (work .entry))) 0 ⌝ }
-{
-    search::search(card, h, counts, plan, work);
-    plans::plan_cost(card, h, plan)
-}
-
-// A planner's plan and its cost, with room for the planner's counts.
-fn plan_with_counts(
-    kind: PlannerKind,
+// The least plan over a list of allowed counts, at the front of the plan buffer, and its cost; the work bytes asked for are cleared.
+pub fn plan_over(
     card: &[u8],
     h: Header,
-    counts: &mut [u64],
+    counts: &[u64],
+    asked: usize,
     plan: &mut [u8],
     work: &mut [u8],
 ) -> u64
-    requires { ⌜ Buffers (plannerOf kind) (now card) h (now plan) (now work) ⌝ }
-    requires { ⌜ NumberRoom (now counts) ⌝ }
-    ensures { λ r. ⌜ r ≡ plannedCost (plannerOf kind) (instanceOf (now (card .entry))) ⌝ }
-    ensures { λ _. ⌜ now (plan .exit) ≡ plannedBy (plannerOf kind) (instanceOf (now (card .entry))) ⌝ }
-    ensures { λ _. ⌜ now (work .exit) ≡ replicate (length (now (work .entry))) 0 ⌝ }
+    requires { ⌜ CountsReady (now card) h (now counts) asked (now plan) (now work) ⌝ }
+    ensures { λ r. ⌜ r ≡ leastCost (instanceOf (now (card .entry))) (now (counts .entry)) ⌝ }
+    ensures { λ _. ⌜ now (plan .exit) ≡ writtenOver (leastPlan (instanceOf (now (card .entry))) (now (counts .entry))) (now (plan .entry)) ⌝ }
+    ensures { λ _. ⌜ now (work .exit) ≡ writtenOver (replicate asked 0) (now (work .entry)) ⌝ }
 {
-    let width = fill_counts(kind, counts, h.modules);
-    least_over(card, h, &counts[..width], plan, work)
-}
-
-// A planner's plan, of least cost over the counts that are allowed it, and its cost.
-pub fn plan_by(kind: PlannerKind, card: &[u8], h: Header, plan: &mut [u8], work: &mut [u8]) -> u64
-    requires { ⌜ Buffers (plannerOf kind) (now card) h (now plan) (now work) ⌝ }
-    ensures { λ r. ⌜ r ≡ plannedCost (plannerOf kind) (instanceOf (now (card .entry))) ⌝ }
-    ensures { λ _. ⌜ now (plan .exit) ≡ plannedBy (plannerOf kind) (instanceOf (now (card .entry))) ⌝ }
-    ensures { λ _. ⌜ now (work .exit) ≡ replicate (length (now (work .entry))) 0 ⌝ }
-{
-    let mut counts = [0u64; 201];
-    plan_with_counts(kind, card, h, &mut counts, plan, work)
+    let slots = h.slots as usize;
+    search::search(card, h, counts, &mut plan[..slots], &mut work[..asked]);
+    plans::plan_cost(card, h, &plan[..slots])
 }
 
 // The work bytes that a planner asks for.
@@ -85,28 +62,39 @@ pub fn work_bytes(kind: PlannerKind, card: &[u8], h: Header) -> usize
     }
 }
 
-// Whether areas of these lengths have a byte for each slot and the work bytes asked for.
-pub fn has_room(card: &[u8], h: Header, asked: usize, plan: usize, work: usize) -> bool
+// A planner's plan, of least cost over the counts that are allowed it, at the front of the plan buffer, and its cost; the work bytes that the
+// planner asks for are cleared.
+pub fn plan_by(kind: PlannerKind, card: &[u8], h: Header, plan: &mut [u8], work: &mut [u8]) -> u64
+    requires { ⌜ BuffersFor (plannerOf kind) (now card) h (now plan) (now work) ⌝ }
+    ensures { λ r. ⌜ r ≡ plannedCost (plannerOf kind) (instanceOf (now (card .entry))) ⌝ }
+    ensures { λ _. ⌜ now (plan .exit) ≡ writtenOver (plannedBy (plannerOf kind) (instanceOf (now (card .entry)))) (now (plan .entry)) ⌝ }
+    ensures { λ _. ⌜ now (work .exit) ≡ writtenOver (replicate (workBytes (plannerOf kind) (instanceOf (now (card .entry)))) 0) (now (work .entry)) ⌝ }
+{
+    let mut counts = [0u64; 201];
+    let width = fill_counts(kind, &mut counts, h.modules);
+    let asked = work_bytes(kind, card, h);
+    plan_over(card, h, &counts[..width], asked, plan, work)
+}
+
+// Whether one of two buffers of these lengths is too short for a byte for each slot and the work bytes asked for.
+pub fn either_short(card: &[u8], h: Header, asked: usize, plan: usize, work: usize) -> bool
     requires { ⌜ Ready (now card) h ⌝ }
-    ensures { λ r. ⌜ r ≡ hasRoom asked (instanceOf (now (card .entry))) plan work ⌝ }
+    ensures { λ r. ⌜ r ≡ eitherShort asked (instanceOf (now (card .entry))) plan work ⌝ }
 {
     let slots = h.slots as usize;
     if plan < slots {
-        return false;
+        return true;
     }
-    if work < asked {
-        return false;
-    }
-    true
+    work < asked
 }
 
-// Whether areas of these lengths have the bytes that a planner asks for.
-pub fn room_for(kind: PlannerKind, card: &[u8], h: Header, plan: usize, work: usize) -> bool
+// Whether one of two buffers of these lengths is too short for a planner.
+pub fn short_for(kind: PlannerKind, card: &[u8], h: Header, plan: usize, work: usize) -> bool
     requires { ⌜ Ready (now card) h ⌝ }
-    ensures { λ r. ⌜ r ≡ roomFor (plannerOf kind) (instanceOf (now (card .entry))) plan work ⌝ }
+    ensures { λ r. ⌜ r ≡ shortFor (plannerOf kind) (instanceOf (now (card .entry))) plan work ⌝ }
 {
     let asked = work_bytes(kind, card, h);
-    has_room(card, h, asked, plan, work)
+    either_short(card, h, asked, plan, work)
 }
 
 // A planner on an accepted card.
@@ -122,12 +110,10 @@ pub fn plan_show_on(
     ensures { λ r. ⌜ now (plan .exit) ≡ planAtExit (planShow (plannerOf kind) (now (card .entry)) (now (plan .entry)) (now (work .entry))) ⌝ }
     ensures { λ r. ⌜ now (work .exit) ≡ workAtExit (planShow (plannerOf kind) (now (card .entry)) (now (plan .entry)) (now (work .entry))) ⌝ }
 {
-    if !room_for(kind, card, h, plan.len(), work.len()) {
+    if short_for(kind, card, h, plan.len(), work.len()) {
         return Answer::Refused(Refusal::BufferTooShort);
     }
-    let slots = h.slots as usize;
-    let asked = work_bytes(kind, card, h);
-    Answer::Cost(plan_by(kind, card, h, &mut plan[..slots], &mut work[..asked]))
+    Answer::Cost(plan_by(kind, card, h, plan, work))
 }
 
 // A planner: refusals 1 to 8 and 10.

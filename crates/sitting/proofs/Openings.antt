@@ -1,7 +1,7 @@
 -- Opening: its answer, by its tests, its buffers at exit, and its reply.
 use Prim.Native.Nat.{ℕ}
 use mathlib.Core.Path.{_≡_, refl, sym, ap, _∙_}
-use mathlib.Core.Bool.{true, false, not}
+use mathlib.Core.Bool.{Bool, true, false}
 use mathlib.Core.List.{List, []}
 use lib.ListN.{length}
 use borrow.Author.Tests.{eq-eqb, ne-eqb}
@@ -16,16 +16,15 @@ use Rattle.model.specs.Planners.{exact, plannedCost}
 use Rattle.model.specs.Acts.{openSitting, allowanceInRange, actSpec}
 use Rattle.model.specs.SittingState.{factsOf, stateOf, sittingAfter}
 use Rattle.model.specs.Specs.{firstOf, atExit}
-use Rattle.model.specs.Calls.{Call, planShow, actIn, specOf, answer, Accepted, buffersAtExit, planAtExit, workAtExit}
+use Rattle.model.specs.Calls.{Call, actIn, specOf, answer, Accepted, buffersAtExit, planAtExit, workAtExit}
 use Rattle.model.specs.Sittings.{answerTo, markedWith, eventWith, eventOf, told, toldBy, replyWith, replyOf}
 use Rattle.laws.specs.OnCard.{on-card-refused, on-card-passed}
-use Rattle.theory.specs.Outcomes.{planner-cost}
 use Rattle.card.specs.declared.Checked.{Checked}
 use Rattle.card.specs.declared.Checked.the-variants.{Invalid}
 use Rattle.card.specs.Checking.{checkedOf}
 use Rattle.card.proofs.Groups.{refused-answer}
-use Rattle.planners.specs.PlannerRequires.{roomFor}
-use Rattle.planners.proofs.Planning.{Planned, room-short}
+use Rattle.planners.specs.PlannerRequires.{shortFor}
+use Rattle.planners.proofs.Planning.{PlanWritten, short-is}
 use Rattle.sitting.specs.declared.OpenOutcome.{OpenOutcome}
 use Rattle.sitting.specs.Seen.{replyGiving, recordsEmptied, openingOf}
 
@@ -49,37 +48,35 @@ module _ (z : Sitting) (d l : ℕ) (s p w : List ℕ) where
   opening-on is e = opening-kept (on-card-refused s _ _ (refused-answer s is e))
 
   module _ (given : Accepted s) where
-    -- A buffer is too short.
-    pub opening-short :
-        roomFor exact (instanceOf s) (length p) (length w) ≡ false → Opened (opens z d l s p w) (Refused BufferTooShort) p w
-    unfolding answer specOf actSpec firstOf
-    opening-short less = opening-kept (on-card-passed s _ _ given ∙ rw (room-short exact s p w, less))
-
-    module _ (room : roomFor exact (instanceOf s) (length p) (length w) ≡ true) where
-      -- The caller is not the supervisor.
-      pub opening-barred : (d ≡ 0 → ⊥) → Opened (opens z d l s p w) (Refused NotPermitted) p w
+    module _ {short : Bool} (is : short ≡ shortFor exact (instanceOf s) (length p) (length w)) where
+      -- A buffer is too short.
+      pub opening-short : short ≡ true → Opened (opens z d l s p w) (Refused BufferTooShort) p w
       unfolding answer specOf actSpec firstOf
-      opening-barred by = opening-kept (on-card-passed s _ _ given ∙ rw (room-short exact s p w, room, ne-eqb d 0 by))
+      opening-short e = opening-kept (on-card-passed s _ _ given ∙ rw (short-is exact s p w, ← is, e))
 
-      module _ (by : d ≡ 0) where
-        -- The allowance is out of range.
-        pub opening-spent : allowanceInRange l ≡ false → Opened (opens z d l s p w) (Refused AllowanceSpent) p w
+      module _ (none : short ≡ false) where
+        -- The caller is not the supervisor.
+        pub opening-barred : (d ≡ 0 → ⊥) → Opened (opens z d l s p w) (Refused NotPermitted) p w
         unfolding answer specOf actSpec firstOf
-        opening-spent range = opening-kept (on-card-passed s _ _ given ∙ rw (room-short exact s p w, room, eq-eqb d 0 by, range))
+        opening-barred by = opening-kept (on-card-passed s _ _ given ∙ rw (short-is exact s p w, ← is, none, ne-eqb d 0 by))
 
-        -- Where none of them applies, an opening answers the least cost, and leaves what the exact planner does.
-        opening-cost : allowanceInRange l ≡ true → answer (opens z d l s p w) ≡ Cost (plannedCost exact (instanceOf s))
-        unfolding answer specOf actSpec firstOf
-        opening-cost range = on-card-passed s _ _ given ∙ rw (room-short exact s p w, room, eq-eqb d 0 by, range)
+        module _ (by : d ≡ 0) where
+          -- The allowance is out of range.
+          pub opening-spent : allowanceInRange l ≡ false → Opened (opens z d l s p w) (Refused AllowanceSpent) p w
+          unfolding answer specOf actSpec firstOf
+          opening-spent range = opening-kept (on-card-passed s _ _ given ∙ rw (short-is exact s p w, ← is, none, eq-eqb d 0 by, range))
 
-        pub opening-planned :
-            allowanceInRange l ≡ true → {a : Answer} {plan work : List ℕ} →
-            Planned exact s p w a plan work → Opened (opens z d l s p w) a plan work
-        unfolding planAtExit workAtExit buffersAtExit specOf actSpec
-        opening-planned range (a-is, (plan-is, work-is)) =
-            let same : answer (opens z d l s p w) ≡ answer (planShow exact s p w) =
-            opening-cost range ∙ sym (planner-cost exact s p w given refl (room-short exact s p w ∙ ap not room)) in
-            (a-is ∙ sym same, (plan-is ∙ rw same, work-is ∙ rw same))
+          -- Where none of them applies, an opening answers the least cost, and leaves what the exact planner does.
+          opening-cost : allowanceInRange l ≡ true → answer (opens z d l s p w) ≡ Cost (plannedCost exact (instanceOf s))
+          unfolding answer specOf actSpec firstOf
+          opening-cost range = on-card-passed s _ _ given ∙ rw (short-is exact s p w, ← is, none, eq-eqb d 0 by, range)
+
+          pub opening-planned :
+              allowanceInRange l ≡ true → {cost : ℕ} {plan work : List ℕ} →
+              PlanWritten exact (instanceOf s) p w cost plan work → Opened (opens z d l s p w) (Cost cost) plan work
+          unfolding planAtExit workAtExit buffersAtExit specOf actSpec atExit
+          opening-planned range (cost-is, (plan-is, work-is)) =
+              let e = opening-cost range in (ap Cost cost-is ∙ sym e, (plan-is ∙ rw e, work-is ∙ rw e))
 
   -- The answer of the call is that of the facts.
   same-answer : answer (opens z d l s p w) ≡ answerTo (factsOf (stateOf z [])) (openSitting d l s p w)

@@ -380,7 +380,7 @@ fn answer_opening_on(
     ensures { λ r. ⌜ now (plan .exit) ≡ planAtExit (actIn sitting [] (openSitting caller allowance (now (card .entry)) (now (plan .entry)) (now (work .entry)))) ⌝ }
     ensures { λ r. ⌜ now (work .exit) ≡ workAtExit (actIn sitting [] (openSitting caller allowance (now (card .entry)) (now (plan .entry)) (now (work .entry)))) ⌝ }
 {
-    if !planners::room_for(PlannerKind::Exact, card, h, plan.len(), work.len()) {
+    if planners::short_for(PlannerKind::Exact, card, h, plan.len(), work.len()) {
         return Answer::Refused(Refusal::BufferTooShort);
     }
     if caller != 0 {
@@ -389,7 +389,7 @@ fn answer_opening_on(
     if !allowance_in_range(allowance) {
         return Answer::Refused(Refusal::AllowanceSpent);
     }
-    planners::plan_show_on(PlannerKind::Exact, card, h, plan, work)
+    Answer::Cost(planners::plan_by(PlannerKind::Exact, card, h, plan, work))
 }
 
 // The answer to an opening: refusals 1 to 8, and then those on an accepted card.

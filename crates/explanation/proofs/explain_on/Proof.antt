@@ -1,4 +1,4 @@
-use Rattle.explanation.proofs.Explaining.{refused-short, refused-sheet, work-counted, sheet-marked, work-lent, explained}
+use Rattle.explanation.proofs.Explaining.{refused-short, refused-sheet, sheet-marked, work-lent, explained}
 use borrow.Author.Needs.{needs}
 use Rattle.explanation.proofs.explain_on.Statement.{statement}
 use Rattle.explanation.proofs.explain_on.Tie as tie
@@ -8,9 +8,6 @@ returns c =
     let asked = c .before .before in
     let start = asked .before .before .before .before in
     refused-short _ _ (start .args .work .now) (start .pre) (asked .work-bytes .ensures) (c .before .if1 .taken) (c .refused .ensures)
-
-slice-aggregate-points-of : tie.Need-slice-aggregate-points-of
-slice-aggregate-points-of c = search work-counted
 
 points-of-requires : tie.Need-points-of-requires
 points-of-requires c κs = (search sheet-marked, search work-lent)
@@ -34,5 +31,4 @@ returns-3 c =
 
 pub explain-on-spec : {M : Type 1} → statement M
 explain-on-spec =
-    tie.close (tie.spec (λ c κs. search needs) (λ c κs. search needs) returns (λ c κs. search needs) (λ c. search needs) (λ c. search needs)
-    slice-aggregate-points-of points-of-requires (λ c. search needs) (λ c κs. search needs) (λ c. search needs) returns-2 returns-3)
+    tie.close (tie.spec (λ c κs. search needs) (λ c κs. search needs) returns (λ c κs. search needs) (λ c. search needs) points-of-requires (λ c. search needs) (λ c κs. search needs) (λ c. search needs) returns-2 returns-3)

@@ -1,5 +1,5 @@
 use Rattle.explanation.proofs.ThreeNumbers.{counts-room, counts-known, price-fits, swaps-fits, plan-ready, planned-below, swaps-below}
-use Rattle.explanation.proofs.ThreeNumbers.{least-below, three-numbers}
+use Rattle.explanation.proofs.ThreeNumbers.{buffers-ready, least-below, three-numbers}
 use borrow.Author.Needs.{needs}
 use Rattle.explanation.proofs.points_over.Statement.{statement}
 use Rattle.explanation.proofs.points_over.Tie as tie
@@ -20,7 +20,7 @@ plan-cost-requires : tie.Need-plan-cost-requires
 plan-cost-requires c κs = search plan-ready
 
 plan-by-requires : tie.Need-plan-by-requires
-plan-by-requires c κs = search needs
+plan-by-requires c κs = search buffers-ready
 
 sub-t16 : tie.Need-sub-t16
 sub-t16 c = search planned-below

@@ -1,0 +1,34 @@
+use mathlib.Core.Path.{sym}
+use lib.Seq.{length-take-le}
+use Rattle.planners.proofs.Searched.{plan-long, work-long, searchable, made-within, made-length, made-ready, least-written}
+use borrow.Author.Needs.{needs}
+use Rattle.planners.proofs.plan_over.Statement.{statement}
+use Rattle.planners.proofs.plan_over.Tie as tie
+
+slice-aggregate-search : tie.Need-slice-aggregate-search
+slice-aggregate-search c = sym (length-take-le _ _ (search plan-long))
+
+slice-aggregate-search-2 : tie.Need-slice-aggregate-search-2
+slice-aggregate-search-2 c = sym (length-take-le _ _ (search work-long))
+
+search-requires : tie.Need-search-requires
+search-requires c κs = search searchable
+
+slice-reshare-prefix-plan-cost : tie.Need-slice-reshare-prefix-plan-cost
+slice-reshare-prefix-plan-cost c = search made-within
+
+slice-aggregate-plan-cost : tie.Need-slice-aggregate-plan-cost
+slice-aggregate-plan-cost c = search made-length
+
+plan-cost-requires : tie.Need-plan-cost-requires
+plan-cost-requires c κs = search made-ready
+
+returns : tie.Need-returns
+returns c =
+    let found = c .before .before .before .before .before .before in
+    least-written (found .before .before .before .before .before .before .before .pre) (found .search .ensures .0) (c .plan-cost .ensures) (found .search .ensures .1)
+
+pub plan-over-spec : {M : Type 1} → statement M
+plan-over-spec =
+    tie.close (tie.spec (λ c. search plan-long) slice-aggregate-search (λ c. search work-long) slice-aggregate-search-2 search-requires
+    slice-reshare-prefix-plan-cost slice-aggregate-plan-cost plan-cost-requires (λ c. search needs) (λ c. search needs) returns)
