@@ -10,9 +10,9 @@ ghost use Rattle.lists.specs.Writing.{Room, Written};
 ghost use Rattle.model.specs.Instance.{cardBytes};
 ghost use Rattle.model.specs.Practice.{draw, drawn, practiceEntry, practiceShow};
 ghost use Rattle.model.specs.Calls.{answer, practiceCard, cardAtExit};
-ghost use Rattle.practice.specs.Drawing.{OfStart, SmallDifference, nextDifference};
+ghost use Rattle.practice.specs.Drawing.{OfStart};
 
-// What the first six draws of a start give, with the start and the state of the generator after them.
+// What the first six draws of a start give, with the start and the state of the generator after draw 7, that of the first difference.
 struct FirstDraws {
     start: u32,
     fields: Fields,
@@ -29,7 +29,7 @@ fn xorshift(s: u32) -> u32
     b ^ (b << 5)
 }
 
-// The first six draws.
+// The first seven draws.
 fn draw_first(start: u32) -> FirstDraws
     ensures { λ r. ⌜ OfStart r ⌝ }
     ensures { λ r. ⌜ r .start ≡ start ⌝ }
@@ -51,57 +51,46 @@ fn draw_first(start: u32) -> FirstDraws
         start,
         fields,
         firstEntry: entry % 1001,
-        state: entry,
+        state: xorshift(entry),
     }
 }
 
-// The difference after the one given, from the state that is drawn for it: the first one, where k is 0, is the draw mod 11, and each next one
-// is larger by the draw mod 4.
-fn next_difference(k: u32, difference: u32, state: u32) -> u32
-    requires { ⌜ SmallDifference difference ⌝ }
-    ensures { λ r. ⌜ r ≡ nextDifference k difference state ⌝ }
-{
-    if k == 0 {
-        return state % 11;
-    }
-    difference + state % 4
-}
-
-// Draws the table into a list. Returns the state of the generator after it.
+// Draws the table into a list: F(0), and then each next entry larger by a difference. Returns the draw after the last difference, the first for
+// a load.
 fn draw_table(first: FirstDraws, table: &mut [u32]) -> u32
     requires { ⌜ OfStart first ⌝ }
     requires { ⌜ length (now table) ≡ 201 ⌝ }
     ensures { λ _. ⌜ Upto (practiceEntry (first .start)) (first .fields .topStep + 1) (now (table .entry)) (now (table .exit)) ⌝ }
-    ensures { λ r. ⌜ r ≡ drawn (first .start) (6 + first .fields .topStep) ⌝ }
+    ensures { λ r. ⌜ r ≡ drawn (first .start) (7 + first .fields .topStep) ⌝ }
 {
     let mut state = first.state;
-    let mut difference = 0;
+    let mut difference = state % 11;
     let mut entry = first.firstEntry;
     let mut k = 0;
     while k < first.fields.topStep {
         table[k as usize] = entry;
-        state = xorshift(state);
-        difference = next_difference(k, difference, state);
         entry += difference;
+        state = xorshift(state);
+        difference += state % 4;
         k += 1;
     }
     table[k as usize] = entry;
     state
 }
 
-// Draws the loads into a list, from the state after the table.
-fn draw_loads(first: FirstDraws, after: u32, loads: &mut [u32])
+// Draws the loads into a list, from the first draw for a load on.
+fn draw_loads(first: FirstDraws, drew: u32, loads: &mut [u32])
     requires { ⌜ OfStart first ⌝ }
     requires { ⌜ length (now loads) ≡ 64 ⌝ }
-    requires { ⌜ after ≡ drawn (first .start) (6 + first .fields .topStep) ⌝ }
+    requires { ⌜ drew ≡ drawn (first .start) (7 + first .fields .topStep) ⌝ }
     ensures { λ _. ⌜ Upto (practiceShow (first .start) .load) (first .fields .slots) (now (loads .entry)) (now (loads .exit)) ⌝ }
 {
     let bound = first.fields.modules * first.fields.topStep + 1;
-    let mut state = after;
+    let mut state = drew;
     let mut t = 0;
     while t < first.fields.slots {
-        state = xorshift(state);
         loads[t as usize] = state % bound;
+        state = xorshift(state);
         t += 1;
     }
 }
@@ -114,8 +103,8 @@ fn put_drawn(card: &mut [u8], first: FirstDraws, table: &mut [u32], loads: &mut 
     requires { ⌜ length (now loads) ≡ 64 ⌝ }
     ensures { λ r. ⌜ Written (cardBytes (practiceShow (first .start))) 0 (now (card .entry)) (now (card .exit)) r ⌝ }
 {
-    let after = draw_table(first, table);
-    draw_loads(first, after, loads);
+    let drew = draw_table(first, table);
+    draw_loads(first, drew, loads);
     encoder::put_card(card, first.fields, table, loads)
 }
 

@@ -6,10 +6,10 @@ use Rattle.practice.proofs.draw_loads.Statement.{statement}
 use Rattle.practice.proofs.draw_loads.Tie as tie
 
 abbrev Inv-loop : tie.InvT-loop
-Inv-loop first after loads₀ bound state₀ t₀ loads state t = LoadsSoFar first bound loads₀ t loads state
+Inv-loop first drew loads₀ bound state₀ t₀ loads state t = LoadsSoFar first bound loads₀ t loads state
 
 abbrev μ-loop : tie.MeasureT-loop
-μ-loop first after loads₀ bound state₀ t₀ loads state t = first .fields .slots - t
+μ-loop first drew loads₀ bound state₀ t₀ loads state t = first .fields .slots - t
 
 mul-bound : tie.Need-mul-bound Inv-loop μ-loop
 mul-bound c = omega (arith, full-range (c .before .before .pre .0))
@@ -21,7 +21,7 @@ loop-holds : tie.Need-loop-holds Inv-loop μ-loop
 loop-holds c = search loads-start
 
 rem-loads : tie.Need-rem-loads Inv-loop μ-loop
-rem-loads c = omega (arith, c .before .before .before .loop .inv .bound-is)
+rem-loads c = omega (arith, c .before .before .loop .inv .bound-is)
 
 slice-write-loads : tie.Need-slice-write-loads Inv-loop μ-loop
 slice-write-loads c = search load-place
@@ -38,5 +38,5 @@ returns c = search loads-end
 pub draw-loads-spec : {M : Type 1} → statement M
 draw-loads-spec =
     tie.close
-    (tie.spec Inv-loop μ-loop mul-bound add-bound loop-holds (λ c κs. search needs) rem-loads (λ c. search needs) (λ c. search needs)
-    slice-write-loads (λ c. omega arith) (λ c. omega arith) loop-again same-length returns)
+    (tie.spec Inv-loop μ-loop mul-bound add-bound loop-holds rem-loads (λ c. search needs) (λ c. search needs) slice-write-loads
+    (λ c κs. search needs) (λ c. omega arith) (λ c. omega arith) loop-again same-length returns)

@@ -1,7 +1,7 @@
 use Prim.Native.Nat.{_-_}
 use native.Mathlib.Omega.{arith}
 use borrow.Author.Needs.{needs}
-use Rattle.practice.proofs.TableLoop.{TableSoFar, entry-place, difference-small, stored, next-fits, table-starts, table-turns, table-ends}
+use Rattle.practice.proofs.TableLoop.{TableSoFar, entry-place, stored, difference-small, entry-small, table-starts, table-turns, table-ends}
 use Rattle.practice.proofs.draw_table.Statement.{statement}
 use Rattle.practice.proofs.draw_table.Tie as tie
 
@@ -17,11 +17,11 @@ loop-holds c = search table-starts
 slice-write-table : tie.Need-slice-write-table Inv-loop μ-loop
 slice-write-table c = search entry-place
 
-next-difference-requires : tie.Need-next-difference-requires Inv-loop μ-loop
-next-difference-requires c κs = search difference-small
-
 add-entry : tie.Need-add-entry Inv-loop μ-loop
-add-entry c = search next-fits
+add-entry c = let so = c .before .before .loop .inv in omega (arith, entry-small so, difference-small so)
+
+add-difference : tie.Need-add-difference Inv-loop μ-loop
+add-difference c = omega (arith, difference-small (c .before .before .before .loop .inv))
 
 loop-again : tie.Need-loop-again Inv-loop μ-loop
 loop-again c = search table-turns
@@ -38,6 +38,6 @@ returns c = table-ends (c .before .before .loop .inv) (omega arith)
 pub draw-table-spec : {M : Type 1} → statement M
 draw-table-spec =
     tie.close
-    (tie.spec Inv-loop μ-loop loop-holds (λ c. search needs) (λ c. search needs) slice-write-table (λ c κs. search needs)
-    next-difference-requires add-entry (λ c. omega arith) (λ c. omega arith) loop-again (λ c. search needs) (λ c. search needs)
+    (tie.spec Inv-loop μ-loop loop-holds (λ c. search needs) (λ c. search needs) slice-write-table add-entry (λ c κs. search needs)
+    add-difference (λ c. omega arith) (λ c. omega arith) loop-again (λ c. search needs) (λ c. search needs)
     slice-write-table-2 same-length returns)
