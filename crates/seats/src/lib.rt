@@ -5,17 +5,16 @@ ghost use Prim.Native.Nat.{_<_, min};
 ghost use lib.ListN.{set};
 ghost use Rattle.model.specs.SittingState.{emptySeat};
 ghost use Rattle.seats.specs.Scanned.{scanned, emptied};
-ghost use Rattle.seats.specs.Scanning.{startOf, nextPlace, nextSeat, lookOf};
+ghost use Rattle.seats.specs.Scanning.{startOf, lookOf};
 
-// What a scan of the seats for a candidate tells: how many records are seats, how many the list has, the first place of the candidate and
-// the first empty place (the number of seats where there is none), and the candidate's record. `k` counts the seats that are seen so far.
+// What a scan of the seats for a candidate tells: the first place of the candidate, which is the number of seats where there is none, whether
+// there is one, how many records the list has, and the candidate's record. `at` counts the seats that are passed so far, and the scan goes on
+// until it is `end`.
 pub struct View {
-    pub wanted: u16,
-    pub k: usize,
-    pub n: usize,
-    pub len: usize,
     pub at: usize,
-    pub free: usize,
+    pub end: usize,
+    pub found: bool,
+    pub len: usize,
     pub seat: Seat,
 }
 
@@ -42,86 +41,51 @@ fn empty_seat() -> Seat
 }
 
 // The view before the first seat is seen.
-fn start(wanted: u16, len: usize) -> View
-    ensures { λ r. ⌜ r ≡ startOf wanted len ⌝ }
+fn start(len: usize) -> View
+    ensures { λ r. ⌜ r ≡ startOf len ⌝ }
 {
-    let n = smaller(32, len);
+    let end = smaller(32, len);
     let seat = empty_seat();
     View {
-        wanted,
-        k: 0,
-        n,
+        at: 0,
+        end,
+        found: false,
         len,
-        at: n,
-        free: n,
         seat,
     }
 }
 
-// The first place of the candidate wanted once seat k is seen, from the one before, which is n where none was found.
-fn next_place(first: usize, n: usize, k: usize, candidate: u16, wanted: u16) -> usize
-    ensures { λ r. ⌜ r ≡ nextPlace first n k candidate wanted ⌝ }
+// The view once one more seat is seen: the scan ends at the candidate's, and passes any other.
+fn look(v: View, s: Seat, candidate: u16) -> View
+    requires { ⌜ v .at < v .end ⌝ }
+    ensures { λ r. ⌜ r ≡ lookOf v s candidate ⌝ }
 {
-    if candidate != wanted {
-        return first;
+    if s.candidate == candidate {
+        return View {
+            at: v.at,
+            end: v.at,
+            found: true,
+            len: v.len,
+            seat: s,
+        };
     }
-    if first != n {
-        return first;
-    }
-    k
-}
-
-// The candidate's record once seat k is seen. It is chosen field by field, which the compiler keeps in registers.
-fn next_seat(v: View, s: Seat) -> Seat
-    ensures { λ r. ⌜ r ≡ nextSeat v s ⌝ }
-{
     let seat = v.seat;
-    let mut lowest = seat.lowest;
-    let mut candidate = seat.candidate;
-    let mut marked = seat.marked;
-    let mut reserved = seat.reserved;
-    if s.candidate == v.wanted {
-        if v.at == v.n {
-            lowest = s.lowest;
-            candidate = s.candidate;
-            marked = s.marked;
-            reserved = s.reserved;
-        }
-    }
-    Seat {
-        lowest,
-        candidate,
-        marked,
-        reserved,
-    }
-}
-
-// The view once one more seat is seen.
-fn look(v: View, s: Seat) -> View
-    requires { ⌜ v .k < 32 ⌝ }
-    ensures { λ r. ⌜ r ≡ lookOf v s ⌝ }
-{
-    let at = next_place(v.at, v.n, v.k, s.candidate, v.wanted);
-    let free = next_place(v.free, v.n, v.k, s.candidate, 0);
-    let seat = next_seat(v, s);
     View {
-        wanted: v.wanted,
-        k: v.k + 1,
-        n: v.n,
+        at: v.at + 1,
+        end: v.end,
+        found: v.found,
         len: v.len,
-        at,
-        free,
         seat,
     }
 }
 
-// Scans the seats for a candidate.
+// Scans the seats for a candidate, up to the first that is the candidate's. The first empty record is that of candidate 0.
 pub fn scan(seats: &[Seat], candidate: u16) -> View
     ensures { λ r. ⌜ r ≡ scanned candidate (now (seats .entry)) ⌝ }
 {
-    let mut v = start(candidate, seats.len());
-    while v.k < v.n {
-        v = look(v, seats[v.k]);
+    let mut v = start(seats.len());
+    while v.at < v.end {
+        v = look(v, seats[v.at], candidate);
     }
     v
 }

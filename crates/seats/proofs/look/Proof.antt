@@ -1,11 +1,13 @@
+use borrow.Author.Tests.{eq-eqb, ne-eqb}
 use borrow.Author.Needs.{needs}
 use Rattle.seats.proofs.look.Statement.{statement}
 use Rattle.seats.proofs.look.Tie as tie
 
 returns : tie.Need-returns
-returns c = cc
+returns c = search eq-eqb
+
+returns-2 : tie.Need-returns-2
+returns-2 c = search ne-eqb
 
 pub look-spec : {M : Type 1} → statement M
-look-spec =
-    tie.close
-    (tie.spec (λ c κs. search needs) (λ c κs. search needs) (λ c κs. search needs) (λ c. search needs) returns)
+look-spec = tie.close (tie.spec returns (λ c. search needs) returns-2)

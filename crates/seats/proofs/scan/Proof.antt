@@ -2,13 +2,13 @@
 use Rattle.seats.proofs.Kit.{_∙_, drop, _≡_, refl, Bool, some, none, ℕ, suc, _<_, _^_, _*_, [], _∷_, List, length, T, URA, fullShare, named, w64, w16, tyBool, vint, vbool, hasTy, WT, SProp, emp, id⊢, Lft, Share, ftrue, flft, fat, Memory, Routine, Heap, Tables, WpFn, Atoms, Fun, factI, givenOf, tables, tablesOf, fmOf, Given, Item, ‵, _⊛_, _$_, _∵_, !, qed}
 use Rattle.seats.proofs.Kit.{move, frame, fjoin, rewrite, suffices, done, look, look-raw, init, store, forget, stop, hop, from, load, lit, of-opd, and-then, no-more, bin, land-last, stays, leaves-loop, returns, enter, alloc1, alloc0, params1, pass1, pass0, whole, sub, look-in, owns, Is, shows, uint-vals, uint-tells, u16, RefT, ShrSlice, sliceVal, slice-vals}
 use Rattle.seats.proofs.Kit.{shr-slice-tells, plain, peeks, nothing, Triple, Meets, tripleOf, entered, cited, says, Stays, stay-none-slice, stay-none, goes-none-slice, goes-none, yes}
+use borrow.Author.Tests.{lt-ltb, le-ltb}
 use denote.Struct.Laws as LL
 use Rattle.model.specs.declared.Seat.{Seat}
-use Rattle.model.specs.SittingState.{seatsOf}
 use Rattle.model.proofs.Seat as S
 use Rattle.model.proofs.Seat.Laws as S′
 use Rattle.seats.specs.declared.View.{View}
-use Rattle.seats.specs.Scanning.{startOf, lookOf, viewAt, view-start, view-next, view-end, turn-in, turn-more, turn-none}
+use Rattle.seats.specs.Scanning.{startOf, lookOf, turns, viewAt, view-start, view-next, view-end, turn-in, turn-more, turn-none}
 use Rattle.seats.proofs.View as N
 use Rattle.seats.proofs.View.Laws as N′
 use Rattle.seats.proofs.Walk.{var, part, sets, keeps, adds, adds-num, seat, at-seat, typed, seat-at, offset-fits, looks-at, shuts-at, leave, run-of, Locals, places, by-walk, needs-none, whiles, Call, call-of, calls, calls-last}
@@ -37,15 +37,16 @@ module _ {M : Type 1} (𝓤 : URA M) (H : Heap 𝓤) (A : Atoms 𝓤) (mem : Mem
   -- The call of `start`.
   abbrev to-start : Call 𝓤 H A
   to-start =
-      call-of start.ended (start.clauses 𝓤 H A mem run) ((tt, tt, tt, (c, (length (x .now), tt)), (vint w16 c ∷ [], (vint w64 (length (x .now)) ∷ [], tt))), tt)
-      (‵ ftrue) (id⊢ 𝓤 _) (id⊢ 𝓤 _) (id⊢ 𝓤 _) (at 0) (λ r ws. r ≡ startOf c (length (x .now))) (λ r ws. id⊢ 𝓤 _) (λ r ws e. e ∙ view-start c (x .now)) N′.lowered (LL.tells N.the-type N′.the-laws)
+      call-of start.ended (start.clauses 𝓤 H A mem run) ((tt, tt, tt, (length (x .now), tt), (vint w64 (length (x .now)) ∷ [], tt)), tt)
+      (‵ ftrue) (id⊢ 𝓤 _) (id⊢ 𝓤 _) (id⊢ 𝓤 _) (at 0) (λ r ws. r ≡ startOf (length (x .now))) (λ r ws. id⊢ 𝓤 _) (λ r ws e. e ∙ view-start c (x .now)) N′.lowered (LL.tells N.the-type N′.the-laws)
 
   -- The call of `look` after j seats.
-  abbrev to-look : (j : ℕ) → j < length (seatsOf (x .now)) → Call 𝓤 H A
+  abbrev to-look : (j : ℕ) → j < turns c (x .now) → Call 𝓤 H A
   to-look j l =
-      call-of look′.ended (look′.clauses 𝓤 H A mem run) ((tt, tt, tt, (at j, (seat-at x (at j .k), tt)), (N′.lowered (at j) ∷ [], (at-seat (seat-at x (at j .k)) ∷ [], tt))), tt)
-      (‵ ftrue) (id⊢ 𝓤 _) (id⊢ 𝓤 _) (factI 𝓤 (at j .k < 32) (emp 𝓤) (turn-in c (x .now) j l .1)) (at (suc j)) (λ r ws. r ≡ lookOf (at j) (seat-at x (at j .k))) (λ r ws. id⊢ 𝓤 _)
-      (λ r ws e. e ∙ view-next c (x .now) j l) N′.lowered (LL.tells N.the-type N′.the-laws)
+      call-of look′.ended (look′.clauses 𝓤 H A mem run)
+      ((tt, tt, tt, (at j, (seat-at x (at j .at), (c, tt))), (N′.lowered (at j) ∷ [], (at-seat (seat-at x (at j .at)) ∷ [], (vint w16 c ∷ [], tt)))), tt)
+      (‵ ftrue) (id⊢ 𝓤 _) (id⊢ 𝓤 _) (factI 𝓤 (at j .at < at j .end) (emp 𝓤) (turn-more c (x .now) j l)) (at (suc j)) (λ r ws. r ≡ lookOf (at j) (seat-at x (at j .at)) c) (λ r ws. id⊢ 𝓤 _)
+      (λ r ws e. e ∙ view-next c (x .now) j) N′.lowered (LL.tells N.the-type N′.the-laws)
 
   -- The context after j turns: what the view owns, the locals, the token, and what the parameters own.
   abbrev I : Lft → Share → List ℕ → ℕ → List (Item 𝓤)
@@ -67,36 +68,36 @@ module _ {M : Type 1} (𝓤 : URA M) (H : Heap 𝓤) (A : Atoms 𝓤) (mem : Mem
       let x : RefT (List Seat) = a .0 in
       let c : ℕ = a .1 .0 in
       let n : ℕ = length (x .now) in
-      let m : ℕ = length (seatsOf (x .now)) in
+      let m : ℕ = turns c (x .now) in
       let v : ℕ → View = λ j. viewAt c (x .now) j in
       let len-fits : n < 2 ^ 64 = are .0 .0 .1 .0 in
       needs-none 𝓤 _ (qed W ((‵ (flft (κs .0) (qs .0)) ⊛ ‵ ftrue) ∷ ‵ (owns (ShrSlice (named 0) (κs .0) seat ∷ u16 ∷ []) a (slice-vals x, (vint w16 c ∷ [], tt))) ∷ []) ∵ enter ! (𝓣 .C) (𝓣 .Λ) code.function _ _ $
       alloc1 ! (λ l₀. alloc1 ! (λ l₁. alloc1 ! (λ l₂. alloc1 ! (λ l₃. alloc1 ! (λ l₄. alloc1 ! (λ l₅. alloc1 ! (λ l₆. alloc1 ! (λ l₇. alloc1 ! (λ l₈. alloc0 ! $ params1 ! $
       pass1 ! (init ! 14 refl (tt, (tt, (record { fits = len-fits }, tt)))) $ pass1 ! (init ! 12 refl (tt, record { fits = are .1 .0 .1 })) $ pass0 ! $
       sets ! (of-opd ! (part ! refl (look-in ! 14 (sub ! 1 refl (whole !))))) (init ! 8 refl (tt, record { fits = len-fits })) $
-      nothing ! $ adds-num ! w64 n _ (refl, len-fits) $ adds-num ! w16 c _ (are .1 .0) $ nothing ! $
-      calls (to-start 𝓤 H A mem run x c) ! (fmOf 𝓤 H (W .laws) 𝓣) known-start (and-then ! (var ! 13 refl) (and-then ! (var ! 9 refl) (no-more !))) (λ r ws e is.
+      nothing ! $ adds-num ! w64 n _ (refl, len-fits) $ nothing ! $
+      calls (to-start 𝓤 H A mem run x c) ! (fmOf 𝓤 H (W .laws) 𝓣) known-start (and-then ! (var ! 9 refl) (no-more !)) (λ r ws e is.
       drop ! $ move ! (1 ∷ []) $ drop ! $ keeps ! (init ! 11 refl (view-typed (v 0) is)) $
       -- [what v owns; _8; …; _7; …; _6; …; _5; …; _4; …; _3; …; _2; …; _1; …; _0; …; the token; what the parameters own]
       whiles ! 𝓣 m (I 𝓤 H A mem run x c (κs .0) (qs .0) (l₀ ∷ l₁ ∷ l₂ ∷ l₃ ∷ l₄ ∷ l₅ ∷ l₆ ∷ l₇ ∷ l₈ ∷ []))
       (λ j l q″ k.
-      let in-list : v j .k < n = turn-in c (x .now) j l .0 in
-      let place-fits : v j .k * 16 < 2 ^ 64 = offset-fits n (v j .k) (are .0 .0 .1) in-list in
-      sets ! (bin ! (part ! refl (look-in ! 11 (sub ! 1 refl (whole !)))) (part ! refl (look-in ! 11 (sub ! 2 refl (whole !)))) tt) (init ! 7 refl (tt, tt)) $
-      rewrite ! 7 (λ (t : Bool). ‵ (fat fullShare tyBool l₅ 0 (vbool t))) (turn-more c (x .now) j l) refl $ stays ! (var ! 7 refl) $
-      sets ! (bin ! (part ! refl (look-in ! 11 (sub ! 1 refl (whole !)))) (lit ! tt) (record { fits = place-fits })) (init ! 5 refl (tt, record { fits = place-fits })) $
+      let in-list : v j .at < n = turn-in c (x .now) j l in
+      let place-fits : v j .at * 16 < 2 ^ 64 = offset-fits n (v j .at) (are .0 .0 .1) in-list in
+      sets ! (bin ! (part ! refl (look-in ! 11 (sub ! 0 refl (whole !)))) (part ! refl (look-in ! 11 (sub ! 1 refl (whole !)))) tt) (init ! 7 refl (tt, tt)) $
+      rewrite ! 7 (λ (t : Bool). ‵ (fat fullShare tyBool l₅ 0 (vbool t))) (lt-ltb _ _ (turn-more c (x .now) j l)) refl $ stays ! (var ! 7 refl) $
+      sets ! (bin ! (part ! refl (look-in ! 11 (sub ! 0 refl (whole !)))) (lit ! tt) (record { fits = place-fits })) (init ! 5 refl (tt, record { fits = place-fits })) $
       sets ! (bin ! (part ! refl (look-in ! 15 (sub ! 0 refl (whole !)))) (var ! 5 refl) tt) (init ! 3 refl (tt, tt)) $
-      move ! (19 ∷ 20 ∷ []) $ looks-at ! tt x (v j .k) in-list (λ q′ is′.
+      move ! (19 ∷ 20 ∷ []) $ looks-at ! tt x (v j .at) in-list (λ q′ is′.
       -- [seats[k]; what shuts; c's; what v owns; _8; …; _7; …]
-      sets ! (of-opd ! (load ! (from ! (hop ! (look ! 6 refl) (stop !))) (look-raw ! 0 refl))) (init ! 4 refl (typed 𝓤 H A W (seat-at x (v j .k)) is′)) $ shuts-at ! tt q′ x (v j .k) in-list $
+      sets ! (of-opd ! (load ! (from ! (hop ! (look ! 6 refl) (stop !))) (look-raw ! 0 refl))) (init ! 4 refl (typed 𝓤 H A W (seat-at x (v j .at)) is′)) $ shuts-at ! tt q′ x (v j .at) in-list $
       -- [the token; what the parameters own; what v owns; _8; …]
-      nothing ! $ adds ! S.the-type S′.the-plain (seat-at x (v j .k)) _ is′ $ move ! (3 ∷ 0 ∷ []) $ fjoin ! $ nothing ! $
-      calls-last (to-look 𝓤 H A mem run x c j l) ! (fmOf 𝓤 H (W .laws) 𝓣) known-look (and-then ! (var ! 13 refl) (and-then ! (var ! 3 refl) (no-more !))) (λ r ws e is″.
+      nothing ! $ adds-num ! w16 c _ (are .1 .0) $ adds ! S.the-type S′.the-plain (seat-at x (v j .at)) _ is′ $ move ! (3 ∷ 0 ∷ []) $ fjoin ! $ nothing ! $
+      calls-last (to-look 𝓤 H A mem run x c j l) ! (fmOf 𝓤 H (W .laws) 𝓣) known-look (and-then ! (var ! 13 refl) (and-then ! (var ! 3 refl) (and-then ! (var ! 15 refl) (no-more !)))) (λ r ws e is″.
       drop ! $ move ! (1 ∷ []) $ drop ! $ land-last ! (from ! (stop !)) (store ! 13 refl (view-typed (v (suc j)) is″)) $
       forget ! 3 refl $ forget ! 5 refl $ forget ! 7 refl $ forget ! 9 refl $ move ! (0 ∷ run-of 3 18) $ k)))
       (λ q″ out.
-      sets ! (bin ! (part ! refl (look-in ! 11 (sub ! 1 refl (whole !)))) (part ! refl (look-in ! 11 (sub ! 2 refl (whole !)))) tt) (init ! 7 refl (tt, tt)) $
-      rewrite ! 7 (λ (t : Bool). ‵ (fat fullShare tyBool l₅ 0 (vbool t))) (turn-none c (x .now)) refl $ leaves-loop ! (var ! 7 refl) $ out _ (
+      sets ! (bin ! (part ! refl (look-in ! 11 (sub ! 0 refl (whole !)))) (part ! refl (look-in ! 11 (sub ! 1 refl (whole !)))) tt) (init ! 7 refl (tt, tt)) $
+      rewrite ! 7 (λ (t : Bool). ‵ (fat fullShare tyBool l₅ 0 (vbool t))) (le-ltb _ _ (turn-none c (x .now))) refl $ leaves-loop ! (var ! 7 refl) $ out _ (
       peeks ! N.the-row (Is N.the-row) (shows 𝓤 H A N.the-row) (v m) _ (λ is″.
       sets ! (of-opd ! (var ! 11 refl)) (init ! 17 refl (view-typed (v m) is″)) $
       returns ! (look ! 17 refl) $ move ! (run-of 1 18) $ leave ! (some _ ∷ some _ ∷ some _ ∷ some _ ∷ some _ ∷ some _ ∷ none ∷ none ∷ none ∷ []) $
