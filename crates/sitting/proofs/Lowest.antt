@@ -40,17 +40,17 @@ module _ (z : Sitting) (v : View) (d c : ℕ) {r : Reply} where
   -- Reading a lowest cost that is refused.
   pub lowest-refused :
       {x : Refusal} → r ≡ replyGiving (Refused x) 0 z →
-      answerTo (seen z v) (readLowest d c) ≡ Refused x → r ≡ replySeen z v (readLowest d c)
+      answerTo (seen z v v) (readLowest d c) ≡ Refused x → r ≡ replySeen z v v (readLowest d c)
   unfolding replyGiving replySeen eventSeen told replyWith markedWith eventOf eventWith actSpec sittingAfter
   lowest-refused e given = e ∙ rw given
 
-  module _ (given : answerTo (seen z v) (readLowest d c) ≡ Cost (Option·getD (lowestOf (v .seat)) 0)) where
+  module _ (given : answerTo (seen z v v) (readLowest d c) ≡ Cost (Option·getD (lowestOf (v .seat)) 0)) where
     -- Reading it where nothing is marked.
-    pub lowest-none : v .seat .marked ≡ 0 → r ≡ replyGiving (Cost 0) 0 z → r ≡ replySeen z v (readLowest d c)
+    pub lowest-none : v .seat .marked ≡ 0 → r ≡ replyGiving (Cost 0) 0 z → r ≡ replySeen z v v (readLowest d c)
     unfolding replyGiving replySeen eventSeen told replyWith markedWith eventOf eventWith actSpec sittingAfter seen lowestOf Option·elim
     lowest-none h e = e ∙ rw (given, eq-eqb (v .seat .marked) 0 h)
 
     -- Reading it where a sheet is marked.
-    pub lowest-some : (v .seat .marked ≡ 0 → ⊥) → r ≡ replyGiving (Cost (v .seat .lowest)) 1 z → r ≡ replySeen z v (readLowest d c)
+    pub lowest-some : (v .seat .marked ≡ 0 → ⊥) → r ≡ replyGiving (Cost (v .seat .lowest)) 1 z → r ≡ replySeen z v v (readLowest d c)
     unfolding replyGiving replySeen eventSeen told replyWith markedWith eventOf eventWith actSpec sittingAfter seen lowestOf Option·elim
     lowest-some h e = e ∙ rw (given, ne-eqb (v .seat .marked) 0 h)

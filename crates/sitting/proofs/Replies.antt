@@ -45,8 +45,8 @@ used-reply z d {a = Refused x} is e = e ∙ rw (← is)
 
 -- Reading the least cost changes nothing.
 pub least-reply :
-    (z : Sitting) (v : View) (d : ℕ) {a : Answer} {r : Reply} → a ≡ answerTo (seen z v) (readLeast d) → r ≡ replyGiving a 0 z →
-    r ≡ replySeen z v (readLeast d)
+    (z : Sitting) (v : View) (d : ℕ) {a : Answer} {r : Reply} → a ≡ answerTo (seen z v v) (readLeast d) → r ≡ replyGiving a 0 z →
+    r ≡ replySeen z v v (readLeast d)
 unfolding replyGiving replySeen eventSeen told replyWith markedWith eventOf eventWith actSpec sittingAfter
 least-reply z v d {a = Cost n} is e = e ∙ rw (← is)
 least-reply z v d {a = Refused x} is e = e ∙ rw (← is)
@@ -66,16 +66,16 @@ module _ (z : Sitting) (d : ℕ) {a : Answer} (is : a ≡ answerTo (factsOf (sta
   unfolding replyGiving replyOf toldBy told replyWith markedWith eventOf eventWith actSpec sittingAfter
   closing-done given e = e ∙ rw (sym is ∙ given)
 
-module _ (z : Sitting) (v : View) (d c : ℕ) {a : Answer} (is : a ≡ answerTo (seen z v) (seatCandidate d c)) where
+module _ (z : Sitting) (v w : View) (d c : ℕ) {a : Answer} (is : a ≡ answerTo (seen z v w) (seatCandidate d c)) where
   -- A seating that is refused.
   pub seating-refused :
-      {x : Refusal} {r : Outcome} → a ≡ Refused x → r ≡ unchangedOf (v .len) x z → r ≡ outcomeOf z v (seatCandidate d c)
+      {x : Refusal} {r : Outcome} → a ≡ Refused x → r ≡ unchangedOf (v .len) x z → r ≡ outcomeOf z v w (seatCandidate d c)
   unfolding unchangedOf outcomeOf placeFor recordFor replyGiving replySeen eventSeen told replyWith markedWith eventOf eventWith actSpec sittingAfter
   seating-refused given e = e ∙ rw (sym is ∙ given)
 
   -- A seating: the first empty record becomes the candidate's.
   pub seating-done :
       {n : ℕ} {r : Reply} → a ≡ Cost n → r ≡ replyGiving (Cost n) 0 z →
-      _≡_ {A = Outcome} (record { at = v .free; seat = seatedRecord c emptySeat; reply = r }) (outcomeOf z v (seatCandidate d c))
+      _≡_ {A = Outcome} (record { at = w .at; seat = seatedRecord c emptySeat; reply = r }) (outcomeOf z v w (seatCandidate d c))
   unfolding outcomeOf placeFor recordFor replyGiving replySeen eventSeen told replyWith markedWith eventOf eventWith actSpec sittingAfter
   seating-done given e = rw (e, sym is ∙ given)

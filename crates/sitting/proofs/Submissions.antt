@@ -56,7 +56,7 @@ card-not-counted s e =
 module _ (z : Sitting) (v : View) (d : ℕ) (s x : List ℕ) where
   -- A refusal by which the submission does not count.
   pub refused-answered :
-      {y : Refusal} {b : Answer} {n : ℕ} → Uncounted y z b n → answerTo (seen z v) (submitSheet d s x) ≡ Refused y →
+      {y : Refusal} {b : Answer} {n : ℕ} → Uncounted y z b n → answerTo (seen z v v) (submitSheet d s x) ≡ Refused y →
       submissionRefused y ≡ nothingDone → Answered z v (submitSheet d s x) b n
   unfolding eventSeen eventOf eventWith actSpec sittingAfter
   refused-answered u e none = record { answer-is = u .refused-is ∙ sym e; submissions-are = u .submissions-stay ∙ rw (e, none) }
@@ -73,7 +73,7 @@ module _ (z : Sitting) (v : View) (d : ℕ) (s x : List ℕ) where
   module _ (given : Accepted s) where
     -- A submission that is answered as marking counts.
     pub marked-answered :
-        {a : Answer} → a ≡ answer (markSheet s x) → answerTo (seen z v) (submitSheet d s x) ≡ answer (markSheet s x) →
+        {a : Answer} → a ≡ answer (markSheet s x) → answerTo (seen z v v) (submitSheet d s x) ≡ answer (markSheet s x) →
         Answered z v (submitSheet d s x) a (z .submissions + 1)
     unfolding eventSeen eventOf eventWith actSpec submissionRefused sittingAfter answer specOf
     marked-answered is e =
@@ -87,17 +87,17 @@ module _ (z : Sitting) (v : View) (d : ℕ) (s x : List ℕ) where
 -- A refused submission changes no record, and in the sitting the submissions used at most.
 refused-parts :
     (z : Sitting) (v : View) (d : ℕ) (s x : List ℕ) (y : Refusal) → let e = submissionRefused y in
-    (placeFor v e ≡ v .len) × ((recordFor v e ≡ emptySeat) × (sittingAfter e z ≡ withSubmissions z (sittingAfter e z .submissions)))
+    (placeFor v v e ≡ v .len) × ((recordFor v e ≡ emptySeat) × (sittingAfter e z ≡ withSubmissions z (sittingAfter e z .submissions)))
 unfolding placeFor recordFor sittingAfter withSubmissions actSpec
 refused-parts z v d s x y =
-    refused-does (λ e. (placeFor v e ≡ v .len) × ((recordFor v e ≡ emptySeat) × (sittingAfter e z ≡ withSubmissions z (sittingAfter e z .submissions))))
+    refused-does (λ e. (placeFor v v e ≡ v .len) × ((recordFor v e ≡ emptySeat) × (sittingAfter e z ≡ withSubmissions z (sittingAfter e z .submissions))))
     (submitSheet d s x) y (refl, (refl, refl)) (λ e c b same counted. (refl, (refl, refl)))
 
 module _ (z : Sitting) (v : View) (d : ℕ) (s x : List ℕ) {a : Answer} {n : ℕ} (answered : Answered z v (submitSheet d s x) a n) where
   module _ {after : Sitting} (after-is : after ≡ withSubmissions z n) where
     -- A submission that is refused.
     pub submitting-refused :
-        {y : Refusal} {r : Outcome} → a ≡ Refused y → r ≡ unchangedOf (v .len) y after → r ≡ outcomeOf z v (submitSheet d s x)
+        {y : Refusal} {r : Outcome} → a ≡ Refused y → r ≡ unchangedOf (v .len) y after → r ≡ outcomeOf z v v (submitSheet d s x)
     unfolding unchangedOf outcomeOf withSubmissions replyGiving replySeen eventSeen told replyWith markedWith eventOf eventWith actSpec
     submitting-refused {y} given e =
         let (place, (seat, sitting)) = refused-parts z v d s x y in
@@ -106,7 +106,7 @@ module _ (z : Sitting) (v : View) (d : ℕ) (s x : List ℕ) {a : Answer} {n : �
     -- A submission that is marked: the candidate's record takes its cost.
     pub submitting-marked :
         {k : ℕ} {seat : Seat} {r : Reply} → a ≡ Cost k → seat ≡ markedRecord k (v .seat) → r ≡ replyGiving (Cost k) 0 after →
-        _≡_ {A = Outcome} (record { at = v .at; seat = seat; reply = r }) (outcomeOf z v (submitSheet d s x))
+        _≡_ {A = Outcome} (record { at = v .at; seat = seat; reply = r }) (outcomeOf z v v (submitSheet d s x))
     unfolding outcomeOf placeFor recordFor withSubmissions replyGiving replySeen eventSeen told replyWith markedWith eventOf eventWith actSpec
         sittingAfter
     submitting-marked given seat-is e = rw (e, seat-is, after-is, answered .submissions-are, sym (answered .answer-is) ∙ given)

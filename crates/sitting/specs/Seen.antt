@@ -3,7 +3,7 @@ use Prim.Native.Nat.{ℕ}
 use mathlib.Core.Path.{_≡_}
 use mathlib.Core.Bool.{Bool, not, _||_}
 use mathlib.Core.List.{[]}
-use lib.Dec.{ltb, eqb}
+use lib.Dec.{eqb}
 use Rattle.model.specs.declared.Refusal.{Refusal}
 use Rattle.model.specs.declared.Answer.{Answer}
 use Rattle.model.specs.declared.Answer.the-variants.{Cost, Refused}
@@ -20,31 +20,32 @@ use Rattle.seats.specs.declared.View.{View}
 use Rattle.sitting.specs.declared.Outcome.{Outcome}
 use Rattle.sitting.specs.declared.OpenOutcome.{OpenOutcome}
 
--- The facts of a sitting as a view of the list shows them, which for the candidate that was looked for are those of the list.
-unfoldable pub seen : Sitting → View → Facts
-seen z v =
+-- The facts of a sitting as two views of the list show them, v for a candidate and w for an empty record. For this candidate they are those of
+-- the list. Seating alone asks for an empty record: another act is decided by v, which then stands for w too.
+unfoldable pub seen : Sitting → (v w : View) → Facts
+seen z v w =
     record {
       phase = phaseOf (z .state);
       allowance = z .allowance;
       used = z .submissions;
       least = z .least;
-      seated = λ c. ltb (v .at) (v .n);
-      full = not (ltb (v .free) (v .n));
+      seated = λ c. v .found;
+      full = not (w .found);
       lowest = λ c. lowestOf (v .seat);
     }
 
 -- A number names no seat, by a view for it.
 unfoldable pub unseated : View → ℕ → Bool
-unseated v c = eqb c 0 || not (ltb (v .at) (v .n))
+unseated v c = eqb c 0 || not (v .found)
 
 -- The place that an event changes: the first empty record, the candidate's, or none, which is said by the length of the list.
-unfoldable pub placeFor : View → Event → ℕ
-placeFor v nothingDone = v .len
-placeFor v (openingDone a n) = v .len
-placeFor v (seatingDone c) = v .free
-placeFor v closingDone = v .len
-placeFor v submissionCounted = v .len
-placeFor v (submissionMarked c n) = v .at
+unfoldable pub placeFor : (v w : View) → Event → ℕ
+placeFor v w nothingDone = v .len
+placeFor v w (openingDone a n) = v .len
+placeFor v w (seatingDone c) = w .at
+placeFor v w closingDone = v .len
+placeFor v w submissionCounted = v .len
+placeFor v w (submissionMarked c n) = v .at
 
 -- What the record there becomes.
 unfoldable pub recordFor : View → Event → Seat
@@ -55,18 +56,18 @@ recordFor v closingDone = emptySeat
 recordFor v submissionCounted = emptySeat
 recordFor v (submissionMarked c n) = markedRecord n (v .seat)
 
--- What has happened by an act that is handed a sitting and a view.
-unfoldable pub eventSeen : Sitting → View → Act → Event
-eventSeen z v a = eventOf (seen z v) a
+-- What has happened by an act that is handed a sitting and two views.
+unfoldable pub eventSeen : Sitting → (v w : View) → Act → Event
+eventSeen z v w a = eventOf (seen z v w) a
 
--- The reply that a view gives.
-unfoldable pub replySeen : Sitting → View → Act → Reply
-replySeen z v a = replyWith (told (seen z v) a) (sittingAfter (eventSeen z v a) z)
+-- The reply that the views give.
+unfoldable pub replySeen : Sitting → (v w : View) → Act → Reply
+replySeen z v w a = replyWith (told (seen z v w) a) (sittingAfter (eventSeen z v w a) z)
 
--- What an act does, by a view.
-unfoldable pub outcomeOf : Sitting → View → Act → Outcome
-outcomeOf z v a =
-    record { at = placeFor v (eventSeen z v a); seat = recordFor v (eventSeen z v a); reply = replySeen z v a }
+-- What an act does, by the views.
+unfoldable pub outcomeOf : Sitting → (v w : View) → Act → Outcome
+outcomeOf z v w a =
+    record { at = placeFor v w (eventSeen z v w a); seat = recordFor v (eventSeen z v w a); reply = replySeen z v w a }
 
 -- The reply with an answer; a refusal marks nothing.
 unfoldable pub replyGiving : Answer → (marked : ℕ) → Sitting → Reply
@@ -88,8 +89,8 @@ pub record Uncounted (x : Refusal) (z : Sitting) (answer : Answer) (submissions 
 
 -- An answer and a number of submissions used are those of a submission.
 pub record Answered (z : Sitting) (v : View) (a : Act) (answer : Answer) (submissions : ℕ) : Type 0 where
-  pub answer-is : answer ≡ answerTo (seen z v) a
-  pub submissions-are : submissions ≡ sittingAfter (eventSeen z v a) z .submissions
+  pub answer-is : answer ≡ answerTo (seen z v v) a
+  pub submissions-are : submissions ≡ sittingAfter (eventSeen z v v a) z .submissions
 
 -- The records that an opening with an answer empties: the seats, or none.
 unfoldable pub recordsEmptied : Answer → ℕ

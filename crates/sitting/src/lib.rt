@@ -80,9 +80,9 @@ fn allowance_in_range(allowance: u64) -> bool
     allowance <= 1000
 }
 
-// The answer to the seating of a candidate, by a view for this candidate: refusals 15 and 16.
-fn answer_seating(sitting: Sitting, caller: u16, candidate: u16, v: View) -> Answer
-    ensures { λ r. ⌜ r ≡ answerTo (seen sitting v) (seatCandidate caller candidate) ⌝ }
+// The answer to the seating of a candidate, by a view for this candidate and one for an empty record: refusals 15 and 16.
+fn answer_seating(sitting: Sitting, caller: u16, candidate: u16, v: View, empty: View) -> Answer
+    ensures { λ r. ⌜ r ≡ answerTo (seen sitting v empty) (seatCandidate caller candidate) ⌝ }
 {
     if caller != 0 {
         return Answer::Refused(Refusal::NotPermitted);
@@ -93,10 +93,10 @@ fn answer_seating(sitting: Sitting, caller: u16, candidate: u16, v: View) -> Ans
     if candidate == 0 {
         return Answer::Refused(Refusal::SeatUnavailable);
     }
-    if v.at < v.n {
+    if v.found {
         return Answer::Refused(Refusal::SeatUnavailable);
     }
-    if v.n <= v.free {
+    if !empty.found {
         return Answer::Refused(Refusal::SeatUnavailable);
     }
     Answer::Cost(0)
@@ -120,14 +120,14 @@ fn unchanged(len: usize, x: Refusal, sitting: Sitting) -> Outcome
     }
 }
 
-// Seats a candidate, by a view for this candidate.
-pub fn seating(sitting: Sitting, caller: u16, candidate: u16, v: View) -> Outcome
-    ensures { λ r. ⌜ r ≡ outcomeOf sitting v (seatCandidate caller candidate) ⌝ }
+// Seats a candidate, by a view for this candidate and one for an empty record.
+pub fn seating(sitting: Sitting, caller: u16, candidate: u16, v: View, empty: View) -> Outcome
+    ensures { λ r. ⌜ r ≡ outcomeOf sitting v empty (seatCandidate caller candidate) ⌝ }
 {
-    match answer_seating(sitting, caller, candidate, v) {
+    match answer_seating(sitting, caller, candidate, v, empty) {
         Answer::Refused(x) => unchanged(v.len, x, sitting),
         Answer::Cost(cost) => Outcome {
-            at: v.free,
+            at: empty.at,
             seat: Seat {
                 lowest: 0,
                 candidate,
@@ -168,7 +168,7 @@ fn answer_on(
     if sitting.state != 1 {
         return uncounted(Refusal::NotPermitted, sitting);
     }
-    if v.n <= v.at {
+    if !v.found {
         return uncounted(Refusal::SeatUnavailable, sitting);
     }
     if sitting.allowance <= sitting.submissions {
@@ -230,7 +230,7 @@ fn with_submissions(sitting: Sitting, submissions: u64) -> Sitting
 
 // Marks a sheet of a candidate, by a view for the caller.
 pub fn submitting(sitting: Sitting, caller: u16, v: View, card: &[u8], sheet: &[u8]) -> Outcome
-    ensures { λ r. ⌜ r ≡ outcomeOf sitting v (submitSheet caller (now (card .entry)) (now (sheet .entry))) ⌝ }
+    ensures { λ r. ⌜ r ≡ outcomeOf sitting v v (submitSheet caller (now (card .entry)) (now (sheet .entry))) ⌝ }
 {
     let submission = answer_submission(sitting, caller, v, card, sheet);
     let after = with_submissions(sitting, submission.submissions);
@@ -247,7 +247,7 @@ pub fn submitting(sitting: Sitting, caller: u16, v: View, card: &[u8], sheet: &[
 
 // The answer to reading the least cost, by a view for the caller: refusals 15 and 16.
 fn answer_least(sitting: Sitting, caller: u16, v: View) -> Answer
-    ensures { λ r. ⌜ r ≡ answerTo (seen sitting v) (readLeast caller) ⌝ }
+    ensures { λ r. ⌜ r ≡ answerTo (seen sitting v v) (readLeast caller) ⌝ }
 {
     if is_unopened(sitting) {
         return Answer::Refused(Refusal::NotPermitted);
@@ -258,7 +258,7 @@ fn answer_least(sitting: Sitting, caller: u16, v: View) -> Answer
     if sitting.state != 2 {
         return Answer::Refused(Refusal::NotPermitted);
     }
-    if v.n <= v.at {
+    if !v.found {
         return Answer::Refused(Refusal::SeatUnavailable);
     }
     Answer::Cost(sitting.least)
@@ -266,7 +266,7 @@ fn answer_least(sitting: Sitting, caller: u16, v: View) -> Answer
 
 // Reads the least cost, by a view for the caller.
 pub fn reading_least(sitting: Sitting, caller: u16, v: View) -> Reply
-    ensures { λ r. ⌜ r ≡ replySeen sitting v (readLeast caller) ⌝ }
+    ensures { λ r. ⌜ r ≡ replySeen sitting v v (readLeast caller) ⌝ }
 {
     reply_giving(answer_least(sitting, caller, v), 0, sitting)
 }
@@ -291,15 +291,12 @@ fn no_seat(candidate: u16, v: View) -> bool
     if candidate == 0 {
         return true;
     }
-    if v.at < v.n {
-        return false;
-    }
-    true
+    !v.found
 }
 
 // Reads a candidate's lowest cost, by a view for this candidate: refusals 15 and 16.
 pub fn reading_lowest(sitting: Sitting, caller: u16, candidate: u16, v: View) -> Reply
-    ensures { λ r. ⌜ r ≡ replySeen sitting v (readLowest caller candidate) ⌝ }
+    ensures { λ r. ⌜ r ≡ replySeen sitting v v (readLowest caller candidate) ⌝ }
 {
     if !may_read_lowest(sitting, caller, candidate) {
         return reply_giving(Answer::Refused(Refusal::NotPermitted), 0, sitting);

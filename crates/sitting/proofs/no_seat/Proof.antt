@@ -1,4 +1,4 @@
-use borrow.Author.Tests.{eq-eqb, ne-eqb, lt-ltb, le-ltb}
+use borrow.Author.Tests.{eq-eqb, ne-eqb}
 use Rattle.sitting.specs.Seen.{unseated}
 use Rattle.sitting.proofs.no_seat.Statement.{statement}
 use Rattle.sitting.proofs.no_seat.Tie as tie
@@ -9,11 +9,7 @@ returns c = search eq-eqb
 
 returns-2 : tie.Need-returns-2
 unfolding unseated
-returns-2 c = search (ne-eqb, lt-ltb)
-
-returns-3 : tie.Need-returns-3
-unfolding unseated
-returns-3 c = search (ne-eqb, le-ltb)
+returns-2 c = search ne-eqb
 
 pub no-seat-spec : {M : Type 1} → statement M
-no-seat-spec = tie.close (tie.spec returns returns-2 returns-3)
+no-seat-spec = tie.close (tie.spec returns returns-2)
