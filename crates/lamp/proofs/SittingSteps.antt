@@ -1,22 +1,23 @@
 -- What the walks of the acts of a sitting share: the calls on the list of seats, and the ends of their contracts.
-use Rattle.seats.proofs.Kit.{_≡_, refl, List, [], _∷_, ℕ, URA, w16, w64, vint, vunit, SProp, ent, sep, id⊢, via, Lft, Share, ftrue, flft, Memory, Routine, Heap, Atoms, Fun, fact, Given, Item, ‵, _⊛_, prop, Step, step, set, RefT, slice-vals, nothing-tells}
+use Rattle.seats.proofs.Kit.{_≡_, refl, List, [], _∷_, ℕ, URA, w16, w64, vint, vunit, SProp, ent, sep, id⊢, via, Lft, Share, ftrue, flft, Memory, Routine, Heap, Atoms, Fun, fact, Given, Item, ‵, _⊛_, prop, Step, step, set, RefT, slice-vals, nothing-tells, tables, Triple, tripleOf, cited}
+use prog.Model.{Model}
+use prog.Routine.{Env}
+use contract.Running.{GhostRules, Running}
 use base.Logic.{emp, snd∗, fst∗, emp∗, comm∗, mono∗, monoL}
 use contract.Monad.{factI, fact-use}
 use denote.Struct.Laws as LL
 use Rattle.model.specs.declared.Seat.{Seat}
-use Rattle.model.specs.declared.Sitting.{Sitting}
-use Rattle.model.specs.Acts.{Act}
-use Rattle.model.specs.Sittings.{replyOf}
-use Rattle.laws.specs.SittingLaws.{concerned}
 use Rattle.seats.specs.Scanned.{scanned, emptied}
 use Rattle.seats.proofs.View as N
 use Rattle.seats.proofs.View.Laws as N′
 use Rattle.seats.proofs.Walk.{at-seat, Call, call-of}
 use Rattle.seats.proofs.scan as scan
+use Rattle.seats.proofs.scan.Symbol as scan-def
+use Rattle.seats.proofs.scan.Met as scan-thm
 use Rattle.seats.proofs.put as put
+use Rattle.seats.proofs.put.Symbol as put-def
+use Rattle.seats.proofs.put.Met as put-thm
 use Rattle.seats.proofs.empty_first as empty-first
-use Rattle.sitting.specs.Seen.{outcomeOf}
-use Rattle.sitting.specs.Acted.{reply-seen}
 
 module _ {M : Type 1} (𝓤 : URA M) (H : Heap 𝓤) (A : Atoms 𝓤) (mem : Memory → SProp 𝓤) (run : Routine → Fun 𝓤) (κ : Lft) (q : Share) (x : RefT (List Seat)) where
   -- The call of `scan` on a shared list.
@@ -56,7 +57,10 @@ pub both : {M : Type 1} (𝓤 : URA M) (φ ψ : Type 0) {X : SProp 𝓤} → ent
 both 𝓤 φ ψ {X} h =
     fact-use 𝓤 φ (fst∗ 𝓤 (fact 𝓤 φ) X) (λ p. fact-use 𝓤 ψ (via 𝓤 X (snd∗ 𝓤 (fact 𝓤 φ) X) h) (λ q. factI 𝓤 (φ × ψ) (sep 𝓤 (fact 𝓤 φ) X) (p, q)))
 
--- The reply of an outcome, decided by the view for the candidate that an act is about, is the act's.
-pub outcome-reply : (z : Sitting) (xs : List Seat) (a : Act) → outcomeOf z (scanned (concerned a) xs) a .reply ≡ replyOf z xs a
-unfolding outcomeOf
-outcome-reply z xs a = reply-seen z xs a
+-- What a function that calls `scan` or `put` knows of it.
+module _ {M : Type 1} (𝓤 : URA M) (H : Heap 𝓤) (𝓜 : Model 𝓤 H) (𝓖 : GhostRules 𝓤 H) (𝓡 : Running 𝓤 H 𝓜) (γ : Env) where
+  pub scan-known : γ scan-def.name ≡ scan-def.routine → Triple 𝓤 (tables 𝓤 H 𝓜 𝓡 γ .C scan-def.name) (tripleOf 𝓤 H (𝓖 .A) scan.signature (scan.spec 𝓤 H (𝓖 .A) (𝓜 .mem) (𝓡 .run)))
+  scan-known e = cited 𝓤 H (tripleOf 𝓤 H (𝓖 .A) scan.signature (scan.spec 𝓤 H (𝓖 .A) (𝓜 .mem) (𝓡 .run))) 𝓜 𝓡 γ scan-def.name scan-def.routine e (scan-thm.met 𝓤 H 𝓜 𝓖 𝓡)
+
+  pub put-known : γ put-def.name ≡ put-def.routine → Triple 𝓤 (tables 𝓤 H 𝓜 𝓡 γ .C put-def.name) (tripleOf 𝓤 H (𝓖 .A) put.signature (put.spec 𝓤 H (𝓖 .A) (𝓜 .mem) (𝓡 .run)))
+  put-known e = cited 𝓤 H (tripleOf 𝓤 H (𝓖 .A) put.signature (put.spec 𝓤 H (𝓖 .A) (𝓜 .mem) (𝓡 .run))) 𝓜 𝓡 γ put-def.name put-def.routine e (put-thm.met 𝓤 H 𝓜 𝓖 𝓡)

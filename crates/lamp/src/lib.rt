@@ -192,7 +192,8 @@ pub extern "C" fn lamp_sitting_seat(
     ensures seats { λ r. ⌜ now (seats .exit) ≡ seatsAtExit sitting (now (seats .entry)) (seatCandidate caller candidate) ⌝ }
 {
     let v = seats::scan(seats, candidate);
-    let o = sitting::seating(sitting, caller, candidate, v);
+    let empty = seats::scan(seats, 0);
+    let o = sitting::seating(sitting, caller, candidate, v, empty);
     let at = o.at;
     let seat = o.seat;
     seats::put(seats, at, seat);

@@ -17,23 +17,19 @@ use Rattle.seats.proofs.View as N
 use Rattle.seats.proofs.View.Laws as N′
 use Rattle.seats.proofs.Walk.{var, part, sets, keeps, gives, adds, adds-num, seat, at-seat, named-as, typed, shares-out, shares-back, leave, run-of, by-walk, needs-none, Call, call-of, calls}
 use Rattle.seats.proofs.scan as scan
-use Rattle.seats.proofs.scan.Symbol as scan-def
 use Rattle.seats.proofs.scan.Symbol.{name as #scan}
-use Rattle.seats.proofs.scan.Met as scan-thm
 use Rattle.seats.proofs.put as put
-use Rattle.seats.proofs.put.Symbol as put-def
 use Rattle.seats.proofs.put.Symbol.{name as #put}
-use Rattle.seats.proofs.put.Met as put-thm
 use Rattle.sitting.specs.declared.Outcome.{Outcome}
 use Rattle.sitting.specs.Seen.{outcomeOf}
-use Rattle.sitting.specs.Acted.{submitted-list}
+use Rattle.sitting.specs.Acted.{submission-acts}
 use Rattle.sitting.proofs.Outcome as O
 use Rattle.sitting.proofs.Outcome.Laws as O′
 use Rattle.sitting.proofs.submitting as decide
 use Rattle.sitting.proofs.submitting.Symbol as decide-def
 use Rattle.sitting.proofs.submitting.Symbol.{name as #decide}
 use Rattle.sitting.proofs.submitting.Met as decide-thm
-use Rattle.lamp.proofs.SittingSteps.{to-scan, to-put, shown, also, says-all, outcome-reply}
+use Rattle.lamp.proofs.SittingSteps.{to-scan, to-put, shown, also, says-all, scan-known, put-known}
 use Rattle.lamp.proofs.lamp_sitting_submit.Key.{name as #f}
 use Rattle.lamp.proofs.lamp_sitting_submit as f
 use Rattle.lamp.proofs.lamp_sitting_submit.Statement as stated
@@ -60,7 +56,7 @@ abbrev to-decide : {M : Type 1} (𝓤 : URA M) (H : Heap 𝓤) (A : Atoms 𝓤) 
 to-decide 𝓤 H A mem run κ κ′ q q′ z d v card sheet =
     call-of decide.ended (decide.clauses 𝓤 H A mem run)
     (((κ, (κ′, tt)), (q, (q′, tt)), tt, (z, (d, (v, (card, (sheet, tt))))), (Z′.lowered z ∷ [], (vint w16 d ∷ [], (N′.lowered v ∷ [], (slice-vals card, (slice-vals sheet, tt)))))), tt)
-    (‵ (flft κ q) ⊛ (‵ (flft κ′ q′) ⊛ ‵ ftrue)) (id⊢ 𝓤 _) (id⊢ 𝓤 _) (id⊢ 𝓤 _) (outcomeOf z v (submitSheet d (card .now) (sheet .now))) (λ r ws. r ≡ outcomeOf z v (submitSheet d (card .now) (sheet .now)))
+    (‵ (flft κ q) ⊛ (‵ (flft κ′ q′) ⊛ ‵ ftrue)) (id⊢ 𝓤 _) (id⊢ 𝓤 _) (id⊢ 𝓤 _) (outcomeOf z v v (submitSheet d (card .now) (sheet .now))) (λ r ws. r ≡ outcomeOf z v v (submitSheet d (card .now) (sheet .now)))
     (λ r ws. id⊢ 𝓤 _) (λ r ws e. e) O′.lowered (LL.tells O.the-type O′.the-laws)
 
 -- The walk.
@@ -86,7 +82,8 @@ meets 𝓤 H A mem run W 𝓣 known-scan known-decide known-put =
     let sheet : RefT (List ℕ) = a .1 .1 .1 .0 in
     let x : RefT (List Seat) = a .1 .1 .1 .1 .0 in
     let v : View = scanned d (x .now) in
-    let o : Outcome = outcomeOf z v (submitSheet d (card .now) (sheet .now)) in
+    let o : Outcome = outcomeOf z v v (submitSheet d (card .now) (sheet .now)) in
+    let acted = submission-acts z (x .now) d (card .now) (sheet .now) v in
     let room : Room seat (length (x .now)) = are .1 .1 .1 .1 .0 .0 .1 in
     needs-none 𝓤 _ (qed W ((‵ (flft (κs .0) (qs .0)) ⊛ (‵ (flft (κs .1 .0) (qs .1 .0)) ⊛ (‵ (flft (κs .1 .1 .0) (qs .1 .1 .0)) ⊛ ‵ ftrue))) ∷
     ‵ (owns (Z.the-row ∷ u16 ∷ ShrSlice (named 0) (κs .0) u8 ∷ ShrSlice (named 1) (κs .1 .0) u8 ∷ MutSlice (named 2) (κs .1 .1 .0) seat ∷ []) a
@@ -127,7 +124,7 @@ meets 𝓤 H A mem run W 𝓣 known-scan known-decide known-put =
     sets ! (of-opd ! (part ! refl (look-in ! 16 (sub ! 2 refl (whole !))))) (init ! 30 refl (LL.lawful R.the-type R′.the-laws 𝓤 H A W .typed (o .reply) _ reply-is .0)) $
     returns ! (look ! 30 refl) $ move ! (run-of 2 30) $ leave ! (some _ ∷ some _ ∷ some _ ∷ some _ ∷ some _ ∷ some _ ∷ some _ ∷ some _ ∷ some _ ∷ some _ ∷ some _ ∷ some _ ∷ some _ ∷ some _ ∷ some _ ∷ []) $
     suffices ! _ (ends (R′.lowered (o .reply)) (o .reply) (tt, (tt, (tt, (tt, (ws″ .0, tt))))) (tt, (tt, (tt, (tt, (same-length, tt)))))) $
-    says-all ! (also 𝓤 (outcome-reply z (x .now) (submitSheet d (card .now) (sheet .now))) (shown 𝓤 (e″ ∙ submitted-list z (x .now) d (card .now) (sheet .now)))) $
+    says-all ! (also 𝓤 (acted .reply-is) (shown 𝓤 (e″ ∙ acted .list-is))) $
     move ! (2 ∷ []) $ split ! $ move ! (1 ∷ []) $ split ! $ move ! (0 ∷ 4 ∷ []) $ join ! $ move ! (2 ∷ 0 ∷ []) $ join ! $
     move ! (2 ∷ 1 ∷ []) $ fjoin ! $ nothing ! $ fjoin ! $ nothing ! $ fjoin ! $ nothing ! $ fjoin ! $ nothing ! $ fjoin ! $
     move ! (1 ∷ 0 ∷ []) $ frame ! $ frame ! $ gives ! R.the-type R′.the-plain (o .reply) _ reply-is $ done !))))))))))))))))))))))
@@ -138,6 +135,6 @@ lamp-sitting-submit-spec 𝓤 H 𝓜 𝓖 𝓡 =
     entered 𝓤 H (tripleOf 𝓤 H (𝓖 .A) f.signature (f.spec 𝓤 H (𝓖 .A) (𝓜 .mem) (𝓡 .run)))
     (tables 𝓤 H 𝓜 𝓡 code.env .C) (tables 𝓤 H 𝓜 𝓡 code.env .Λ) #f code.function (code.unfolded 𝓤 H 𝓜 𝓡)
     (meets 𝓤 H (𝓖 .A) (𝓜 .mem) (𝓡 .run) (givenOf 𝓤 H 𝓜 𝓖) (tablesOf 𝓤 H 𝓜 (tables 𝓤 H 𝓜 𝓡 code.env))
-    (cited 𝓤 H (tripleOf 𝓤 H (𝓖 .A) scan.signature (scan.spec 𝓤 H (𝓖 .A) (𝓜 .mem) (𝓡 .run))) 𝓜 𝓡 code.env #scan scan-def.routine code.calls-seats·scan (scan-thm.met 𝓤 H 𝓜 𝓖 𝓡))
+    (scan-known 𝓤 H 𝓜 𝓖 𝓡 code.env code.calls-seats·scan)
     (cited 𝓤 H (tripleOf 𝓤 H (𝓖 .A) decide.signature (decide.spec 𝓤 H (𝓖 .A) (𝓜 .mem) (𝓡 .run))) 𝓜 𝓡 code.env #decide decide-def.routine code.calls-sitting·submitting (decide-thm.met 𝓤 H 𝓜 𝓖 𝓡))
-    (cited 𝓤 H (tripleOf 𝓤 H (𝓖 .A) put.signature (put.spec 𝓤 H (𝓖 .A) (𝓜 .mem) (𝓡 .run))) 𝓜 𝓡 code.env #put put-def.routine code.calls-seats·put (put-thm.met 𝓤 H 𝓜 𝓖 𝓡)))
+    (put-known 𝓤 H 𝓜 𝓖 𝓡 code.env code.calls-seats·put))
