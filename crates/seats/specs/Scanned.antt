@@ -2,7 +2,7 @@
 use Prim.Native.Nat.{ℕ}
 use mathlib.Core.List.{List, _++_}
 use lib.ListN.{length, getD, take, drop, replicate}
-use Rattle.lists.specs.FirstPlace.{occurs, firstPlace}
+use Rattle.lists.specs.FirstPlace.{firstPlace}
 use Rattle.model.specs.declared.Seat.{Seat}
 use Rattle.model.specs.SittingState.{seatsOf, isOf, emptySeat}
 use Rattle.seats.specs.declared.View.{View}
@@ -13,7 +13,7 @@ scanned c xs =
     record {
       at = firstPlace (isOf c) (seatsOf xs);
       end = firstPlace (isOf c) (seatsOf xs);
-      found = occurs (isOf c) (seatsOf xs);
+      n = length (seatsOf xs);
       len = length xs;
       seat = getD (seatsOf xs) (firstPlace (isOf c) (seatsOf xs)) emptySeat;
     }

@@ -20,14 +20,14 @@ use Rattle.seats.specs.Scanned.{scanned, emptied}
 
 -- The view of a list of the given length before the first seat is seen.
 abbrev pub startOf : ℕ → View
-startOf len = record { at = 0; end = min seatLimit len; found = false; len = len; seat = emptySeat }
+startOf len = record { at = 0; end = min seatLimit len; n = min seatLimit len; len = len; seat = emptySeat }
 
 -- The view for candidate c once one more seat is seen.
 abbrev pub lookOf : View → Seat → (c : ℕ) → View
 lookOf v s c =
     cond (isOf c s)
-    (record { at = v .at; end = v .at; found = true; len = v .len; seat = s })
-    (record { at = v .at + 1; end = v .end; found = v .found; len = v .len; seat = v .seat })
+    (record { at = v .at; end = v .at; n = v .n; len = v .len; seat = s })
+    (record { at = v .at + 1; end = v .end; n = v .n; len = v .len; seat = v .seat })
 
 -- At each element before the first place the test fails, and there it holds.
 module _ (f : Seat → Bool) (d : Seat) where
@@ -73,7 +73,7 @@ module _ (c : ℕ) (xs : List Seat) where
 
   -- The view once j seats are passed, of which none is the candidate's.
   abbrev passed : ℕ → View
-  passed j = record { at = j; end = seats; found = false; len = length xs; seat = emptySeat }
+  passed j = record { at = j; end = seats; n = seats; len = length xs; seat = emptySeat }
 
   -- The place is one of the seats, or their number.
   place-within : place ≤ seats
@@ -118,11 +118,11 @@ module _ (c : ℕ) (xs : List Seat) where
       let inside : place < seats = place-inside (isOf c) (seatsOf xs) e in
       let own : isOf c (getD xs place emptySeat) ≡ true = ap (isOf c) (seat-in place inside) ∙ at-place (isOf c) emptySeat (seatsOf xs) e in
       let last : turns ≡ suc place = omega arith in
-      ap viewAt last ∙ next-view place (passed-is place (le-refl place)) ∙ rw (own, e) (ap (λ (s : Seat). record { at = place; end = place; found = true; len = length xs; seat = s }) (seat-in place inside)))
+      ap viewAt last ∙ next-view place (passed-is place (le-refl place)) ∙ rw own (ap (λ (s : Seat). record { at = place; end = place; n = seats; len = length xs; seat = s }) (seat-in place inside)))
       (λ (e : occurs (isOf c) (seatsOf xs) ≡ false).
       let none : place ≡ seats = place-beyond (isOf c) (seatsOf xs) e in
       let last : turns ≡ place = omega arith in
-      ap viewAt last ∙ passed-is place (le-refl place) ∙ rw (e, none, List·getD-eq-default (seatsOf xs) emptySeat (le-refl seats)))
+      ap viewAt last ∙ passed-is place (le-refl place) ∙ rw (none, List·getD-eq-default (seatsOf xs) emptySeat (le-refl seats)))
       (true-or-false (occurs (isOf c) (seatsOf xs)))
 
   module _ (j : ℕ) (h : j < turns) where

@@ -7,13 +7,13 @@ ghost use Rattle.model.specs.SittingState.{emptySeat};
 ghost use Rattle.seats.specs.Scanned.{scanned, emptied};
 ghost use Rattle.seats.specs.Scanning.{startOf, lookOf};
 
-// What a scan of the seats for a candidate tells: the first place of the candidate, which is the number of seats where there is none, whether
-// there is one, how many records the list has, and the candidate's record. `at` counts the seats that are passed so far, and the scan goes on
-// until it is `end`.
+// What a scan of the seats for a candidate tells: the first place of the candidate, which is the number of seats where there is none, how many
+// records are seats, how many the list has, and the candidate's record. `at` counts the seats that are passed so far, and the scan goes on until
+// it is `end`.
 pub struct View {
     pub at: usize,
     pub end: usize,
-    pub found: bool,
+    pub n: usize,
     pub len: usize,
     pub seat: Seat,
 }
@@ -44,12 +44,12 @@ fn empty_seat() -> Seat
 fn start(len: usize) -> View
     ensures { λ r. ⌜ r ≡ startOf len ⌝ }
 {
-    let end = smaller(32, len);
+    let n = smaller(32, len);
     let seat = empty_seat();
     View {
         at: 0,
-        end,
-        found: false,
+        end: n,
+        n,
         len,
         seat,
     }
@@ -64,7 +64,7 @@ fn look(v: View, s: Seat, candidate: u16) -> View
         return View {
             at: v.at,
             end: v.at,
-            found: true,
+            n: v.n,
             len: v.len,
             seat: s,
         };
@@ -73,7 +73,7 @@ fn look(v: View, s: Seat, candidate: u16) -> View
     View {
         at: v.at + 1,
         end: v.end,
-        found: v.found,
+        n: v.n,
         len: v.len,
         seat,
     }

@@ -9,7 +9,7 @@ use lib.Seq.{set-append-left, set-out}
 use lib.Dec.{eqb}
 use borrow.Author.Tests.{not-false}
 use Rattle.lists.specs.Tests.{or-right}
-use Rattle.lists.specs.FirstPlace.{occurs, firstPlace, changeFirst, place-inside, change-sets, occurs-map, place-map}
+use Rattle.lists.specs.FirstPlace.{occurs, firstPlace, changeFirst, occurs-place, place-inside, change-sets, occurs-map, place-map}
 use Rattle.model.specs.declared.Answer.{Answer}
 use Rattle.model.specs.declared.Answer.the-variants.{Cost, Refused}
 use Rattle.model.specs.declared.Seat.{Seat}
@@ -36,8 +36,8 @@ seen-agrees z xs c =
         same-allowance = refl;
         same-used = refl;
         same-least = refl;
-        same-full = ap not (sym (found 0));
-        same-seated = λ e. sym (found c);
+        same-full = ap not (sym (found 0 ∙ occurs-place (isOf 0) (seatsOf xs)));
+        same-seated = λ e. sym (found c ∙ occurs-place (isOf c) (seatsOf xs));
         same-lowest = λ e.
             ap (λ (p : Place). p .lowest) (sym
             (ap (λ (k : ℕ). getD (map placeOf (seatsOf xs)) k emptyPlace) (place-map placeOf (isOf c) (isFor c) (λ s. refl) (seatsOf xs))

@@ -3,7 +3,7 @@ use Prim.Native.Nat.{ℕ}
 use mathlib.Core.Path.{_≡_}
 use mathlib.Core.Bool.{Bool, not, _||_}
 use mathlib.Core.List.{[]}
-use lib.Dec.{eqb}
+use lib.Dec.{ltb, eqb}
 use Rattle.model.specs.declared.Refusal.{Refusal}
 use Rattle.model.specs.declared.Answer.{Answer}
 use Rattle.model.specs.declared.Answer.the-variants.{Cost, Refused}
@@ -29,14 +29,14 @@ seen z v w =
       allowance = z .allowance;
       used = z .submissions;
       least = z .least;
-      seated = λ c. v .found;
-      full = not (w .found);
+      seated = λ c. ltb (v .at) (v .n);
+      full = not (ltb (w .at) (w .n));
       lowest = λ c. lowestOf (v .seat);
     }
 
 -- A number names no seat, by a view for it.
 unfoldable pub unseated : View → ℕ → Bool
-unseated v c = eqb c 0 || not (v .found)
+unseated v c = eqb c 0 || not (ltb (v .at) (v .n))
 
 -- The place that an event changes: the first empty record, the candidate's, or none, which is said by the length of the list.
 unfoldable pub placeFor : (v w : View) → Event → ℕ

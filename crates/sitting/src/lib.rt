@@ -93,10 +93,10 @@ fn answer_seating(sitting: Sitting, caller: u16, candidate: u16, v: View, empty:
     if candidate == 0 {
         return Answer::Refused(Refusal::SeatUnavailable);
     }
-    if v.found {
+    if v.at < v.n {
         return Answer::Refused(Refusal::SeatUnavailable);
     }
-    if !empty.found {
+    if empty.n <= empty.at {
         return Answer::Refused(Refusal::SeatUnavailable);
     }
     Answer::Cost(0)
@@ -168,7 +168,7 @@ fn answer_on(
     if sitting.state != 1 {
         return uncounted(Refusal::NotPermitted, sitting);
     }
-    if !v.found {
+    if v.n <= v.at {
         return uncounted(Refusal::SeatUnavailable, sitting);
     }
     if sitting.allowance <= sitting.submissions {
@@ -258,7 +258,7 @@ fn answer_least(sitting: Sitting, caller: u16, v: View) -> Answer
     if sitting.state != 2 {
         return Answer::Refused(Refusal::NotPermitted);
     }
-    if !v.found {
+    if v.n <= v.at {
         return Answer::Refused(Refusal::SeatUnavailable);
     }
     Answer::Cost(sitting.least)
@@ -291,7 +291,7 @@ fn no_seat(candidate: u16, v: View) -> bool
     if candidate == 0 {
         return true;
     }
-    !v.found
+    !(v.at < v.n)
 }
 
 // Reads a candidate's lowest cost, by a view for this candidate: refusals 15 and 16.

@@ -1,4 +1,4 @@
-use borrow.Author.Tests.{eq-eqb, ne-eqb}
+use borrow.Author.Tests.{eq-eqb, ne-eqb, lt-ltb, le-ltb}
 use Rattle.model.specs.Acts.{actSpec}
 use Rattle.model.specs.Specs.{firstOf}
 use Rattle.model.specs.Sittings.{answerTo}
@@ -28,13 +28,13 @@ returns-4 : tie.Need-returns-4
 unfolding answerTo actSpec firstOf seen
 returns-4 c =
     let asked = c .before .before .before .before .before in
-    search (← closed-phase, eq-eqb, ne-eqb, c .if4 .taken, ← asked .before .is-unopened .ensures, asked .if1 .left)
+    search (← closed-phase, eq-eqb, ne-eqb, le-ltb, ← asked .before .is-unopened .ensures, asked .if1 .left)
 
 returns-5 : tie.Need-returns-5
 unfolding answerTo actSpec firstOf seen
 returns-5 c =
     let asked = c .before .before .before .before .before in
-    search (← closed-phase, eq-eqb, ne-eqb, c .if4 .left, ← asked .before .is-unopened .ensures, asked .if1 .left)
+    search (← closed-phase, eq-eqb, ne-eqb, lt-ltb, ← asked .before .is-unopened .ensures, asked .if1 .left)
 
 pub answer-least-spec : {M : Type 1} → statement M
 answer-least-spec = tie.close (tie.spec (λ c κs. search needs) returns returns-2 returns-3 returns-4 returns-5)

@@ -3,7 +3,7 @@ use Rattle.model.specs.Specs.{firstOf}
 use Rattle.laws.specs.SittingLaws.{submission-on-card}
 use Rattle.sitting.specs.Seen.{seen}
 use Rattle.sitting.proofs.Phases.{open-phase}
-use borrow.Author.Tests.{eq-eqb, ne-eqb, le-leb, lt-leb}
+use borrow.Author.Tests.{eq-eqb, ne-eqb, lt-ltb, le-ltb, le-leb, lt-leb}
 use Rattle.sitting.proofs.Submissions.{refused-answered, marked-answered}
 use borrow.Author.Needs.{needs}
 use Rattle.sitting.proofs.answer_on.Statement.{statement}
@@ -19,15 +19,15 @@ returns-2 c = search (refused-answered, submission-on-card, ← open-phase, ne-e
 
 returns-3 : tie.Need-returns-3
 unfolding submissionRefused firstOf seen
-returns-3 c = search (refused-answered, submission-on-card, ← open-phase, eq-eqb, ne-eqb, c .before .if3 .taken)
+returns-3 c = search (refused-answered, submission-on-card, ← open-phase, eq-eqb, ne-eqb, le-ltb)
 
 returns-4 : tie.Need-returns-4
 unfolding submissionRefused firstOf seen
-returns-4 c = search (refused-answered, submission-on-card, ← open-phase, eq-eqb, ne-eqb, c .before .before .before .if3 .left, le-leb)
+returns-4 c = search (refused-answered, submission-on-card, ← open-phase, eq-eqb, ne-eqb, lt-ltb, le-leb)
 
 returns-5 : tie.Need-returns-5
 unfolding firstOf seen
-returns-5 c = search (marked-answered, submission-on-card, ← open-phase, eq-eqb, ne-eqb, c .before .before .before .before .if3 .left, lt-leb)
+returns-5 c = search (marked-answered, submission-on-card, ← open-phase, eq-eqb, ne-eqb, lt-ltb, lt-leb)
 
 pub answer-on-spec : {M : Type 1} → statement M
 answer-on-spec =

@@ -1,4 +1,4 @@
-use borrow.Author.Tests.{eq-eqb, ne-eqb}
+use borrow.Author.Tests.{eq-eqb, ne-eqb, lt-ltb, le-ltb}
 use Rattle.model.specs.Acts.{actSpec}
 use Rattle.model.specs.Specs.{firstOf}
 use Rattle.model.specs.Sittings.{answerTo}
@@ -21,15 +21,15 @@ returns-3 c = search (← open-phase, eq-eqb)
 
 returns-4 : tie.Need-returns-4
 unfolding answerTo actSpec firstOf seen
-returns-4 c = search (← open-phase, eq-eqb, ne-eqb, c .if4 .taken)
+returns-4 c = search (← open-phase, eq-eqb, ne-eqb, lt-ltb)
 
 returns-5 : tie.Need-returns-5
 unfolding answerTo actSpec firstOf seen
-returns-5 c = search (← open-phase, eq-eqb, ne-eqb, c .before .before .if4 .left, c .if5 .taken)
+returns-5 c = search (← open-phase, eq-eqb, ne-eqb, le-ltb)
 
 returns-6 : tie.Need-returns-6
 unfolding answerTo actSpec firstOf seen
-returns-6 c = search (← open-phase, eq-eqb, ne-eqb, c .before .before .if4 .left, c .if5 .left)
+returns-6 c = search (← open-phase, eq-eqb, ne-eqb, lt-ltb, le-ltb)
 
 pub answer-seating-spec : {M : Type 1} → statement M
 answer-seating-spec = tie.close (tie.spec returns returns-2 returns-3 returns-4 returns-5 returns-6)
