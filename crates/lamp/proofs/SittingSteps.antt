@@ -1,5 +1,7 @@
 -- What the walks of the acts of a sitting share: the calls on the list of seats, and the ends of their contracts.
-use Rattle.seats.proofs.Kit.{_≡_, refl, List, [], _∷_, ℕ, URA, w16, w64, vint, vunit, SProp, ent, sep, id⊢, via, Lft, Share, ftrue, flft, Memory, Routine, Heap, Atoms, Fun, fact, Given, Item, ‵, _⊛_, prop, Step, step, set, RefT, slice-vals, nothing-tells, tables, Triple, tripleOf, cited}
+use Rattle.seats.proofs.Kit.{_≡_, refl, List, [], _∷_, ℕ, URA, w16, w64, vint, vunit, SProp, ent, sep, id⊢, via, Lft, Share, ftrue, flft, Memory, Routine, Heap, Atoms, Fun, fact, Given, Item, ‵, _⊛_, prop, Step, step, set, RefT, slice-vals, nothing-tells, tables, Triple, tripleOf, cited, u8, u16, plain, shrSliceOf, stay-dropped, goes-dropped, yes}
+use denote.Signature.{Slot, AllWithin}
+use denote.Triple.Walked.{Stay, Goes}
 use prog.Model.{Model}
 use prog.Routine.{Env}
 use contract.Running.{GhostRules, Running}
@@ -8,9 +10,10 @@ use contract.Monad.{factI, fact-use}
 use denote.Struct.Laws as LL
 use Rattle.model.specs.declared.Seat.{Seat}
 use Rattle.seats.specs.Scanned.{scanned, emptied}
+use Rattle.model.proofs.Sitting as Z
 use Rattle.seats.proofs.View as N
 use Rattle.seats.proofs.View.Laws as N′
-use Rattle.seats.proofs.Walk.{at-seat, Call, call-of}
+use Rattle.seats.proofs.Walk.{seat, at-seat, Call, call-of}
 use Rattle.seats.proofs.scan as scan
 use Rattle.seats.proofs.scan.Symbol as scan-def
 use Rattle.seats.proofs.scan.Met as scan-thm
@@ -64,3 +67,30 @@ module _ {M : Type 1} (𝓤 : URA M) (H : Heap 𝓤) (𝓜 : Model 𝓤 H) (𝓖
 
   pub put-known : γ put-def.name ≡ put-def.routine → Triple 𝓤 (tables 𝓤 H 𝓜 𝓡 γ .C put-def.name) (tripleOf 𝓤 H (𝓖 .A) put.signature (put.spec 𝓤 H (𝓖 .A) (𝓜 .mem) (𝓡 .run)))
   put-known e = cited 𝓤 H (tripleOf 𝓤 H (𝓖 .A) put.signature (put.spec 𝓤 H (𝓖 .A) (𝓜 .mem) (𝓡 .run))) 𝓜 𝓡 γ put-def.name put-def.routine e (put-thm.met 𝓤 H 𝓜 𝓖 𝓡)
+
+-- The parameters of an act: a sitting, numbers, shared bytes, a record. Nothing is had of them at exit.
+module _ {n : ℕ} where
+  abbrev pub a-sitting : Slot n
+  a-sitting = plain (λ _. Z.the-row)
+
+  abbrev pub a-number : Slot n
+  a-number = plain (λ _. u16)
+
+  abbrev pub a-byte : Slot n
+  a-byte = plain (λ _. u8)
+
+  abbrev pub a-seat : Slot n
+  a-seat = plain (λ _. seat)
+
+  abbrev pub gone : (s : Slot n) → Stay s yes
+  gone s = stay-dropped s yes
+
+module _ {M : Type 1} {𝓤 : URA M} {H : Heap 𝓤} {A : Atoms 𝓤} (W : Given 𝓤 H A) (n : ℕ) where
+  pub goes-sitting : Goes 𝓤 H A W n a-sitting yes (gone a-sitting)
+  goes-sitting = goes-dropped 𝓤 H A W n a-sitting yes (λ κs x f. refl)
+
+  pub goes-number : Goes 𝓤 H A W n a-number yes (gone a-number)
+  goes-number = goes-dropped 𝓤 H A W n a-number yes (λ κs x f. refl)
+
+  pub goes-shared : (j : ℕ) (ok : AllWithin n (j ∷ [])) (s : Slot n) → Goes 𝓤 H A W n (shrSliceOf (j ∷ []) ok s) yes (gone (shrSliceOf (j ∷ []) ok s))
+  goes-shared j ok s = goes-dropped 𝓤 H A W n (shrSliceOf (j ∷ []) ok s) yes (λ κs x f. refl)

@@ -1,6 +1,6 @@
 -- `lamp::lamp_sitting_open` meets its contract: a walk of its code, which calls the decision with the card and the two buffers, and gives the list to `empty_first`.
 use Rattle.seats.proofs.Kit.{_≡_, refl, _∙_, drop, some, ℕ, _<_, _^_, [], _∷_, List, length, URA, named, Lfts, Shares, w64, w16, vint, SProp, id⊢, ftrue, flft, Memory, Routine, Heap, Tables, WpFn, Atoms, Fun, givenOf, tables, tablesOf, fmOf, Given, ‵, _⊛_, _$_, _∵_, !, qed, Is, Room}
-use Rattle.seats.proofs.Kit.{move, frame, fsplit, fjoin, feqL, split, join, suffices, done, look, look-in, sub, whole, init, stop, hop, fld, from, addr, agg, of-opd, and-then, no-more, returns, enter, alloc1, alloc0, params1, pass1, pass0, owns, uint-vals, uint-tells, u8, u16, u64, RefT, MutSlice, ShrSlice, slice-vals, shr-slice-tells, shrSliceOf, mut-slice-tells, plain, nothing, Triple, Meets, tripleOf, entered, cited, Stays, stay-dropped, gave-slice, goes-dropped, goes-gave-slice, yes}
+use Rattle.seats.proofs.Kit.{move, frame, fsplit, fjoin, feqL, split, join, suffices, done, look, look-in, sub, whole, init, stop, hop, fld, from, addr, agg, of-opd, and-then, no-more, returns, enter, alloc1, alloc0, params1, pass1, pass0, owns, uint-vals, uint-tells, u8, u16, u64, RefT, MutSlice, ShrSlice, slice-vals, shr-slice-tells, shrSliceOf, mut-slice-tells, plain, nothing, Triple, Meets, tripleOf, entered, cited, Stays, gave-slice, goes-dropped, goes-gave-slice, yes, Tellss, Ises}
 use denote.Struct.Laws as LL
 use Rattle.model.specs.declared.Seat.{Seat}
 use Rattle.model.specs.declared.Sitting.{Sitting}
@@ -25,7 +25,7 @@ use Rattle.sitting.proofs.opening.Symbol as decide-def
 use Rattle.sitting.proofs.opening.Symbol.{name as #decide}
 use Rattle.sitting.proofs.opening.Met as decide-thm
 use Rattle.lamp.proofs.Promised.{opening-own-sheet, opening-least}
-use Rattle.lamp.proofs.SittingSteps.{to-empty, shown, also, says-all, both}
+use Rattle.lamp.proofs.SittingSteps.{to-empty, shown, also, says-all, both, a-sitting, a-number, a-byte, a-seat, gone, goes-sitting, goes-number, goes-shared}
 use Rattle.lamp.proofs.lamp_sitting_open.Key.{name as #f}
 use Rattle.lamp.proofs.lamp_sitting_open as f
 use Rattle.lamp.proofs.lamp_sitting_open.Statement as stated
@@ -33,19 +33,7 @@ use Rattle.lamp.proofs.lamp_sitting_open.Code as code
 
 -- At exit the lists have been given to the callees, and nothing is had of the other parameters.
 abbrev stayed : Stays (f.ended .signature .params) (f.ended .kept)
-stayed = (
-  stay-dropped (plain (λ _. Z.the-row)) yes,
-  (
-    stay-dropped (plain (λ _. u16)) yes,
-    (
-      stay-dropped (plain (λ _. u64)) yes,
-      (
-        stay-dropped (shrSliceOf (0 ∷ []) tt (plain (λ _. u8))) yes,
-        (gave-slice (1 ∷ []) tt (plain (λ _. u8)), (gave-slice (2 ∷ []) tt (plain (λ _. u8)), (gave-slice (3 ∷ []) tt (plain (λ _. seat)), tt))),
-      ),
-    ),
-  ),
-)
+stayed = (gone a-sitting, (gone a-number, (gone (plain (λ _. u64)), (gone (shrSliceOf (0 ∷ []) tt a-byte), (gave-slice (1 ∷ []) tt a-byte, (gave-slice (2 ∷ []) tt a-byte, (gave-slice (3 ∷ []) tt a-seat, tt)))))))
 
 module _ {M : Type 1} (𝓤 : URA M) (H : Heap 𝓤) (A : Atoms 𝓤) (mem : Memory → SProp 𝓤) (run : Routine → Fun 𝓤) (κs : Lfts 4) (qs : Shares 4) (z : Sitting) (d al : ℕ) (card plan work : RefT (List ℕ)) where
   -- The act.
@@ -75,50 +63,19 @@ module _ {M : Type 1} (𝓤 : URA M) (H : Heap 𝓤) (A : Atoms 𝓤) (mem : Mem
       (both 𝓤 (ws .1 .1 .1 .1 .0 ≡ planAtExit (actIn z [] act)) (ws .1 .1 .1 .1 .1 .0 ≡ workAtExit (actIn z [] act)) (id⊢ 𝓤 _)))
       (λ r ws e. e .0) O′.lowered (LL.tells O.the-type O′.the-laws)
 
+-- The lists that are lent as `&mut` are told by their values.
+lists-tell : (κs : Lfts 4) → let ts = MutSlice (named 1) (κs .1 .0) u8 ∷ MutSlice (named 2) (κs .1 .1 .0) u8 ∷ MutSlice (named 3) (κs .1 .1 .1 .0) seat ∷ [] in Tellss ts (Ises ts) (slice-vals, (slice-vals, (slice-vals, tt)))
+lists-tell κs = (mut-slice-tells (named 1) (κs .1 .0) u8, (mut-slice-tells (named 2) (κs .1 .1 .0) u8, (mut-slice-tells (named 3) (κs .1 .1 .1 .0) seat, tt)))
+
 -- The walk.
 meets : {M : Type 1} (𝓤 : URA M) (H : Heap 𝓤) (A : Atoms 𝓤) (mem : Memory → SProp 𝓤) (run : Routine → Fun 𝓤) (W : Given 𝓤 H A) (𝓣 : Tables 𝓤 H) →
     Triple 𝓤 (𝓣 .C #decide) (tripleOf 𝓤 H A decide.signature (decide.spec 𝓤 H A mem run)) → Triple 𝓤 (𝓣 .C #empty) (tripleOf 𝓤 H A empty.signature (empty.spec 𝓤 H A mem run)) →
     Meets 𝓤 H A f.signature (WpFn 𝓤 H (𝓣 .C) (𝓣 .Λ) code.function) (f.spec 𝓤 H A mem run)
 meets 𝓤 H A mem run W 𝓣 known-decide known-empty =
-    by-walk 𝓤 H A f.ended stayed W (
-      goes-dropped 𝓤 H A W 4 (plain (λ _. Z.the-row)) yes (λ κs x f. refl),
-      (
-        goes-dropped 𝓤 H A W 4 (plain (λ _. u16)) yes (λ κs x f. refl),
-        (
-          goes-dropped 𝓤 H A W 4 (plain (λ _. u64)) yes (λ κs x f. refl),
-          (
-            goes-dropped 𝓤 H A W 4 (shrSliceOf (0 ∷ []) tt (plain (λ _. u8))) yes (λ κs x f. refl),
-            (
-              goes-gave-slice 𝓤 H A W 4 1 tt (plain (λ _. u8)),
-              (
-                goes-gave-slice 𝓤 H A W 4 2 tt (plain (λ _. u8)),
-                (goes-gave-slice 𝓤 H A W 4 3 tt (plain (λ _. seat)), tt),
-              ),
-            ),
-          ),
-        ),
-      ),
-    ) (f.clauses 𝓤 H A mem run) 𝓣 code.function
+    by-walk 𝓤 H A f.ended stayed W (goes-sitting W 4, (goes-number W 4, (goes-dropped 𝓤 H A W 4 (plain (λ _. u64)) yes (λ κs x f. refl), (goes-shared W 4 0 tt a-byte, (goes-gave-slice 𝓤 H A W 4 1 tt a-byte, (goes-gave-slice 𝓤 H A W 4 2 tt a-byte, (goes-gave-slice 𝓤 H A W 4 3 tt a-seat, tt)))))))
+    (f.clauses 𝓤 H A mem run) 𝓣 code.function
     (λ κs. (LL.vals Z.the-type Z′.the-laws, (uint-vals w16, (uint-vals w64, (slice-vals, (slice-vals, (slice-vals, (slice-vals, tt))))))))
-    (λ κs. (
-      LL.tells Z.the-type Z′.the-laws,
-      (
-        uint-tells w16,
-        (
-          uint-tells w64,
-          (
-            shr-slice-tells (named 0) (κs .0) u8,
-            (
-              mut-slice-tells (named 1) (κs .1 .0) u8,
-              (
-                mut-slice-tells (named 2) (κs .1 .1 .0) u8,
-                (mut-slice-tells (named 3) (κs .1 .1 .1 .0) seat, tt),
-              ),
-            ),
-          ),
-        ),
-      ),
-    )) (λ κs qs bounds a g are ends.
+    (λ κs. (LL.tells Z.the-type Z′.the-laws, (uint-tells w16, (uint-tells w64, (shr-slice-tells (named 0) (κs .0) u8, lists-tell κs))))) (λ κs qs bounds a g are ends.
     let z : Sitting = a .0 in
     let d : ℕ = a .1 .0 in
     let al : ℕ = a .1 .1 .0 in

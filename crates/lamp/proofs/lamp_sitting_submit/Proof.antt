@@ -1,6 +1,6 @@
 -- `lamp::lamp_sitting_submit` meets its contract: a walk of its code, which lends the list to `scan`, calls the decision, and gives the list to `put`.
 use Rattle.seats.proofs.Kit.{_≡_, refl, _∙_, drop, some, ℕ, _<_, _^_, [], _∷_, List, length, URA, named, fullShare, Lft, Share, w64, w16, vint, SProp, id⊢, ftrue, flft, Memory, Routine, Heap, Tables, WpFn, Atoms, Fun, givenOf, tables, tablesOf, fmOf, Given, ‵, _⊛_, _$_, _∵_, !, qed, Is, Room}
-use Rattle.seats.proofs.Kit.{move, frame, fsplit, fjoin, feqL, split, join, suffices, done, look, look-in, sub, whole, init, stop, hop, fld, from, addr, agg, of-opd, and-then, no-more, returns, enter, alloc1, alloc0, params1, pass1, pass0, owns, uint-vals, uint-tells, u8, u16, RefT, MutSlice, ShrSlice, slice-vals, shr-slice-tells, shrSliceOf, mut-slice-tells, plain, nothing, Triple, Meets, tripleOf, entered, cited, Stays, stay-dropped, gave-slice, goes-dropped, goes-gave-slice, yes}
+use Rattle.seats.proofs.Kit.{move, frame, fsplit, fjoin, feqL, split, join, suffices, done, look, look-in, sub, whole, init, stop, hop, fld, from, addr, agg, of-opd, and-then, no-more, returns, enter, alloc1, alloc0, params1, pass1, pass0, owns, uint-vals, uint-tells, u8, u16, RefT, MutSlice, ShrSlice, slice-vals, shr-slice-tells, shrSliceOf, mut-slice-tells, nothing, Triple, Meets, tripleOf, entered, cited, Stays, gave-slice, goes-gave-slice, yes}
 use denote.Struct.Laws as LL
 use Rattle.model.specs.declared.Seat.{Seat}
 use Rattle.model.specs.declared.Sitting.{Sitting}
@@ -29,7 +29,7 @@ use Rattle.sitting.proofs.submitting as decide
 use Rattle.sitting.proofs.submitting.Symbol as decide-def
 use Rattle.sitting.proofs.submitting.Symbol.{name as #decide}
 use Rattle.sitting.proofs.submitting.Met as decide-thm
-use Rattle.lamp.proofs.SittingSteps.{to-scan, to-put, shown, also, says-all, scan-known, put-known}
+use Rattle.lamp.proofs.SittingSteps.{to-scan, to-put, shown, also, says-all, a-sitting, a-number, a-byte, a-seat, gone, goes-sitting, goes-number, goes-shared, scan-known, put-known}
 use Rattle.lamp.proofs.lamp_sitting_submit.Key.{name as #f}
 use Rattle.lamp.proofs.lamp_sitting_submit as f
 use Rattle.lamp.proofs.lamp_sitting_submit.Statement as stated
@@ -37,19 +37,7 @@ use Rattle.lamp.proofs.lamp_sitting_submit.Code as code
 
 -- At exit the list has been given to `put`, and nothing is had of the other parameters.
 abbrev stayed : Stays (f.ended .signature .params) (f.ended .kept)
-stayed = (
-  stay-dropped (plain (λ _. Z.the-row)) yes,
-  (
-    stay-dropped (plain (λ _. u16)) yes,
-    (
-      stay-dropped (shrSliceOf (0 ∷ []) tt (plain (λ _. u8))) yes,
-      (
-        stay-dropped (shrSliceOf (1 ∷ []) tt (plain (λ _. u8))) yes,
-        (gave-slice (2 ∷ []) tt (plain (λ _. seat)), tt),
-      ),
-    ),
-  ),
-)
+stayed = (gone a-sitting, (gone a-number, (gone (shrSliceOf (0 ∷ []) tt a-byte), (gone (shrSliceOf (1 ∷ []) tt a-byte), (gave-slice (2 ∷ []) tt a-seat, tt)))))
 
 -- The call of the decision.
 abbrev to-decide : {M : Type 1} (𝓤 : URA M) (H : Heap 𝓤) (A : Atoms 𝓤) (mem : Memory → SProp 𝓤) (run : Routine → Fun 𝓤) (κ κ′ : Lft) (q q′ : Share) (z : Sitting) (d : ℕ) (v : View) (card sheet : RefT (List ℕ)) → Call 𝓤 H A
@@ -64,16 +52,8 @@ meets : {M : Type 1} (𝓤 : URA M) (H : Heap 𝓤) (A : Atoms 𝓤) (mem : Memo
     Triple 𝓤 (𝓣 .C #scan) (tripleOf 𝓤 H A scan.signature (scan.spec 𝓤 H A mem run)) → Triple 𝓤 (𝓣 .C #decide) (tripleOf 𝓤 H A decide.signature (decide.spec 𝓤 H A mem run)) →
     Triple 𝓤 (𝓣 .C #put) (tripleOf 𝓤 H A put.signature (put.spec 𝓤 H A mem run)) → Meets 𝓤 H A f.signature (WpFn 𝓤 H (𝓣 .C) (𝓣 .Λ) code.function) (f.spec 𝓤 H A mem run)
 meets 𝓤 H A mem run W 𝓣 known-scan known-decide known-put =
-    by-walk 𝓤 H A f.ended stayed W (
-      goes-dropped 𝓤 H A W 3 (plain (λ _. Z.the-row)) yes (λ κs x f. refl),
-      (
-        goes-dropped 𝓤 H A W 3 (plain (λ _. u16)) yes (λ κs x f. refl),
-        (
-          goes-dropped 𝓤 H A W 3 (shrSliceOf (0 ∷ []) tt (plain (λ _. u8))) yes (λ κs x f. refl),
-          (goes-dropped 𝓤 H A W 3 (shrSliceOf (1 ∷ []) tt (plain (λ _. u8))) yes (λ κs x f. refl), (goes-gave-slice 𝓤 H A W 3 2 tt (plain (λ _. seat)), tt)),
-        ),
-      ),
-    ) (f.clauses 𝓤 H A mem run) 𝓣 code.function
+    by-walk 𝓤 H A f.ended stayed W (goes-sitting W 3, (goes-number W 3, (goes-shared W 3 0 tt a-byte, (goes-shared W 3 1 tt a-byte, (goes-gave-slice 𝓤 H A W 3 2 tt a-seat, tt)))))
+    (f.clauses 𝓤 H A mem run) 𝓣 code.function
     (λ κs. (LL.vals Z.the-type Z′.the-laws, (uint-vals w16, (slice-vals, (slice-vals, (slice-vals, tt))))))
     (λ κs. (LL.tells Z.the-type Z′.the-laws, (uint-tells w16, (shr-slice-tells (named 0) (κs .0) u8, (shr-slice-tells (named 1) (κs .1 .0) u8, (mut-slice-tells (named 2) (κs .1 .1 .0) seat, tt)))))) (λ κs qs bounds a g are ends.
     let z : Sitting = a .0 in
