@@ -1,12 +1,13 @@
 -- The planner over a list, by its tests: what is a planner's in general is applied to it.
 use Prim.Native.Nat.{ℕ, _*_}
 use mathlib.Core.Path.{_≡_, refl}
-use mathlib.Core.Bool.{Bool, true, false}
+use mathlib.Core.Bool.{Bool, true, false, not}
 use mathlib.Core.List.{List}
 use native.Mathlib.Omega.{arith}
 use lib.ListN.{length}
 use mir.Syntax.{w64}
 use mir.Val.{Fits}
+use Rattle.lists.specs.Tests.{test-failed, test-passed}
 use Rattle.model.specs.declared.Refusal.the-variants.{BufferTooShort, CountList}
 use Rattle.model.specs.declared.Answer.the-variants.{Cost, Refused}
 use Rattle.model.specs.Instance.{instanceOf}
@@ -21,31 +22,34 @@ use Rattle.planners.specs.PlannerRequires.{CountsReady, eitherShort, shortFor}
 use Rattle.planners.proofs.Searched.{LeastWritten}
 use Rattle.planners.proofs.Planning.{buffers-given, counts-ready, plan-written, Planned, plan-unlisted, plan-short, plan-done}
 
-module _ (l : List ℕ) (r : ℕ) (s p w : List ℕ) {h : Header} (ready : Ready s h) where
+module _ (l : List ℕ) (r : ℕ) {s : List ℕ} {h : Header} (ready : Ready s h) {kept : Bool} (rules : kept ≡ keepsRules l r (h .modules)) where
   abbrev k : Planner
   k = listed l r
 
-  pub broken : keepsRules l r (h .modules) ≡ false → Planned k s p w (Refused CountList) p w
-  broken e = plan-unlisted k s p w ready (rw (ready .header .modules-is) at e)
+  same-rules : kept ≡ keepsRules l r (instanceOf s .modules)
+  same-rules = rw (ready .header .modules-is) at rules
 
-  module _ (kept : keepsRules l r (h .modules) ≡ true) where
+  pub broken : (p w : List ℕ) → not kept ≡ true → Planned k s p w (Refused CountList) p w
+  broken p w no-rules = plan-unlisted k s p w ready (test-failed same-rules no-rules)
+
+  module _ (passed : not kept ≡ false) where
     keeps : KeepsRules k (instanceOf s)
-    keeps = rw (ready .header .modules-is) at kept
+    keeps = test-passed same-rules passed
 
     -- The work bytes asked for are one for each entry and slot, and no more than 64 bits can count.
     pub asked-fits : Fits w64 (length l * h .slots)
-    asked-fits = product-fits ready (length l) (omega (arith, rules-hold l r _ kept .1))
+    asked-fits = product-fits ready (length l) (omega (arith, rules-hold l r _ keeps .1))
 
     asked-is : length l * h .slots ≡ workBytes k (instanceOf s)
     unfolding workBytes
     asked-is = rw (ready .header .slots-is)
 
-    module _ {short : Bool} (is : short ≡ eitherShort (length l * h .slots) (instanceOf s) (length p) (length w)) where
+    module _ (p w : List ℕ) {short : Bool} (is : short ≡ eitherShort (length l * h .slots) (instanceOf s) (length p) (length w)) where
       same : short ≡ shortFor k (instanceOf s) (length p) (length w)
       same = rw asked-is at is
 
       pub too-short : short ≡ true → Planned k s p w (Refused BufferTooShort) p w
-      too-short e = plan-short k s p w ready keeps same e
+      too-short = plan-short k s p w ready keeps same
 
       module _ (none : short ≡ false) where
         own : l ≡ allowedCounts k (instanceOf s .modules)

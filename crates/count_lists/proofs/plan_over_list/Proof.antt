@@ -22,10 +22,14 @@ slice-aggregate-plan-over : tie.Need-slice-aggregate-plan-over
 slice-aggregate-plan-over c = copy-length _ _ (c .before .before .widen .ensures)
 
 plan-over-requires : tie.Need-plan-over-requires
-plan-over-requires c κs = let copied = c .before .before .before .before in rw (copy-is _ _ (copied .widen .ensures)) (copied .before .before .before .before .before .before .pre)
+plan-over-requires c κs =
+    let copied = c .before .before .before .before in
+    rw (copy-is _ _ (copied .widen .ensures)) (copied .before .before .before .before .before .before .pre)
 
 returns : tie.Need-returns
-returns c = let found = c .before .before .before .before in rw (copy-is _ _ (found .before .before .before .before .before .widen .ensures)) at (found .plan-over .ensures)
+returns c =
+    let found = c .before .before .before .before in
+    rw (copy-is _ _ (found .before .before .before .before .before .widen .ensures)) at (found .plan-over .ensures)
 
 pub plan-over-list-spec : {M : Type 1} → statement M
 plan-over-list-spec =

@@ -31,4 +31,5 @@ returns-3 c =
 
 pub explain-on-spec : {M : Type 1} → statement M
 explain-on-spec =
-    tie.close (tie.spec (λ c κs. search needs) (λ c κs. search needs) returns (λ c κs. search needs) (λ c. search needs) points-of-requires (λ c. search needs) (λ c κs. search needs) (λ c. search needs) returns-2 returns-3)
+    tie.close (tie.spec (λ c κs. search needs) (λ c κs. search needs) returns (λ c κs. search needs) (λ c. search needs) points-of-requires
+    (λ c. search needs) (λ c κs. search needs) (λ c. search needs) returns-2 returns-3)

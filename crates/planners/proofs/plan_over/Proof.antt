@@ -11,18 +11,6 @@ slice-aggregate-search c = sym (length-take-le _ _ (search plan-long))
 slice-aggregate-search-2 : tie.Need-slice-aggregate-search-2
 slice-aggregate-search-2 c = sym (length-take-le _ _ (search work-long))
 
-search-requires : tie.Need-search-requires
-search-requires c κs = search searchable
-
-slice-reshare-prefix-plan-cost : tie.Need-slice-reshare-prefix-plan-cost
-slice-reshare-prefix-plan-cost c = search made-within
-
-slice-aggregate-plan-cost : tie.Need-slice-aggregate-plan-cost
-slice-aggregate-plan-cost c = search made-length
-
-plan-cost-requires : tie.Need-plan-cost-requires
-plan-cost-requires c κs = search made-ready
-
 returns : tie.Need-returns
 returns c =
     let found = c .before .before .before .before .before .before in
@@ -30,5 +18,6 @@ returns c =
 
 pub plan-over-spec : {M : Type 1} → statement M
 plan-over-spec =
-    tie.close (tie.spec (λ c. search plan-long) slice-aggregate-search (λ c. search work-long) slice-aggregate-search-2 search-requires
-    slice-reshare-prefix-plan-cost slice-aggregate-plan-cost plan-cost-requires (λ c. search needs) (λ c. search needs) returns)
+    tie.close
+    (tie.spec (λ c. search plan-long) slice-aggregate-search (λ c. search work-long) slice-aggregate-search-2 (λ c κs. search searchable)
+    (λ c. search made-within) (λ c. search made-length) (λ c κs. search made-ready) (λ c. search needs) (λ c. search needs) returns)

@@ -4,19 +4,13 @@ use borrow.Author.Needs.{needs}
 use Rattle.planners.proofs.plan_show.Statement.{statement}
 use Rattle.planners.proofs.plan_show.Tie as tie
 
-check-requires : tie.Need-check-requires
-check-requires c κs = search needs
-
 plan-show-on-requires : tie.Need-plan-show-on-requires
 plan-show-on-requires c κs = search ready
-
-returns : tie.Need-returns
-returns c = search needs
 
 returns-2 : tie.Need-returns-2
 returns-2 c = plan-refused _ _ _ _ (c .before .before .before .check .ensures) (c .before .x .given .1)
 
 pub plan-show-spec : {M : Type 1} → statement M
 plan-show-spec =
-    tie.close (tie.spec check-requires (λ c. search needs) plan-show-on-requires (λ c. search needs) (λ c. search needs) (λ c. search needs)
-    returns returns-2)
+    tie.close (tie.spec (λ c κs. search needs) (λ c. search needs) plan-show-on-requires (λ c. search needs) (λ c. search needs)
+    (λ c. search needs) (λ c. search needs) returns-2)

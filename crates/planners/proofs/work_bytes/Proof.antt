@@ -4,12 +4,6 @@ use borrow.Author.Needs.{needs}
 use Rattle.planners.proofs.work_bytes.Statement.{statement}
 use Rattle.planners.proofs.work_bytes.Tie as tie
 
-enum-told : tie.Need-enum-told
-enum-told c = search needs
-
-mul-result : tie.Need-mul-result
-mul-result c = search work-size-fits
-
 returns : tie.Need-returns
 unfolding workBytes
 returns c = rw (c .before .before .enum-told .given .1) (search exact-size)
@@ -19,4 +13,6 @@ unfolding workBytes
 returns-2 c = rw (c .before .enum-told2 .given .1) (search coarse-size)
 
 pub work-bytes-spec : {M : Type 1} → statement M
-work-bytes-spec = tie.close (tie.spec enum-told (λ c. search needs) mul-result (λ c. search needs) (λ c. search needs) returns returns-2)
+work-bytes-spec =
+    tie.close (tie.spec (λ c. search needs) (λ c. search needs) (λ c. search work-size-fits) (λ c. search needs) (λ c. search needs) returns
+    returns-2)
