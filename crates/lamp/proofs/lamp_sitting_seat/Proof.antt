@@ -1,6 +1,6 @@
 -- `lamp::lamp_sitting_seat` meets its contract: a walk of its code, which lends the list to `scan` twice, calls the decision, and gives the list to `put`.
 use Rattle.seats.proofs.Kit.{_≡_, refl, _∙_, drop, some, ℕ, _<_, _^_, [], _∷_, List, length, URA, named, fullShare, w64, w16, vint, SProp, id⊢, ftrue, flft, Memory, Routine, Heap, Tables, WpFn, Atoms, Fun, givenOf, tables, tablesOf, fmOf, Given, ‵, _⊛_, _$_, _∵_, !, qed, Is, Room, lit, lit<}
-use Rattle.seats.proofs.Kit.{move, frame, fsplit, fjoin, feqL, suffices, done, look, look-in, sub, whole, init, stop, hop, fld, from, addr, agg, of-opd, and-then, no-more, returns, enter, alloc1, alloc0, params1, pass1, pass0, owns, uint-vals, uint-tells, u16, RefT, MutSlice, slice-vals, mut-slice-tells, nothing, Triple, Meets, tripleOf, entered, cited, Stays, gave-slice, goes-gave-slice, yes}
+use Rattle.seats.proofs.Kit.{move, frame, fsplit, fjoin, feqL, suffices, done, look, look-in, sub, whole, init, stop, hop, fld, from, addr, agg, of-opd, and-then, no-more, returns, enter, alloc1, alloc0, params1, pass1, pass0, owns, uint-vals, uint-tells, u16, RefT, MutSlice, slice-vals, mut-slice-tells, nothing, Triple, Meets, tripleOf, entered, cited, Stays, gave-slice, goes-gave-slice}
 use denote.Struct.Laws as LL
 use Rattle.model.specs.declared.Seat.{Seat}
 use Rattle.model.specs.declared.Sitting.{Sitting}
