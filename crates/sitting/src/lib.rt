@@ -11,19 +11,19 @@ ghost use Rattle.model.specs.Acts.{isUnopened};
 ghost use Rattle.model.specs.SittingState.{phaseOf};
 ghost use Rattle.sitting.specs.Seen.{replyGiving, unchangedOf};
 
-mod open;
-mod seat;
 mod close;
-mod submit;
+mod open;
 mod read;
+mod seat;
+mod submit;
 
-pub use open::opening;
-pub use seat::seating;
 pub use close::closing;
-pub use submit::submitting;
+pub use open::opening;
 pub use read::reading_least;
 pub use read::reading_lowest;
 pub use read::reading_used;
+pub use seat::seating;
+pub use submit::submitting;
 
 // What an act that may change the list of seats does: the place of a record, what it becomes, and the reply. Where no record changes, the
 // place is the length of the list.

@@ -1,8 +1,8 @@
 // Opening a sitting: refusals 1 to 8, 10, 15 and 17, and then as the exact planner.
-use card::Checked;
-use card::Header;
 use crate::OpenOutcome;
 use crate::reply_giving;
+use card::Checked;
+use card::Header;
 use model::Answer;
 use model::Refusal;
 use model::Sitting;

@@ -1,9 +1,9 @@
 // Submitting a sheet: refusals 1 to 8, 15 to 17, and then as marking.
-use card::Checked;
-use card::Header;
 use crate::Outcome;
 use crate::reply_giving;
 use crate::unchanged;
+use card::Checked;
+use card::Header;
 use model::Answer;
 use model::Refusal;
 use model::Seat;
