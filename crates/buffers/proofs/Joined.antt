@@ -1,7 +1,5 @@
 -- A number of v + w bytes is written as its v lowest bytes and then as the w bytes of what is left of it.
-use Prim.Native.Nat.{ℕ, _+_, _/_, _^_}
-use mathlib.Core.List.{List}
-use native.Mathlib.Omega.{arith}
+use Rattle.lists.specs.Core.{ℕ, _+_, _/_, _^_, List, arith}
 use Rattle.lists.specs.Bytes.{bytesOf, bytes-join, length-bytes}
 use Rattle.lists.specs.Writing.{Room, Written, room-less, written-more}
 

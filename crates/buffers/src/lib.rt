@@ -1,7 +1,5 @@
 // Writing bytes into a lent area. A function that writes from a place on returns the place after what it wrote.
-ghost use mathlib.Core.Path.{_≡_};
-ghost use mathlib.Core.List.{[], _∷_};
-ghost use lib.ListN.{length, replicate};
+ghost use Rattle.lists.specs.Core.{_≡_, [], _∷_, length, replicate};
 ghost use Rattle.lists.specs.Bytes.{bytesOf};
 ghost use Rattle.lists.specs.Rows.{elementBytes};
 ghost use Rattle.lists.specs.Writing.{Room, Written};

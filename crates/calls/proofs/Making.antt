@@ -1,11 +1,5 @@
 -- The answer of the sheet call, by its tests on the buffer and the plan, and the sheet buffer at exit.
-use Prim.Native.Nat.{ℕ, _*_, _≤_, _<_}
-use mathlib.Core.Path.{_≡_, refl, sym, ap, _∙_}
-use mathlib.Core.Bool.{true, false}
-use mathlib.Core.List.{List}
-use native.Mathlib.Omega.{arith}
-use lib.ListN.{length}
-use borrow.Author.Tests.{lt-ltb, le-ltb, eq-eqb, ne-eqb, leb-true}
+use Rattle.lists.specs.Core.{ℕ, _*_, _≤_, _<_, _≡_, refl, sym, ap, _∙_, true, false, List, arith, length, lt-ltb, le-ltb, eq-eqb, ne-eqb, leb-true}
 use Rattle.lists.specs.Tests.{every-at}
 use Rattle.lists.specs.Lists.{writtenOver}
 use Rattle.model.specs.declared.Refusal.{Refusal}

@@ -1,10 +1,5 @@
 -- The answer of marking, by its tests.
-use Prim.Native.Nat.{ℕ, _*_}
-use mathlib.Core.Path.{_≡_, sym, ap, _∙_}
-use mathlib.Core.Bool.{true, false}
-use mathlib.Core.List.{List}
-use lib.ListN.{length}
-use borrow.Author.Tests.{eq-eqb, ne-eqb}
+use Rattle.lists.specs.Core.{ℕ, _*_, _≡_, sym, ap, _∙_, true, false, List, length, eq-eqb, ne-eqb}
 use Rattle.model.specs.declared.Refusal.{Refusal}
 use Rattle.model.specs.declared.Refusal.the-variants.{WrongLength, EntryRange, LoadNotServed}
 use Rattle.model.specs.declared.Answer.the-variants.{Cost, Refused}

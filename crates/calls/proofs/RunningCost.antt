@@ -1,12 +1,7 @@
 -- The answer of the call for the running cost, by its tests.
-use Prim.Native.Nat.{ℕ, _*_, _≤_, _<_}
-use mathlib.Core.Path.{_≡_, sym, ap, _∙_}
-use mathlib.Core.List.{List}
-use native.Mathlib.Nat.{mul-le-mul}
-use native.Mathlib.Omega.{arith}
+use Rattle.lists.specs.Core.{ℕ, _*_, _≤_, _<_, _≡_, sym, ap, _∙_, List, mul-le-mul, arith, le-leb, lt-leb}
 use mir.Syntax.{w64}
 use mir.Val.{Fits}
-use borrow.Author.Tests.{le-leb, lt-leb}
 use Rattle.model.specs.declared.Refusal.{Refusal}
 use Rattle.model.specs.declared.Refusal.the-variants.{EntryRange, LoadNotServed}
 use Rattle.model.specs.declared.Answer.the-variants.{Cost, Refused}

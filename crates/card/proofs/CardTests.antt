@@ -1,11 +1,6 @@
 -- What the tests of a card look at, and the refusal that each way through the checks gives.
-use Prim.Native.Nat.{ℕ, _≤_, _<_}
-use mathlib.Core.Path.{_≡_, refl, sym, _∙_}
-use mathlib.Core.Bool.{Bool, true, false, _&&_}
-use mathlib.Core.List.{List}
-use lib.ListN.{length}
-use lib.Dec.{leb}
-use borrow.Author.Tests.{lt-ltb, le-ltb, ltb-false, le-leb, lt-leb, eq-eqb, ne-eqb, eqb-true, not-false}
+use Rattle.lists.specs.Core.{ℕ, _≤_, _<_, _≡_, refl, sym, _∙_, Bool, true, false, _&&_, List, length, leb, lt-ltb, le-ltb, ltb-false, le-leb, lt-leb}
+use Rattle.lists.specs.Core.{eq-eqb, ne-eqb, eqb-true, not-false}
 use Rattle.lists.specs.Lists.{sameList}
 use Rattle.lists.specs.Tests.{or-left}
 use Rattle.model.specs.declared.Refusal.the-variants.{NotACard, Version, RackSize, SlotCount, CardLength, PriceRange, NotConvex, LoadRange}

@@ -1,10 +1,5 @@
 -- Taking a number in one byte, and in twice as many bytes: one law over the width.
-use Prim.Native.Nat.{ℕ, _+_, _*_, _^_, _<_}
-use mathlib.Core.Path.{_≡_, sym, _∙_, ap}
-use mathlib.Core.List.{List}
-use native.Mathlib.Nat.{mul-le-mul-left}
-use native.Mathlib.Omega.{arith}
-use lib.ListN.{getD}
+use Rattle.lists.specs.Core.{ℕ, _+_, _*_, _^_, _<_, _≡_, sym, _∙_, ap, List, mul-le-mul-left, arith, getD}
 use lib.Pow.{pow-add}
 use Rattle.lists.specs.Bytes.{littleEndian, little-one, little-join}
 use Rattle.card.specs.Fields.{ReadAt}

@@ -1,10 +1,5 @@
 -- The lowest step of a convex table, found by going up as long as the table falls.
-use Prim.Native.Nat.{ℕ, _+_, _≤_, _<_, max}
-use mathlib.Core.Path.{_≡_, sym, _∙_}
-use mathlib.Core.List.{List}
-use mathlib.Core.Logic.{⊎-elim}
-use native.Mathlib.Nat.{le-of-lt, max-eq-left, max-eq-right}
-use native.Mathlib.Omega.{arith}
+use Rattle.lists.specs.Core.{ℕ, _+_, _≤_, _<_, max, _≡_, sym, _∙_, List, ⊎-elim, le-of-lt, max-eq-left, max-eq-right, arith}
 use Rattle.lists.specs.Numbers.{le-or-lt}
 use Rattle.lists.specs.Ranges.{LeastAt}
 use Rattle.model.specs.Instance.{instanceOf}

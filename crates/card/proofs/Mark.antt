@@ -1,13 +1,5 @@
 -- The mark, one byte at a time.
-use Prim.Native.Nat.{ℕ, _≤_}
-use mathlib.Core.Path.{_≡_, _∙_}
-use mathlib.Core.Bool.{false, _&&_, and-true}
-use mathlib.Core.List.{List, [], _∷_}
-use native.Mathlib.Nat.{not-suc-le-zero}
-use native.Mathlib.Omega.{arith}
-use lib.ListN.{length, getD}
-use lib.Dec.{eqb}
-use borrow.Author.Tests.{eq-eqb, ne-eqb}
+use Rattle.lists.specs.Core.{ℕ, _≤_, _≡_, _∙_, false, _&&_, and-true, List, [], _∷_, not-suc-le-zero, arith, length, getD, eqb, eq-eqb, ne-eqb}
 use Rattle.lists.specs.Lists.{sameList}
 use Rattle.lists.specs.Bytes.{little-one}
 use Rattle.model.specs.Instance.{headLength, markOf, cardMark}

@@ -1,9 +1,5 @@
 -- The sizes that a header gives are those of its card, and small.
-use Prim.Native.Nat.{ℕ, _+_, _*_, _≤_}
-use mathlib.Core.Path.{_≡_}
-use mathlib.Core.List.{List}
-use native.Mathlib.Nat.{mul-le-mul}
-use native.Mathlib.Omega.{arith}
+use Rattle.lists.specs.Core.{ℕ, _+_, _*_, _≤_, _≡_, List, mul-le-mul, arith}
 use mir.Syntax.{w64}
 use mir.Val.{Fits}
 use Rattle.model.specs.Instance.{instanceOf}

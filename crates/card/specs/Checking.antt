@@ -1,8 +1,5 @@
 -- What checking a card gives, `checkedOf`, and an accepted card with its header, `Ready`, which the crates above ask for.
-use Prim.Native.Nat.{ℕ, _+_, _≤_}
-use mathlib.Core.Path.{_≡_}
-use mathlib.Core.Bool.{Bool, true, _&&_}
-use mathlib.Core.List.{List}
+use Rattle.lists.specs.Core.{ℕ, _+_, _≤_, _≡_, Bool, true, _&&_, List}
 use Rattle.model.specs.declared.Answer.{Answer}
 use Rattle.model.specs.declared.Answer.the-variants.{Cost, Refused}
 use Rattle.model.specs.Instance.{instanceOf, rackNumber, convex}

@@ -1,8 +1,5 @@
 -- What reading a card's bytes gives: numbers, the header, entries of the table and loads.
-use Prim.Native.Nat.{ℕ, _+_, _^_, _≤_, _<_}
-use mathlib.Core.Path.{_≡_}
-use mathlib.Core.List.{List}
-use lib.ListN.{length}
+use Rattle.lists.specs.Core.{ℕ, _+_, _^_, _≤_, _<_, _≡_, List, length}
 use Rattle.lists.specs.Bytes.{littleEndian}
 use Rattle.model.specs.Instance.{instanceOf, loadPlace}
 use Rattle.card.specs.declared.Header.{Header}

@@ -1,9 +1,7 @@
 // The show card: a cursor that takes numbers from its bytes, and the checks behind refusals 1 to 8.
 use model::Answer;
 use model::Refusal;
-ghost use mathlib.Core.Path.{_≡_};
-ghost use Prim.Native.Nat.{_+_, _≤_};
-ghost use lib.ListN.{length};
+ghost use Rattle.lists.specs.Core.{_≡_, _+_, _≤_, length};
 ghost use Rattle.lists.specs.Lists.{sameList};
 ghost use Rattle.model.specs.Instance.{instanceOf, headLength, loadPlace, markOf, cardMark, versionOf, rackNumber};
 ghost use Rattle.model.specs.Instance.{convexAt, convex, tableInRange, loadsInRange};

@@ -1,12 +1,6 @@
 -- The answer of the catalogue call, by the top step and the length of its area, the area at exit, and what its bytes are in a card.
-use Prim.Native.Nat.{ℕ, suc, _+_, _≤_, _<_}
-use mathlib.Core.Path.{_≡_, refl, sym, ap, _∙_}
-use mathlib.Core.Bool.{true, false}
-use mathlib.Core.List.{List}
-use native.Mathlib.Omega.{arith}
-use lib.ListN.{length, take}
-use lib.Seq.{take-at, length-take-le}
-use borrow.Author.Tests.{lt-ltb, le-ltb}
+use Rattle.lists.specs.Core.{ℕ, suc, _+_, _≤_, _<_, _≡_, refl, sym, ap, _∙_, true, false, List, arith, length, take, take-at, length-take-le, lt-ltb}
+use Rattle.lists.specs.Core.{le-ltb}
 use Rattle.lists.specs.Lists.{writtenOver}
 use Rattle.lists.specs.Rows.{elementBytes, length-numbers, taken-bytes}
 use Rattle.lists.specs.Writing.{Room}

@@ -1,8 +1,7 @@
 // The catalogue module's table (document 02, §5): a constant, and the call that writes its first entries as a card's fields.
 use model::Answer;
 use model::Refusal;
-ghost use mathlib.Core.Path.{_≡_};
-ghost use lib.ListN.{take};
+ghost use Rattle.lists.specs.Core.{_≡_, take};
 ghost use Rattle.lists.specs.Lists.{writtenOver};
 ghost use Rattle.lists.specs.Rows.{elementBytes};
 ghost use Rattle.model.specs.Answers.{numberOf};

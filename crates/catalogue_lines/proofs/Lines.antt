@@ -1,7 +1,5 @@
 -- The rule's numbers and the lines that they are printed on.
-use Prim.Native.Nat.{ℕ}
-use mathlib.Core.Path.{_≡_, refl}
-use lib.ListN.{length}
+use Rattle.lists.specs.Core.{ℕ, _≡_, refl, length}
 use Rattle.lists.specs.Lists.{rows}
 use Rattle.model.specs.Catalogue.{catalogueEntry}
 use Rattle.model.specs.Listing.{digits, decimal, catalogueLines}

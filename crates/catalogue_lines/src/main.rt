@@ -1,9 +1,7 @@
 // The generator of the catalogue module's table (document 02, §5): prints F(0) to F(200), one a line. Its stored output, the file `stdout`
 // beside src, is what the constant in crates/catalogue is made from.
 use libc::STDOUT_FILENO;
-ghost use mathlib.Core.Path.{_≡_};
-ghost use Prim.Native.Nat.{_≤_};
-ghost use lib.ListN.{length};
+ghost use Rattle.lists.specs.Core.{_≡_, _≤_, length};
 ghost use Rattle.lists.specs.Lists.{writtenOver};
 ghost use Rattle.lists.specs.Writing.{Room, Written};
 ghost use Rattle.model.specs.Catalogue.{catalogueEntry, catalogueTop};

@@ -1,10 +1,5 @@
 -- The planner over a list, by its tests: what is a planner's in general is applied to it.
-use Prim.Native.Nat.{ℕ, _*_}
-use mathlib.Core.Path.{_≡_, refl}
-use mathlib.Core.Bool.{Bool, true, false, not}
-use mathlib.Core.List.{List}
-use native.Mathlib.Omega.{arith}
-use lib.ListN.{length}
+use Rattle.lists.specs.Core.{ℕ, _*_, _≡_, refl, Bool, true, false, not, List, arith, length}
 use mir.Syntax.{w64}
 use mir.Val.{Fits}
 use Rattle.lists.specs.Tests.{test-failed, test-passed}

@@ -1,9 +1,5 @@
 -- A list as it is copied, and as the front of a longer one.
-use Prim.Native.Nat.{ℕ, _≤_}
-use mathlib.Core.Path.{_≡_, refl, sym, _∙_}
-use mathlib.Core.List.{List, _++_}
-use native.Mathlib.Omega.{arith}
-use lib.ListN.{length, getD, take, drop}
+use Rattle.lists.specs.Core.{ℕ, _≤_, _≡_, refl, sym, _∙_, List, _++_, arith, length, getD, take, drop}
 use Rattle.lists.specs.Lists.{equal-tabulate, writtenOver}
 use Rattle.lists.specs.Filling.{Upto, upto-all}
 use Rattle.planners.proofs.Fronts.{front-is, front-within, front-length}

@@ -1,13 +1,6 @@
 -- The rules for a list of allowed counts and its ratio, test by test.
-use Prim.Native.Nat.{ℕ, _+_, _-_, _*_, _≤_, _<_}
-use mathlib.Core.Path.{_≡_}
-use mathlib.Core.Bool.{true, false}
-use mathlib.Core.List.{List}
-use native.Mathlib.Nat.{le-of-lt, mul-le-mul-left, mul-le-mul-right}
-use native.Mathlib.Omega.{arith}
-use lib.ListN.{length, getD}
-use lib.Dec.{leb, eqb}
-use borrow.Author.Tests.{ltb-true, leb-true, le-leb, lt-leb, eq-eqb, ne-eqb}
+use Rattle.lists.specs.Core.{ℕ, _+_, _-_, _*_, _≤_, _<_, _≡_, true, false, List, le-of-lt, mul-le-mul-left, mul-le-mul-right, arith, length, getD}
+use Rattle.lists.specs.Core.{leb, eqb, ltb-true, leb-true, le-leb, lt-leb, eq-eqb, ne-eqb}
 use Rattle.lists.specs.Tests.{and-left, and-right, every-at}
 use Rattle.model.specs.CountRules.{strictlyAscends, gapsGrowBy, endsAt, ratioInRange, keepsRules}
 use Rattle.count_rules.specs.RuleRequires.{Rising}

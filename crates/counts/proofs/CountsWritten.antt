@@ -1,13 +1,8 @@
 -- The allowed counts as they are written over a list: all of them, or 0 at the first place, the powers of two after it, and m if it is
 -- no power.
-use Prim.Native.Nat.{ℕ, zero, suc, _+_, _-_, _^_, _≤_, _<_}
-use mathlib.Core.Path.{_≡_, sym, _∙_, ap}
-use mathlib.Core.List.{List, [], _∷_, _++_, append-assoc}
-use native.Mathlib.Numerals.{add-one}
-use native.Mathlib.Omega.{arith}
-use lib.ListN.{length, getD, take, drop, set, length-set, length-append, List·getD-append}
-use lib.Seq.{length-take-le, take-suc-set, drop-set-lt, drop-cons, set-at}
-use borrow.Author.Tests.{eq-eqb, ne-eqb}
+use Rattle.lists.specs.Core.{ℕ, zero, suc, _+_, _-_, _^_, _≤_, _<_, _≡_, sym, _∙_, ap, List, [], _∷_, _++_, append-assoc, add-one, arith, length}
+use Rattle.lists.specs.Core.{getD, take, drop, set, length-set, length-append, List·getD-append, length-take-le, take-suc-set, drop-set-lt, drop-cons}
+use Rattle.lists.specs.Core.{set-at, eq-eqb, ne-eqb}
 use borrow.Rule.Slice.PartMut.{putMid, midOf, mid-len, post-is}
 use Rattle.lists.specs.Lists.{tabulate, length-tabulate, getD-tabulate, writtenOver}
 use Rattle.model.specs.Counts.{allCounts, coarseCounts}

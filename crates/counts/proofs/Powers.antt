@@ -1,15 +1,8 @@
 -- The coarse counts of a rack of at most 200: 0, the powers of two up to m, and m if it is no power. The number of powers is read
 -- off the leading zeros. What holds of one rack and the next is a test that antt computes for each rack.
-use Prim.Native.Nat.{ℕ, zero, suc, _-_, _^_, _≤_, _<_}
-use mathlib.Core.Path.{_≡_, refl, sym, _∙_}
-use mathlib.Core.Bool.{Bool, true, cond, _&&_, _||_, or-true}
-use mathlib.Core.List.{List, [], _∷_, _++_}
-use native.Mathlib.Numerals.{add-one}
-use native.Mathlib.Omega.{arith}
-use lib.ListN.{getD}
+use Rattle.lists.specs.Core.{ℕ, zero, suc, _-_, _^_, _≤_, _<_, _≡_, refl, sym, _∙_, Bool, true, cond, _&&_, _||_, or-true, List, [], _∷_, _++_}
+use Rattle.lists.specs.Core.{add-one, arith, getD, eqb, leb, ltb, eq-eqb, ne-eqb, leb-true, ltb-true}
 use lib.Count.{leadingZeros}
-use lib.Dec.{eqb, leb, ltb}
-use borrow.Author.Tests.{eq-eqb, ne-eqb, leb-true, ltb-true}
 use Rattle.lists.specs.Tests.{every, every-at, and-left, and-right}
 use Rattle.lists.specs.Lists.{tabulate, getD-tabulate, keep, sameList, same-list-equal}
 use Rattle.lists.specs.Prefixes.{tabulate-more, keep-append, keep-tabulate}

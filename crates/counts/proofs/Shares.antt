@@ -1,12 +1,8 @@
 -- A load shared by n modules: quotient and remainder stay in the table, and the cost is the definition's.
-use Prim.Native.Nat.{ℕ, _+_, _-_, _*_, _/_, _%_, _^_, _≤_, _<_}
-use mathlib.Core.Path.{_≡_, sym, _∙_}
-use mathlib.Core.List.{List}
-use native.Mathlib.Nat.{le-of-lt, sub-zero, pos-of-ne-zero, mod-lt, div-le-of-le-mul, mul-le-mul}
-use native.Mathlib.Omega.{arith}
+use Rattle.lists.specs.Core.{ℕ, _+_, _-_, _*_, _/_, _%_, _^_, _≤_, _<_, _≡_, sym, _∙_, List, le-of-lt, sub-zero, pos-of-ne-zero, mod-lt}
+use Rattle.lists.specs.Core.{div-le-of-le-mul, mul-le-mul, arith, eq-eqb}
 use mir.Syntax.{w64}
 use mir.Val.{Fits}
-use borrow.Author.Tests.{eq-eqb}
 use Rattle.lists.specs.Division.{quotient-lt, part-and-rest}
 use Rattle.model.specs.Instance.{Instance, instanceOf}
 use Rattle.model.specs.MoreLight.{leastFrom}

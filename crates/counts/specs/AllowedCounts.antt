@@ -1,7 +1,5 @@
 -- The lists of allowed counts as they are written to memory, and what writing them asks for.
-use Prim.Native.Nat.{ℕ, _+_, _-_, _^_, _≤_, _<_}
-use mathlib.Core.List.{List}
-use lib.ListN.{length}
+use Rattle.lists.specs.Core.{ℕ, _+_, _-_, _^_, _≤_, _<_, List, length}
 use lib.Count.{leadingZeros}
 use Rattle.lists.specs.Lists.{tabulate}
 

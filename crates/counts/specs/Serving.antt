@@ -1,6 +1,5 @@
 -- What serving a load with a count asks for.
-use Prim.Native.Nat.{ℕ, _*_, _≤_}
-use mathlib.Core.List.{List}
+use Rattle.lists.specs.Core.{ℕ, _*_, _≤_, List}
 use Rattle.model.specs.Instance.{instanceOf}
 use Rattle.card.specs.declared.Header.{Header}
 use Rattle.card.specs.Checking.{Ready}

@@ -1,8 +1,6 @@
 // Counts of active modules: the planners' lists of allowed counts, the rounded count, and the operating cost of a count.
 use card::Header;
-ghost use mathlib.Core.Path.{_≡_};
-ghost use Prim.Native.Nat.{_^_, _≤_};
-ghost use lib.ListN.{length};
+ghost use Rattle.lists.specs.Core.{_≡_, _^_, _≤_, length};
 ghost use Rattle.lists.specs.Lists.{writtenOver};
 ghost use Rattle.model.specs.Instance.{instanceOf};
 ghost use Rattle.model.specs.Counts.{operatingCost, allCounts, coarseCounts, roundedCount, printedCases, caseValue};

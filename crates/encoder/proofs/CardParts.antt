@@ -1,8 +1,5 @@
 -- A card is written part by part: where there is room for the card, there is room for each part behind the ones before it.
-use Prim.Native.Nat.{ℕ, _+_, _≤_}
-use mathlib.Core.List.{List, _++_}
-use native.Mathlib.Omega.{arith}
-use lib.ListN.{length}
+use Rattle.lists.specs.Core.{ℕ, _+_, _≤_, List, _++_, arith, length}
 use Rattle.lists.specs.Writing.{Room, Written, room-first, room-rest, written-more}
 use Rattle.model.specs.Instance.{Instance, frontBytes, sizeBytes, priceBytes, tableBytes, loadBytes, cardBytes}
 use Rattle.encoder.specs.declared.Fields.{Fields}

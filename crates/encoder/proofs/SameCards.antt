@@ -1,7 +1,5 @@
 -- Two shows that are the same have the same card.
-use Prim.Native.Nat.{_+_}
-use mathlib.Core.Path.{_≡_, ap}
-use native.Mathlib.Omega.{arith}
+use Rattle.lists.specs.Core.{_+_, _≡_, ap, arith}
 use Rattle.lists.specs.Lists.{rows-same}
 use Rattle.lists.specs.Bytes.{bytesOf}
 use Rattle.model.specs.Instance.{Instance, cardBytes}

@@ -1,7 +1,5 @@
 -- The show that a card is written for, as plain fields and lists.
-use Prim.Native.Nat.{ℕ, _≤_, _<_}
-use mathlib.Core.List.{List}
-use lib.ListN.{length, getD}
+use Rattle.lists.specs.Core.{ℕ, _≤_, _<_, List, length, getD}
 use Rattle.lists.specs.Rows.{numbers}
 use Rattle.lists.specs.Writing.{Room}
 use Rattle.model.specs.Instance.{Instance, cardBytes}

@@ -1,8 +1,5 @@
 // The encoder of show cards (document 01, 'The show card'): a card's bytes from a show's fields, its table and its loads.
-ghost use mathlib.Core.Path.{_≡_};
-ghost use mathlib.Core.List.{_++_};
-ghost use Prim.Native.Nat.{_≤_};
-ghost use lib.ListN.{length};
+ghost use Rattle.lists.specs.Core.{_≡_, _++_, _≤_, length};
 ghost use Rattle.lists.specs.Bytes.{bytesOf};
 ghost use Rattle.lists.specs.Writing.{Room, Written};
 ghost use Rattle.model.specs.Instance.{loadPlace, frontBytes, cardBytes};

@@ -1,11 +1,6 @@
 -- The loop that counts the modules which go on beyond the rises of the counts.
-use Prim.Native.Nat.{ℕ, suc, _+_, _-_, _*_, _≤_, _<_}
-use mathlib.Core.Path.{_≡_, ap, sym, _∙_}
-use mathlib.Core.List.{List}
-use native.Mathlib.Nat.{mul-le-mul, mul-le-mul-right, sub-le}
-use native.Mathlib.Numerals.{add-one}
-use native.Mathlib.Omega.{arith}
-use lib.ListN.{length, getD}
+use Rattle.lists.specs.Core.{ℕ, suc, _+_, _-_, _*_, _≤_, _<_, _≡_, ap, sym, _∙_, List, mul-le-mul, mul-le-mul-right, sub-le, add-one, arith, length}
+use Rattle.lists.specs.Core.{getD}
 use mir.Syntax.{w64}
 use mir.Val.{Fits}
 use borrow.Rule.Slice.PartMut.{midOf}

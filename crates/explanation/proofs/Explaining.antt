@@ -1,9 +1,5 @@
 -- The explanation of a sheet, by its tests: the numbers that it returns, and its work buffer at exit.
-use Prim.Native.Nat.{ℕ, _≤_, _<_}
-use mathlib.Core.Path.{_≡_, sym, ap, _∙_}
-use mathlib.Core.List.{List}
-use native.Mathlib.Omega.{arith}
-use lib.ListN.{length, replicate}
+use Rattle.lists.specs.Core.{ℕ, _≤_, _<_, _≡_, sym, ap, _∙_, List, arith, length, replicate}
 use Rattle.lists.specs.Lists.{writtenOver}
 use Rattle.model.specs.declared.Refusal.{Refusal}
 use Rattle.model.specs.declared.Refusal.the-variants.{BufferTooShort}

@@ -1,11 +1,5 @@
 -- A row's bytes: which count as active, and which as going on.
-use Prim.Native.Nat.{ℕ, _≤_, _<_}
-use mathlib.Core.Path.{_≡_, _∙_}
-use mathlib.Core.Bool.{Bool, true, false, cond}
-use mathlib.Core.List.{List}
-use native.Mathlib.Omega.{arith}
-use lib.ListN.{length, getD}
-use borrow.Author.Tests.{eq-eqb, ne-eqb}
+use Rattle.lists.specs.Core.{ℕ, _≤_, _<_, _≡_, _∙_, Bool, true, false, cond, List, arith, length, getD, eq-eqb, ne-eqb}
 use Rattle.model.specs.Sheets.{off, isOff, activeOf}
 use Rattle.theory.specs.RowCosts.{at-most-one}
 use Rattle.explanation.specs.Exchanges.{startOf}

@@ -1,9 +1,5 @@
 -- The rows of a sheet, as they are lent: their active modules are the sheet's counts, and those that go on are the sheet's.
-use Prim.Native.Nat.{ℕ, suc, _+_, _-_, _*_, _≤_, _<_}
-use mathlib.Core.Path.{_≡_, ap, ap₂}
-use mathlib.Core.List.{List}
-use native.Mathlib.Omega.{arith}
-use lib.ListN.{length, getD}
+use Rattle.lists.specs.Core.{ℕ, suc, _+_, _-_, _*_, _≤_, _<_, _≡_, ap, ap₂, List, arith, length, getD}
 use borrow.Rule.Slice.PartMut.{midOf}
 use Rattle.lists.specs.Sums.{sum-ext}
 use Rattle.lists.specs.Lists.{getD-tabulate}

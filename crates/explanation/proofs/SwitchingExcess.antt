@@ -1,10 +1,5 @@
 -- The switching cost of a sheet is that of its counts and the switching price for each module that goes on beyond their rises.
-use Prim.Native.Nat.{ℕ, zero, suc, _+_, _-_, _*_, _≤_, _<_}
-use mathlib.Core.Path.{_≡_, refl, ap, sym}
-use mathlib.Core.List.{List}
-use native.Mathlib.Nat.{sub-zero}
-use native.Mathlib.Numerals.{one-add}
-use native.Mathlib.Omega.{arith}
+use Rattle.lists.specs.Core.{ℕ, zero, suc, _+_, _-_, _*_, _≤_, _<_, _≡_, refl, ap, sym, List, sub-zero, one-add, arith}
 use Rattle.lists.specs.Sums.{sum, sum-ext, sum-add, sum-join}
 use Rattle.model.specs.Instance.{Instance}
 use Rattle.model.specs.Sheets.{stateAt, activeAt, countsOf, sheetSwitchingCost}

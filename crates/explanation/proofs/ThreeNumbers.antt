@@ -1,14 +1,8 @@
 -- The three numbers of a sheet that serves, from its cost, the modules that go on beyond the rises of its counts, the cost of its counts as a
 -- plan, and the exact planner's cost.
-use Prim.Native.Nat.{ℕ, _+_, _-_, _*_, _≤_}
-use mathlib.Core.Path.{_≡_, sym, ap, _∙_}
-use mathlib.Core.List.{List}
-use native.Mathlib.Nat.{mul-le-mul, mul-comm, sub-le, le-trans}
-use native.Mathlib.Omega.{arith}
-use lib.ListN.{length}
+use Rattle.lists.specs.Core.{ℕ, _+_, _-_, _*_, _≤_, _≡_, sym, ap, _∙_, List, mul-le-mul, mul-comm, sub-le, le-trans, arith, length, eqb-true}
 use mir.Syntax.{w64}
 use mir.Val.{Fits}
-use borrow.Author.Tests.{eqb-true}
 use Rattle.lists.specs.Sums.{sum-at-most}
 use Rattle.model.specs.declared.Answer.the-variants.{Cost}
 use Rattle.model.specs.declared.Points.{Points}

@@ -1,9 +1,5 @@
 -- The loop that writes the counts of a sheet.
-use Prim.Native.Nat.{ℕ, suc, _+_, _-_, _*_, _≤_, _<_}
-use mathlib.Core.Path.{_≡_, ap, _∙_}
-use mathlib.Core.List.{List}
-use native.Mathlib.Omega.{arith}
-use lib.ListN.{length, set}
+use Rattle.lists.specs.Core.{ℕ, suc, _+_, _-_, _*_, _≤_, _<_, _≡_, ap, _∙_, List, arith, length, set}
 use mir.Syntax.{w64}
 use mir.Val.{Fits}
 use borrow.Rule.Slice.PartMut.{midOf}

@@ -1,9 +1,6 @@
 -- What the functions of this crate count in the rows of a sheet: the active modules, and the modules that go on beyond the rise of the count,
 -- `exchanged`.
-use Prim.Native.Nat.{ℕ, suc, _-_}
-use mathlib.Core.Bool.{cond}
-use mathlib.Core.List.{List}
-use lib.ListN.{length, getD}
+use Rattle.lists.specs.Core.{ℕ, suc, _-_, cond, List, length, getD}
 use Rattle.lists.specs.Sums.{sum}
 use Rattle.model.specs.Instance.{Instance}
 use Rattle.model.specs.Sheets.{isOff, stateAt, activeOf, activeAt}

@@ -1,10 +1,5 @@
 -- What the exports promise beyond the answer of the call below them.
-use Prim.Native.Nat.{ℕ}
-use mathlib.Core.Path.{_≡_, refl, sym, ap, _∙_}
-use mathlib.Core.Bool.{Bool, true, false, cond}
-use mathlib.Core.List.{List}
-use lib.ListN.{take}
-use lib.Dec.{eqb}
+use Rattle.lists.specs.Core.{ℕ, _≡_, refl, sym, ap, _∙_, Bool, true, false, cond, List, take, eqb, ne-eqb}
 use Rattle.model.specs.declared.Answer.{Answer}
 use Rattle.model.specs.declared.Answer.the-variants.{Cost, Refused}
 use Rattle.model.specs.declared.Refusal.{Refusal}
@@ -26,7 +21,6 @@ use Rattle.model.specs.SittingState.{factsOf, stateOf, phaseOf}
 use Rattle.model.specs.Sittings.{answerTo, markedWith, told, toldBy, replyWith, replyOf}
 use Rattle.model.specs.Promises.{OwnSheet, AtMostTimes, MarkedAlike, AcceptsExactly, WritesAccepted, AlwaysEnough, HiddenTillClosed, WritesTable}
 use Rattle.model.specs.Promises.{KeepsRules, LeastWithin, ExplainsMarked, NoneNegative, AboveLeast, ZeroExactly}
-use borrow.Author.Tests.{ne-eqb}
 use Rattle.laws.specs.Acceptance.{accepted-bounds}
 use Rattle.laws.specs.AnswerNumber.{number-zero}
 use Rattle.theory.specs.CountLists.{planner-rules}

@@ -1,14 +1,7 @@
 -- Cards whose table is known as bytes: what is read from it, `table-read`; when the card is accepted, `accepted-by-others`; and that a head, a
 -- table and loads make such a card, `table-behind`.
-use Prim.Native.Nat.{ℕ, _+_, _*_, _^_, _≤_, _<_}
-use mathlib.Core.Path.{_≡_, sym, _∙_}
-use mathlib.Core.Bool.{true}
-use mathlib.Core.List.{List, [], _∷_, _++_, append-nil}
-use mathlib.Core.Logic.{_↔_}
-use native.Mathlib.Omega.{arith}
-use lib.ListN.{length, drop, List·getD-append}
-use lib.Seq.{take-at, drop-at}
-use borrow.Author.Tests.{le-leb}
+use Rattle.lists.specs.Core.{ℕ, _+_, _*_, _^_, _≤_, _<_, _≡_, sym, _∙_, true, List, [], _∷_, _++_, append-nil, _↔_, arith, length, drop}
+use Rattle.lists.specs.Core.{List·getD-append, take-at, drop-at, le-leb}
 use Rattle.lists.specs.Tests.{and-both}
 use Rattle.lists.specs.Bytes.{little-same, little-drop, little-take}
 use Rattle.lists.specs.Rows.{little-numbers}

@@ -1,12 +1,6 @@
 -- The catalogue module's table (document 02, §5): each test of a whole table, turned into the fact at each entry, `entry-is`, `entry-convex`,
 -- `entry-rises`, and what follows for cards, `catalogue-card`.
-use Prim.Native.Nat.{ℕ, zero, suc, _+_, _-_, _*_, _/_, _^_, _≤_, _<_}
-use mathlib.Core.Path.{_≡_, refl, sym, _∙_}
-use mathlib.Core.Bool.{true}
-use mathlib.Core.List.{List}
-use native.Mathlib.Nat.{mul-le-mul}
-use native.Mathlib.Omega.{arith}
-use borrow.Author.Tests.{eqb-true, le-leb}
+use Rattle.lists.specs.Core.{ℕ, zero, suc, _+_, _-_, _*_, _/_, _^_, _≤_, _<_, _≡_, refl, sym, _∙_, true, List, mul-le-mul, arith, eqb-true, le-leb}
 use Rattle.lists.specs.Tests.{every-at, every-all}
 use Rattle.model.specs.Instance.{instanceOf, tableOf, tableInRange}
 use Rattle.model.specs.Catalogue.{catalogueEntry, catalogueTop, catalogueSize, entryOf, followsRule, TestedTable, catalogueBytes}

@@ -1,14 +1,7 @@
 -- Which counts are in the list of all counts and in that of the coarse ones (document 01, 'The plans'): `all-member`, `coarse-member`; and that
 -- both lists ascend: `all-in-order`, `coarse-in-order`.
-use Prim.Native.Nat.{ℕ, zero, suc, _+_, _^_, _≤_, _<_}
-use mathlib.Core.Path.{_≡_}
-use mathlib.Core.Bool.{Bool, true, false, not, or-true}
-use mathlib.Core.List.{List}
-use mathlib.Core.Logic.{_↔_, _⊎_, inl, inr, ⊎-map}
-use native.Mathlib.Omega.{arith}
-use lib.ListN.{getD}
-use lib.Dec.{eqb}
-use borrow.Author.Tests.{eqb-true, eq-eqb, not-true, not-false}
+use Rattle.lists.specs.Core.{ℕ, zero, suc, _+_, _^_, _≤_, _<_, _≡_, Bool, true, false, not, or-true, List, _↔_, _⊎_, inl, inr, ⊎-map, arith, getD}
+use Rattle.lists.specs.Core.{eqb, eqb-true, eq-eqb, not-true, not-false}
 use Rattle.lists.specs.Tests.{every-fails, every-not, or-cases}
 use Rattle.lists.specs.Lists.{keep, length-tabulate, getD-tabulate}
 use Rattle.lists.specs.Members.{InOrder, member-at, place-of, to-keep, from-keep, rising-in-order, in-order-keep}

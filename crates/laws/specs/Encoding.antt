@@ -1,15 +1,7 @@
 -- The card that is written for a show, `cardBytes`: its length, `card-bytes-length`; that a show whose fields fit is read back from it,
 -- `card-bytes-show`; and that it is accepted exactly if the show is in order, `card-bytes-accepted`.
-use Prim.Native.Nat.{ℕ, _+_, _*_, _^_, _≤_, _<_}
-use mathlib.Core.Path.{_≡_, refl, sym, ap, _∙_}
-use mathlib.Core.List.{List, [], _++_, append-nil}
-use mathlib.Core.Logic.{_↔_}
-use native.Mathlib.Nat.{mul-le-mul}
-use native.Mathlib.Omega.{arith}
-use lib.Dec.{leb}
-use lib.ListN.{length, take, length-append}
-use lib.Seq.{take-at}
-use borrow.Author.Tests.{le-ltb, eq-eqb}
+use Rattle.lists.specs.Core.{ℕ, _+_, _*_, _^_, _≤_, _<_, _≡_, refl, sym, ap, _∙_, List, [], _++_, append-nil, _↔_, mul-le-mul, arith, leb, length}
+use Rattle.lists.specs.Core.{take, length-append, take-at, le-ltb, eq-eqb}
 use Rattle.lists.specs.Tests.{every-same}
 use Rattle.lists.specs.Lists.{sameList}
 use Rattle.lists.specs.Bytes.{littleEndian, bytesOf, little-bytes, little-after}

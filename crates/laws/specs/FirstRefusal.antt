@@ -1,10 +1,6 @@
 -- Laws of `firstOf`, the first of some tests that applies: test by test, of two lists joined, of tests none of which applies, `NoneApplies`, and of
 -- two lists that agree as far as the first test that applies, `Alike`.
-use Prim.Native.Nat.{ℕ}
-use mathlib.Core.Path.{_≡_, refl, sym, _∙_}
-use mathlib.Core.Bool.{true, false, true≢false}
-use mathlib.Core.List.{List, [], _∷_, _++_}
-use mathlib.Core.Logic.{⊎-elim}
+use Rattle.lists.specs.Core.{ℕ, _≡_, refl, sym, _∙_, true, false, true≢false, List, [], _∷_, _++_, ⊎-elim}
 use Rattle.lists.specs.Numbers.{true-or-false}
 use Rattle.lists.specs.Members.{Each}
 use Rattle.model.specs.declared.Refusal.{Refusal}

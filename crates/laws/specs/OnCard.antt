@@ -1,7 +1,5 @@
 -- Calls on a card: the card's own tests come first.
-use Prim.Native.Nat.{ℕ}
-use mathlib.Core.Path.{_≡_, refl, sym, _∙_}
-use mathlib.Core.List.{List, _++_}
+use Rattle.lists.specs.Core.{ℕ, _≡_, refl, sym, _∙_, List, _++_}
 use Rattle.model.specs.declared.Refusal.{Refusal}
 use Rattle.model.specs.declared.Answer.{Answer}
 use Rattle.model.specs.declared.Answer.the-variants.{Cost, Refused}

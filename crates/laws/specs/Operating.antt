@@ -1,12 +1,6 @@
 -- The operating cost of a count as one formula, `operating-formula`, and a bound for it, `operating-bound`; and the row of a plan, byte by byte.
-use Prim.Native.Nat.{ℕ, zero, suc, _+_, _-_, _*_, _/_, _%_, _≤_, _<_}
-use mathlib.Core.Path.{_≡_, sym}
-use mathlib.Core.Bool.{cond}
-use lib.Dec.{eqb, eqb·suc-zero}
-use lib.ListN.{length}
-use borrow.Author.Tests.{lt-ltb, le-ltb, ne-eqb}
-use native.Mathlib.Nat.{le-trans, zero-mul, mod-zero, div-le-of-le-mul, mul-le-mul-left}
-use native.Mathlib.Omega.{arith}
+use Rattle.lists.specs.Core.{ℕ, zero, suc, _+_, _-_, _*_, _/_, _%_, _≤_, _<_, _≡_, sym, cond, eqb, eqb·suc-zero, length, lt-ltb, le-ltb, ne-eqb}
+use Rattle.lists.specs.Core.{le-trans, zero-mul, mod-zero, div-le-of-le-mul, mul-le-mul-left, arith}
 use Rattle.lists.specs.Products.{mul-le-mul-some}
 use Rattle.lists.specs.Division.{remainder-le, quotient-lt, part-and-rest}
 use Rattle.lists.specs.Lists.{length-tabulate}

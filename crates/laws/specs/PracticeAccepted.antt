@@ -1,16 +1,7 @@
 -- The practice show of a start (document 02, §1): the bounds of its fields, that its table never falls, `practice-never-falls`, that its card is
 -- accepted, `practice-accepted`, and how long the card is at most, `practice-length`. All of it is proved for every start, by the way the show is
 -- made.
-use Prim.Native.Nat.{ℕ, zero, suc, _+_, _*_, _%_, _≤_, _<_}
-use mathlib.Core.Path.{_≡_}
-use mathlib.Core.Bool.{true}
-use mathlib.Core.List.{List}
-use native.Mathlib.Nat.{mod-lt}
-use native.Mathlib.Numerals.{add-one}
-use native.Mathlib.Omega.{arith}
-use lib.Dec.{leb}
-use lib.ListN.{length}
-use borrow.Author.Tests.{le-leb, ne-eqb, le-ltb}
+use Rattle.lists.specs.Core.{ℕ, zero, suc, _+_, _*_, _%_, _≤_, _<_, _≡_, true, List, mod-lt, add-one, arith, leb, length, le-leb, ne-eqb, le-ltb}
 use Rattle.lists.specs.Tests.{and-both, every-all}
 use Rattle.model.specs.declared.Answer.the-variants.{Cost}
 use Rattle.model.specs.Instance.{cardBytes, cardLength, rackNumber, pricesInRange, tableInRange, convex, convexAt, loadsInRange}

@@ -1,15 +1,8 @@
 -- The rounded count is the smallest allowed count not below a count (document 01, 'The plans'): `rounded-least`. In a rack of at most 200 the
 -- course book's list of cases gives it too (02 §6): `rounded-by-cases`.
-use Prim.Native.Nat.{ℕ, zero, suc, _+_, _^_, _≤_, _<_, min}
-use mathlib.Core.Path.{_≡_, refl, sym, _∙_}
-use mathlib.Core.Bool.{and-false}
-use mathlib.Core.List.{List, [], _∷_}
-use mathlib.Core.Logic.{_⊎_, inl, inr, ⊎-elim}
-use native.Mathlib.Nat.{le-refl, le-of-lt, le-antisymm, eq-or-lt-of-le, one-le-pow, pow-le-pow-right, zero-min, min-eq-left, min-eq-right}
-use native.Mathlib.Omega.{arith}
-use lib.ListN.{getD}
-use lib.Dec.{leb}
-use borrow.Author.Tests.{leb-true, le-leb, lt-leb}
+use Rattle.lists.specs.Core.{ℕ, zero, suc, _+_, _^_, _≤_, _<_, min, _≡_, refl, sym, _∙_, and-false, List, [], _∷_, _⊎_, inl, inr, ⊎-elim, le-refl}
+use Rattle.lists.specs.Core.{le-of-lt, le-antisymm, eq-or-lt-of-le, one-le-pow, pow-le-pow-right, zero-min, min-eq-left, min-eq-right, arith, getD}
+use Rattle.lists.specs.Core.{leb, leb-true, le-leb, lt-leb}
 use Rattle.lists.specs.Numbers.{le-or-lt}
 use Rattle.lists.specs.Lists.{keep, head-is-first}
 use Rattle.lists.specs.Members.{in-order-le, in-order-keep}

@@ -1,12 +1,6 @@
 -- The records of a sitting hold its state (document 02, §4): what an event makes of the records holds what it makes of the state, `state-after`.
-use Prim.Native.Nat.{ℕ, _≤_, _<_}
-use mathlib.Core.Path.{_≡_, refl, ap, _∙_}
-use mathlib.Core.Bool.{Bool}
-use mathlib.Core.List.{List, [], _∷_, _++_, map, append-nil}
-use mathlib.Core.Logic.{⊎-elim}
-use native.Mathlib.Omega.{arith}
-use lib.ListN.{length, take, drop, length-take, length-map, drop-of-length-le}
-use lib.Seq.{take-at, take-all}
+use Rattle.lists.specs.Core.{ℕ, _≤_, _<_, _≡_, refl, ap, _∙_, Bool, List, [], _∷_, _++_, map, append-nil, ⊎-elim, arith, length, take, drop}
+use Rattle.lists.specs.Core.{length-take, length-map, drop-of-length-le, take-at, take-all}
 use Rattle.lists.specs.Numbers.{le-or-lt}
 use Rattle.lists.specs.FirstPlace.{changeFirst, length-change, change-map}
 use Rattle.model.specs.declared.Seat.{Seat}

@@ -1,13 +1,7 @@
 -- Tables: what convex and never falling mean, that tables which agree pass the same tests, what follows from a step at which a convex table no
 -- longer falls, and the line that supports it.
-use Prim.Native.Nat.{ℕ, zero, suc, _+_, _-_, _*_, _≤_, _<_}
-use mathlib.Core.Path.{_≡_, ap}
-use mathlib.Core.Bool.{true}
-use mathlib.Core.Logic.{_↔_, ⊎-elim}
-use borrow.Author.Tests.{leb-true, le-leb}
-use native.Mathlib.Nat.{add-zero, le-dest, le-of-lt, mul-le-mul-left}
-use native.Mathlib.Omega.{arith}
-use lib.Dec.{leb}
+use Rattle.lists.specs.Core.{ℕ, zero, suc, _+_, _-_, _*_, _≤_, _<_, _≡_, ap, true, _↔_, ⊎-elim, leb-true, le-leb, add-zero, le-dest, le-of-lt}
+use Rattle.lists.specs.Core.{mul-le-mul-left, arith, leb}
 use Rattle.lists.specs.Numbers.{le-or-lt}
 use Rattle.lists.specs.Tests.{every-at, every-all, every-same}
 use Rattle.model.specs.Instance.{convexAt, convex, neverFalls, tableInRange}

@@ -1,14 +1,6 @@
 -- Laws of decimal numbers: what their digits are, and how many they have.
-use Prim.Native.Nat.{ℕ, zero, suc, _*_, _/_, _%_, _^_, _≤_, _<_}
-use mathlib.Core.Path.{_≡_}
-use mathlib.Core.Bool.{Bool, true, false, cond}
-use mathlib.Core.Logic.{⊎-elim}
-use mathlib.Core.List.{[], _∷_, _++_}
-use native.Mathlib.Nat.{pow-suc}
-use native.Mathlib.Omega.{arith}
-use lib.Dec.{ltb}
-use lib.ListN.{length, length-append}
-use borrow.Author.Tests.{lt-ltb, le-ltb}
+use Rattle.lists.specs.Core.{ℕ, zero, suc, _*_, _/_, _%_, _^_, _≤_, _<_, _≡_, Bool, true, false, cond, ⊎-elim, [], _∷_, _++_, pow-suc, arith, ltb}
+use Rattle.lists.specs.Core.{length, length-append, lt-ltb, le-ltb}
 use Rattle.lists.specs.Numbers.{le-or-lt}
 use Rattle.model.specs.Listing.{digit, digits, decimal}
 

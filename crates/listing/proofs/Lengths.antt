@@ -1,10 +1,6 @@
 -- How long the texts are at most.
-use Prim.Native.Nat.{ℕ, _+_, _*_, _^_, _≤_, _<_}
-use mathlib.Core.Bool.{Bool, true, false, cond}
-use mathlib.Core.List.{List}
-use native.Mathlib.Omega.{arith}
-use lib.ListN.{length, getD, take, drop, length-append, length-take}
-use lib.Seq.{getD-take, getD-drop}
+use Rattle.lists.specs.Core.{ℕ, _+_, _*_, _^_, _≤_, _<_, Bool, true, false, cond, List, arith, length, getD, take, drop, length-append, length-take}
+use Rattle.lists.specs.Core.{getD-take, getD-drop}
 use Rattle.lists.specs.Parts.{getD-within}
 use Rattle.lists.specs.Text.{text}
 use Rattle.lists.specs.Writing.{Room, rows-at-most}

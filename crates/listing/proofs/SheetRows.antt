@@ -1,9 +1,5 @@
 -- The rows of a sheet that `put_sheet` lends one by one.
-use Prim.Native.Nat.{ℕ, _+_, _-_, _*_, _≤_, _<_}
-use mathlib.Core.Path.{_≡_}
-use mathlib.Core.List.{List}
-use native.Mathlib.Omega.{arith}
-use lib.ListN.{length, take, drop}
+use Rattle.lists.specs.Core.{ℕ, _+_, _-_, _*_, _≤_, _<_, _≡_, List, arith, length, take, drop}
 use Rattle.lists.specs.Rows.{row-within}
 use Rattle.model.specs.Listing.{slotLine}
 use Rattle.listing.specs.Texts.{InRows, sheetLine}

@@ -1,10 +1,5 @@
 -- The text of a step, by the code's test for off, and that it is not empty.
-use Prim.Native.Nat.{ℕ, _≤_}
-use mathlib.Core.Path.{_≡_}
-use mathlib.Core.Bool.{Bool, true, false, cond}
-use native.Mathlib.Omega.{arith}
-use lib.ListN.{length}
-use borrow.Author.Tests.{eq-eqb, ne-eqb}
+use Rattle.lists.specs.Core.{ℕ, _≤_, _≡_, Bool, true, false, cond, arith, length, eq-eqb, ne-eqb}
 use Rattle.lists.specs.Text.{text}
 use Rattle.model.specs.Sheets.{off, isOff}
 use Rattle.model.specs.Listing.{decimal, stepText}

@@ -1,8 +1,5 @@
 -- The parts of the program's text that the model does not name, and what the public functions ask for.
-use Prim.Native.Nat.{ℕ, _+_, _*_, _≤_}
-use mathlib.Core.Path.{_≡_}
-use mathlib.Core.List.{List, _++_}
-use lib.ListN.{length, getD, take, drop}
+use Rattle.lists.specs.Core.{ℕ, _+_, _*_, _≤_, _≡_, List, _++_, length, getD, take, drop}
 use Rattle.lists.specs.Lists.{rows}
 use Rattle.lists.specs.Text.{text}
 use Rattle.model.specs.Sheets.{off}

@@ -1,7 +1,5 @@
 // The program's text: each function writes a part of it into a lent area from a place on, and returns the place after it.
-ghost use mathlib.Core.Path.{_≡_};
-ghost use Prim.Native.Nat.{_<_};
-ghost use lib.ListN.{length};
+ghost use Rattle.lists.specs.Core.{_≡_, _<_, length};
 ghost use Rattle.lists.specs.Lists.{writtenOver};
 ghost use Rattle.lists.specs.Writing.{Room, Written};
 ghost use Rattle.model.specs.Listing.{decimal, planLine, slotLine, listing, refusedLine};

@@ -1,8 +1,5 @@
 -- Values that are found from the end: 0 after the last of n places, and at each place what a step makes of the value at the next.
-use Prim.Native.Nat.{ℕ, zero, suc, _-_, _≤_, _<_}
-use mathlib.Core.Path.{_≡_, ap, _∙_}
-use native.Mathlib.Nat.{sub-self}
-use native.Mathlib.Omega.{arith}
+use Rattle.lists.specs.Core.{ℕ, zero, suc, _-_, _≤_, _<_, _≡_, ap, _∙_, sub-self, arith}
 
 module _ (n : ℕ) (step : ℕ → ℕ → ℕ) where
   -- The value at the place that is d before the end.

@@ -1,13 +1,8 @@
 -- Little-endian numbers of any width: read from a list of bytes, `littleEndian`, and written, `bytesOf`. The laws hold for every width; a number
 -- that fits its bytes is read back from them, `little-bytes`.
-use Prim.Native.Nat.{ℕ, zero, suc, _+_, _*_, _/_, _%_, _^_, _≤_, _<_}
-use mathlib.Core.Path.{_≡_, refl, _∙_}
-use mathlib.Core.List.{List, [], _∷_, _++_}
-use native.Mathlib.Nat.{zero-add, one-mul, suc-add, pow-zero, pow-suc, add-zero, add-assoc, mul-comm, div-one, div-add-mod}
-use native.Mathlib.Nat.{div-lt-iff-lt-mul, div-div-eq-div-mul}
-use native.Mathlib.Omega.{arith}
-use lib.ListN.{length, getD, take, drop}
-use lib.Seq.{getD-take, getD-drop, getD-append-add}
+use Rattle.lists.specs.Core.{ℕ, zero, suc, _+_, _*_, _/_, _%_, _^_, _≤_, _<_, _≡_, refl, _∙_, List, [], _∷_, _++_, zero-add, one-mul, suc-add}
+use Rattle.lists.specs.Core.{pow-zero, pow-suc, add-zero, add-assoc, mul-comm, div-one, div-add-mod, div-lt-iff-lt-mul, div-div-eq-div-mul}
+use Rattle.lists.specs.Core.{arith, length, getD, take, drop, getD-take, getD-drop, getD-append-add}
 
 -- The number in the w bytes of s from place p on, least byte first.
 unfoldable pub littleEndian : ℕ → List ℕ → ℕ → ℕ

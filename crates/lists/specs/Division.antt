@@ -1,9 +1,6 @@
 -- Bounds of quotient and remainder, where the divisor may be 0, and a product as the sum of two parts.
-use Prim.Native.Nat.{ℕ, zero, suc, _+_, _-_, _*_, _/_, _%_, _≤_, _<_}
-use mathlib.Core.Path.{_≡_, ap, sym, _∙_}
-use mathlib.Core.Logic.{⊎-elim}
-use native.Mathlib.Nat.{add-mul, sub-add-cancel, mod-zero, mod-lt, div-add-mod, le-of-lt, mul-le-mul-left}
-use native.Mathlib.Omega.{arith}
+use Rattle.lists.specs.Core.{ℕ, zero, suc, _+_, _-_, _*_, _/_, _%_, _≤_, _<_, _≡_, ap, sym, _∙_, ⊎-elim, add-mul, sub-add-cancel, mod-zero}
+use Rattle.lists.specs.Core.{mod-lt, div-add-mod, le-of-lt, mul-le-mul-left, arith}
 use Rattle.lists.specs.Numbers.{le-or-lt}
 
 -- A number of at most n * q leaves a remainder of at most n by n, also where n is 0.

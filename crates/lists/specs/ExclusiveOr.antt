@@ -1,8 +1,5 @@
 -- Exclusive or, beyond the toolchain's laws on it, and functions that it passes through.
-use Prim.Native.Nat.{ℕ, zero, suc, _+_, _*_, _/_, _%_, _^_, _<_}
-use mathlib.Core.Path.{_≡_, refl, sym, ap, ap₂, _∙_}
-use native.Mathlib.Nat.{add-zero, mod-lt, div-add-mod'}
-use native.Mathlib.Omega.{arith}
+use Rattle.lists.specs.Core.{ℕ, zero, suc, _+_, _*_, _/_, _%_, _^_, _<_, _≡_, refl, sym, ap, ap₂, _∙_, add-zero, mod-lt, div-add-mod', arith}
 use lib.Arith.{bin-ind}
 use lib.Pow.{pow-pos}
 use lib.Bits.{bitXor, differ, xor-step, xor-comm, xor-self, xor-block, xor-mod, xor-shr, xor-lt, xor-add-and, and-le-l, and-le-r}

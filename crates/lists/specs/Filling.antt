@@ -1,11 +1,6 @@
 -- Invariants of loops that fill a list, one store a turn: upwards from the first place, and downwards from the last.
-use Prim.Native.Nat.{ℕ, _+_, _≤_, _<_}
-use mathlib.Core.Path.{_≡_, refl, _∙_}
-use mathlib.Core.List.{List}
-use mathlib.Core.Logic.{⊎-elim}
-use native.Mathlib.Omega.{arith}
-use lib.ListN.{length, getD, set, length-set}
-use lib.Seq.{getD-set-same, getD-set-other}
+use Rattle.lists.specs.Core.{ℕ, _+_, _≤_, _<_, _≡_, refl, _∙_, List, ⊎-elim, arith, length, getD, set, length-set, getD-set-same}
+use Rattle.lists.specs.Core.{getD-set-other}
 use Rattle.lists.specs.Numbers.{le-or-lt}
 use Rattle.lists.specs.Lists.{tabulate, equal-tabulate}
 

@@ -1,15 +1,7 @@
 -- Whether a test holds at an element of a list, at how many and at which place first, `occurs`, `countOf`, `firstPlace`; and a list changed at that
 -- place alone, `changeFirst`.
-use Prim.Native.Nat.{ℕ, suc, _+_, _<_}
-use mathlib.Core.Path.{_≡_, refl, sym, ap, _∙_}
-use mathlib.Core.Bool.{Bool, true, false, cond, _||_, true≢false}
-use mathlib.Core.List.{List, [], _∷_, map}
-use mathlib.Core.Logic.{⊎-elim}
-use native.Mathlib.Nat.{zero-add}
-use native.Mathlib.Omega.{arith}
-use lib.ListN.{length, getD, set}
-use lib.Dec.{ltb}
-use borrow.Author.Tests.{lt-ltb, le-ltb}
+use Rattle.lists.specs.Core.{ℕ, suc, _+_, _<_, _≡_, refl, sym, ap, _∙_, Bool, true, false, cond, _||_, true≢false, List, [], _∷_, map, ⊎-elim}
+use Rattle.lists.specs.Core.{zero-add, arith, length, getD, set, ltb, lt-ltb, le-ltb}
 use Rattle.lists.specs.Numbers.{true-or-false}
 
 -- The test holds at an element of the list.

@@ -1,4 +1,5 @@
 -- General definitions and laws that know nothing of lamps, a module for each subject.
+pub mod Core
 pub mod Numbers
 pub mod Products
 pub mod Division

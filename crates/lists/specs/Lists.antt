@@ -1,16 +1,9 @@
 -- Lists made from functions of an index, lists in reverse, what a test keeps of a list, a list written over the front of another, and when two
 -- lists are the same.
-use Prim.Native.Nat.{ℕ, zero, suc, _+_, _*_, _<_}
-use mathlib.Core.Path.{_≡_, refl, sym, ap, _∙_}
-use mathlib.Core.Logic.{⊎-elim}
-use mathlib.Core.List.{List, [], _∷_, _++_, headD, reverse, reverse-cons}
-use mathlib.Core.Bool.{Bool, true, false, cond, _&&_, false≢true}
-use lib.Dec.{eqb}
-use lib.ListN.{length, getD, drop, replicate, length-append, length-replicate, length-reverse, getD-replicate, List·getD-append}
-use lib.Seq.{getD-append-add, getD-at, ext-getD}
-use native.Mathlib.Nat.{not-suc-le-zero, le-of-suc-le-suc, le-dest, eq-or-lt-of-le, mul-le-mul-right}
-use native.Mathlib.Omega.{arith}
-use borrow.Author.Tests.{eq-eqb, eqb-true}
+use Rattle.lists.specs.Core.{ℕ, zero, suc, _+_, _*_, _<_, _≡_, refl, sym, ap, _∙_, ⊎-elim, List, [], _∷_, _++_, headD, reverse, reverse-cons}
+use Rattle.lists.specs.Core.{Bool, true, false, cond, _&&_, false≢true, eqb, length, getD, drop, replicate, length-append, length-replicate}
+use Rattle.lists.specs.Core.{length-reverse, getD-replicate, List·getD-append, getD-append-add, getD-at, ext-getD, not-suc-le-zero}
+use Rattle.lists.specs.Core.{le-of-suc-le-suc, le-dest, eq-or-lt-of-le, mul-le-mul-right, arith, eq-eqb, eqb-true}
 use Rattle.lists.specs.Tests.{and-left, and-right}
 
 -- The table of f below n: the list f 0, .., f (n - 1).

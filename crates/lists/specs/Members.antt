@@ -1,14 +1,8 @@
 -- What holds of each element of a list, members of lists, and lists whose elements stand in order.
-use Prim.Native.Nat.{ℕ, zero, suc, _+_, _≤_, _<_}
-use mathlib.Core.Path.{_≡_, refl, sym, ap, _∙_, subst}
-use mathlib.Core.Bool.{Bool, true, false, cond}
-use mathlib.Core.Logic.{⊎-elim}
-use mathlib.Core.List.{List, [], _∷_, _++_, map, flatMap, List·Memᴰ, List·Memᴰ·head, List·Memᴰ·tail, List·Memᴰ·not-nil}
-use mathlib.Core.List.{List·Memᴰ·cases-cons, List·Memᴰ·append-cases, Memᴰ·append-left, Memᴰ·append-right}
-use native.Mathlib.Nat.{not-suc-le-zero, le-of-suc-le-suc, le-of-lt, le-trans}
-use native.Mathlib.Numerals.{add-one}
-use native.Mathlib.Omega.{arith}
-use lib.ListN.{length, getD, length-append, List·getD-append}
+use Rattle.lists.specs.Core.{ℕ, zero, suc, _+_, _≤_, _<_, _≡_, refl, sym, ap, _∙_, subst, Bool, true, false, cond, ⊎-elim, List, [], _∷_, _++_}
+use Rattle.lists.specs.Core.{map, flatMap, List·Memᴰ, List·Memᴰ·head, List·Memᴰ·tail, List·Memᴰ·not-nil, List·Memᴰ·cases-cons}
+use Rattle.lists.specs.Core.{List·Memᴰ·append-cases, Memᴰ·append-left, Memᴰ·append-right, not-suc-le-zero, le-of-suc-le-suc, le-of-lt, le-trans}
+use Rattle.lists.specs.Core.{add-one, arith, length, getD, length-append, List·getD-append}
 use Rattle.lists.specs.Numbers.{le-or-lt}
 use Rattle.lists.specs.Rising.{rises-to}
 use Rattle.lists.specs.Tests.{allOf, and-left, and-right}

@@ -1,9 +1,5 @@
 -- Cases on two numbers and on a test.
-use Prim.Native.Nat.{ℕ, _≤_, _<_}
-use mathlib.Core.Path.{_≡_, refl}
-use mathlib.Core.Bool.{Bool, true, false}
-use mathlib.Core.Logic.{_⊎_, inl, inr}
-use native.Mathlib.Nat.{lt-of-not-le}
+use Rattle.lists.specs.Core.{ℕ, _≤_, _<_, _≡_, refl, Bool, true, false, _⊎_, inl, inr, lt-of-not-le}
 use native.Mathlib.Decide.{decLe}
 
 -- Of two numbers, the first is at most the second, or the second is below the first.

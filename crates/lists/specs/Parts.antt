@@ -1,13 +1,8 @@
 -- Lists of which a part was lent and has come back, and the loop invariant of those filled part by part.
-use Prim.Native.Nat.{ℕ, zero, suc, _+_, _-_, _≤_, _<_}
-use mathlib.Core.Path.{_≡_, refl, ap, sym, _∙_}
-use mathlib.Core.Logic.{⊎-elim}
-use mathlib.Core.List.{List, [], _∷_, _++_}
-use lib.ListN.{length, getD, take, drop, replicate, length-replicate, getD-replicate, List·getD-append}
-use lib.Seq.{length-take-le, getD-append-add, getD-take, getD-drop}
+use Rattle.lists.specs.Core.{ℕ, zero, suc, _+_, _-_, _≤_, _<_, _≡_, refl, ap, sym, _∙_, ⊎-elim, List, [], _∷_, _++_, length, getD, take, drop}
+use Rattle.lists.specs.Core.{replicate, length-replicate, getD-replicate, List·getD-append, length-take-le, getD-append-add, getD-take}
+use Rattle.lists.specs.Core.{getD-drop, not-suc-le-zero, sub-zero, add-sub-cancel-left, le-dest, arith}
 use borrow.Rule.Slice.PartMut.{midOf, putMid, mid-len, same-len-mid, drop-put}
-use native.Mathlib.Nat.{not-suc-le-zero, sub-zero, add-sub-cancel-left, le-dest}
-use native.Mathlib.Omega.{arith}
 use Rattle.lists.specs.Numbers.{le-or-lt}
 use Rattle.lists.specs.Filling.{Upto, upto-none}
 

@@ -1,9 +1,5 @@
 -- Lists made from functions of an index, one element longer, and what `keep` leaves of them.
-use Prim.Native.Nat.{ℕ, zero, suc, _<_}
-use mathlib.Core.Path.{_≡_, refl, ap}
-use mathlib.Core.Bool.{Bool, true, false, cond}
-use mathlib.Core.List.{List, [], _∷_, _++_}
-use native.Mathlib.Omega.{arith}
+use Rattle.lists.specs.Core.{ℕ, zero, suc, _<_, _≡_, refl, ap, Bool, true, false, cond, List, [], _∷_, _++_, arith}
 use Rattle.lists.specs.Lists.{tabulate, keep}
 
 -- A table of one element more is the table and then that element.

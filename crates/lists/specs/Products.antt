@@ -1,9 +1,6 @@
 -- Order laws for products, and what a straight line that rises gradually is at most at a point further on, `line-moved`.
-use Prim.Native.Nat.{ℕ, zero, suc, _+_, _*_, _≤_, _<_}
-use mathlib.Core.Path.{_≡_, ap}
-use mathlib.Core.Logic.{⊎-elim}
-use native.Mathlib.Nat.{le-of-lt, le-dest, mul-le-mul-left, le-of-mul-le-mul-left}
-use native.Mathlib.Omega.{arith}
+use Rattle.lists.specs.Core.{ℕ, zero, suc, _+_, _*_, _≤_, _<_, _≡_, ap, ⊎-elim, le-of-lt, le-dest, mul-le-mul-left, le-of-mul-le-mul-left}
+use Rattle.lists.specs.Core.{arith}
 use Rattle.lists.specs.Numbers.{le-or-lt}
 
 -- A product with n keeps the order of what it multiplies, which need not be known where n is 0.

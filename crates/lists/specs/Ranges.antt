@@ -1,12 +1,6 @@
 -- The least value of a function over a range of indices, and the first index of a range that passes a test.
-use Prim.Native.Nat.{ℕ, zero, suc, _+_, _≤_, _<_, min}
-use mathlib.Core.Path.{_≡_, refl, sym, _∙_}
-use mathlib.Core.Bool.{Bool, true, false, cond, true≢false}
-use mathlib.Core.Logic.{⊎-elim}
-use native.Mathlib.Nat.{min-le-left, min-le-right, le-trans}
-use native.Mathlib.Omega.{arith}
-use lib.Dec.{eqb}
-use borrow.Author.Tests.{eqb-true, eqb-false, eq-eqb}
+use Rattle.lists.specs.Core.{ℕ, zero, suc, _+_, _≤_, _<_, min, _≡_, refl, sym, _∙_, Bool, true, false, cond, true≢false, ⊎-elim, min-le-left}
+use Rattle.lists.specs.Core.{min-le-right, le-trans, arith, eqb, eqb-true, eqb-false, eq-eqb}
 use Rattle.lists.specs.Numbers.{le-or-lt}
 
 -- The least of f k, f (k + 1), .., f (k + n).

@@ -1,11 +1,6 @@
 -- A function that rises from each index to the next rises to every later one, `rises-to`; and a number between the first and a later value of any
 -- function lies between two neighbouring values, `between`.
-use Prim.Native.Nat.{ℕ, zero, suc, _+_, _≤_, _<_}
-use mathlib.Core.Path.{_≡_}
-use mathlib.Core.Logic.{⊎-elim}
-use native.Mathlib.Nat.{le-refl, le-trans}
-use native.Mathlib.Numerals.{add-one}
-use native.Mathlib.Omega.{arith}
+use Rattle.lists.specs.Core.{ℕ, zero, suc, _+_, _≤_, _<_, _≡_, ⊎-elim, le-refl, le-trans, add-one, arith}
 use Rattle.lists.specs.Numbers.{le-or-lt}
 
 -- What rises from each index to the next rises from each to every later one.

@@ -1,14 +1,9 @@
 -- Rows of m entries each, one after the other at the front of a list; and numbers of w bytes each, one after the other, which are read back:
 -- `little-numbers`.
-use Prim.Native.Nat.{ℕ, suc, _+_, _*_, _^_, _≤_, _<_}
-use mathlib.Core.Path.{_≡_, sym, ap, _∙_}
-use mathlib.Core.List.{List, _++_, append-assoc}
-use native.Mathlib.Nat.{zero-add, mul-le-mul-left}
-use native.Mathlib.Numerals.{add-one}
-use native.Mathlib.Omega.{arith}
+use Rattle.lists.specs.Core.{ℕ, suc, _+_, _*_, _^_, _≤_, _<_, _≡_, sym, ap, _∙_, List, _++_, append-assoc, zero-add, mul-le-mul-left, add-one}
+use Rattle.lists.specs.Core.{arith, length, getD, take, drop, length-append, length-drop, List·getD-append, take-at, drop-at, drop-drop}
+use Rattle.lists.specs.Core.{length-take-le, getD-take}
 use lib.Arith.{digits-lt}
-use lib.ListN.{length, getD, take, drop, length-append, length-drop, List·getD-append}
-use lib.Seq.{take-at, drop-at, drop-drop, length-take-le, getD-take}
 use borrow.Rule.Slice.PartMut.{putMid}
 use Rattle.lists.specs.Lists.{rows, rows-same, length-rows, getD-rows}
 use Rattle.lists.specs.Bytes.{littleEndian, bytesOf, length-bytes, little-same, little-bytes}

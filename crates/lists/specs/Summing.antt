@@ -1,9 +1,5 @@
 -- A loop that adds one term a turn.
-use Prim.Native.Nat.{ℕ, _+_, _*_, _≤_, _<_}
-use mathlib.Core.Path.{_≡_, refl}
-use native.Mathlib.Nat.{mul-le-mul-right}
-use native.Mathlib.Numerals.{add-one}
-use native.Mathlib.Omega.{arith}
+use Rattle.lists.specs.Core.{ℕ, _+_, _*_, _≤_, _<_, _≡_, refl, mul-le-mul-right, add-one, arith}
 use Rattle.lists.specs.Sums.{sum, sum-at-most}
 
 -- The state of the loop: after k of n turns the total is the sum of the first k terms.

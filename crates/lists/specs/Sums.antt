@@ -1,9 +1,6 @@
 -- Sums of a function over the indices below a bound.
-use Prim.Native.Nat.{ℕ, zero, suc, _+_, _*_, _≤_, _<_}
-use mathlib.Core.Path.{_≡_, refl}
-use native.Mathlib.Nat.{add-suc, add-zero, zero-add, suc-mul, zero-mul, le-refl}
-use native.Mathlib.Numerals.{one-add}
-use native.Mathlib.Omega.{arith}
+use Rattle.lists.specs.Core.{ℕ, zero, suc, _+_, _*_, _≤_, _<_, _≡_, refl, add-suc, add-zero, zero-add, suc-mul, zero-mul, le-refl, one-add}
+use Rattle.lists.specs.Core.{arith}
 
 -- The sum f 0 + .. + f (n - 1).
 unfoldable pub sum : ℕ → (ℕ → ℕ) → ℕ

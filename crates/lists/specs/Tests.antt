@@ -1,14 +1,7 @@
 -- A test at every index below a bound, or at one, and at every element of a list; laws of tests; and a loop that tests one index after the other,
 -- `Passed`.
-use Prim.Native.Nat.{ℕ, zero, suc, _+_, _≤_, _<_}
-use mathlib.Core.Path.{_≡_, refl, sym, _∙_}
-use mathlib.Core.Bool.{Bool, true, false, not, _&&_, _||_, true≢false}
-use mathlib.Core.List.{List, [], _∷_}
-use mathlib.Core.Logic.{_⊎_, inl, inr, ⊎-elim}
-use native.Mathlib.Nat.{not-suc-le-zero, le-refl}
-use native.Mathlib.Numerals.{add-one}
-use native.Mathlib.Omega.{arith}
-use borrow.Author.Tests.{not-true, not-false}
+use Rattle.lists.specs.Core.{ℕ, zero, suc, _+_, _≤_, _<_, _≡_, refl, sym, _∙_, Bool, true, false, not, _&&_, _||_, true≢false, List, [], _∷_}
+use Rattle.lists.specs.Core.{_⊎_, inl, inr, ⊎-elim, not-suc-le-zero, le-refl, add-one, arith, not-true, not-false}
 use Rattle.lists.specs.Numbers.{le-or-lt, true-or-false}
 
 -- The test f holds at each of 0 to n - 1.

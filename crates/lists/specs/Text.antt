@@ -1,8 +1,7 @@
 -- Texts as the codes of their characters.
-use Prim.Native.Nat.{ℕ}
+use Rattle.lists.specs.Core.{ℕ, List, [], _∷_}
 use Prim.Native.Char.{code}
 use Prim.Native.String.{String, [] as empty, _∷_ as _then_}
-use mathlib.Core.List.{List, [], _∷_}
 
 -- The codes of a string's characters, in their order.
 abbrev pub text : String → List ℕ

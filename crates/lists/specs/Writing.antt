@@ -1,12 +1,7 @@
 -- Texts written one after the other into a list of bytes.
-use Prim.Native.Nat.{ℕ, zero, suc, _+_, _*_, _≤_, _<_}
-use mathlib.Core.Path.{_≡_, refl, sym, _∙_, ap}
-use mathlib.Core.List.{List, [], _∷_, _++_, append-assoc}
-use native.Mathlib.Nat.{le-refl, add-zero, zero-add}
-use native.Mathlib.Numerals.{add-one}
-use native.Mathlib.Omega.{arith}
-use lib.ListN.{length, getD, set, take, drop, length-append, length-set, take-append-drop}
-use lib.Seq.{set-split, take-at, drop-drop, drop-append-add, length-take-le, take-suc, take-length}
+use Rattle.lists.specs.Core.{ℕ, zero, suc, _+_, _*_, _≤_, _<_, _≡_, refl, sym, _∙_, ap, List, [], _∷_, _++_, append-assoc, le-refl, add-zero}
+use Rattle.lists.specs.Core.{zero-add, add-one, arith, length, getD, set, take, drop, length-append, length-set, take-append-drop, set-split}
+use Rattle.lists.specs.Core.{take-at, drop-drop, drop-append-add, length-take-le, take-suc, take-length}
 use Rattle.lists.specs.Lists.{rows, writtenOver}
 use Rattle.lists.specs.Rising.{rises-to}
 

@@ -1,11 +1,6 @@
 -- The catalogue module's table (document 02, §5): its rule, `catalogueEntry`, the tests of a whole table, `TestedTable`, and its entries as a
 -- card's fields, `catalogueBytes`.
-use Prim.Native.Nat.{ℕ, _+_, _-_, _*_, _/_}
-use mathlib.Core.Path.{_≡_}
-use mathlib.Core.Bool.{Bool, true}
-use mathlib.Core.List.{List}
-use lib.ListN.{length, getD}
-use lib.Dec.{eqb}
+use Rattle.lists.specs.Core.{ℕ, _+_, _-_, _*_, _/_, _≡_, Bool, true, List, length, getD, eqb}
 use Rattle.lists.specs.Tests.{every}
 use Rattle.model.specs.Instance.{tableFields, convex, neverFalls}
 

@@ -1,11 +1,6 @@
 -- Examples of document 02, §5: the catalogue module's table, the call that writes it, and the lines of its generator. Beside them answers of wrong
 -- programs, which differ, and bytes that the call does not write, of which `WritesTable` is false.
-use Prim.Native.Nat.{ℕ}
-use mathlib.Core.Path.{_≡_, refl}
-use mathlib.Core.Bool.{Bool, cond}
-use mathlib.Core.List.{List, [], _∷_, _++_}
-use native.Mathlib.Omega.{arith}
-use lib.ListN.{length, take, drop, set}
+use Rattle.lists.specs.Core.{ℕ, _≡_, refl, Bool, cond, List, [], _∷_, _++_, arith, length, take, drop, set}
 use Rattle.lists.specs.Lists.{tabulate}
 use Rattle.lists.specs.Text.{text}
 use Rattle.lists.specs.Bytes.{littleEndian}

@@ -1,10 +1,6 @@
 -- Examples of document 02, §8: a plan limited to a list of counts with a ratio. Beside them answers of wrong programs, which differ.
-use Prim.Native.Nat.{ℕ, _*_}
+use Rattle.lists.specs.Core.{ℕ, _*_, cond, List, [], _∷_, length, take, replicate, arith}
 use Prim.Native.String.{String}
-use mathlib.Core.Bool.{cond}
-use mathlib.Core.List.{List, [], _∷_}
-use lib.ListN.{length, take, replicate}
-use native.Mathlib.Omega.{arith}
 use Rattle.model.specs.Counts.{allCounts, coarseCounts}
 use Rattle.model.specs.Instance.{instanceOf}
 use Rattle.model.specs.Planners.{exact, coarse, listed, keepsList, ratioOf}

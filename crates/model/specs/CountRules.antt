@@ -1,9 +1,5 @@
 -- A list of allowed counts that a customer gives, with its ratio, and the rules for both (document 02, §8).
-use Prim.Native.Nat.{ℕ, _+_, _-_, _*_}
-use mathlib.Core.Bool.{Bool, _&&_}
-use mathlib.Core.List.{List}
-use lib.ListN.{length, getD}
-use lib.Dec.{leb, ltb, eqb}
+use Rattle.lists.specs.Core.{ℕ, _+_, _-_, _*_, Bool, _&&_, List, length, getD, leb, ltb, eqb}
 use Rattle.lists.specs.Tests.{every}
 
 -- The gap after entry j (from 0): how much higher the next entry is. Where it is not higher, the gap is 0.

@@ -1,12 +1,8 @@
 -- Document 01's starred examples, A to J: one table, one proof. Beside it tables of further rows by subject, and one of the answers of
 -- wrong programs, which differ.
-use Prim.Native.Nat.{ℕ, _+_, _-_}
+use Rattle.lists.specs.Core.{ℕ, _+_, _-_, _≡_, refl, ap, sym, _∙_, Bool, true, false, not, false≢true, List, [], _∷_, _++_, map, flatMap, headD}
+use Rattle.lists.specs.Core.{length, getD, take, drop, set, replicate, arith}
 use Prim.Native.String.{String}
-use mathlib.Core.Path.{_≡_, refl, ap, sym, _∙_}
-use mathlib.Core.Bool.{Bool, true, false, not, false≢true}
-use mathlib.Core.List.{List, [], _∷_, _++_, map, flatMap, headD}
-use lib.ListN.{length, getD, take, drop, set, replicate}
-use native.Mathlib.Omega.{arith}
 use Rattle.lists.specs.Tests.{every, allOf}
 use Rattle.lists.specs.Sums.{sum}
 use Rattle.lists.specs.Ranges.{leastOver, firstOver}

@@ -1,7 +1,5 @@
 -- What the explanation of a sheet returns and leaves (document 02, §7).
-use Prim.Native.Nat.{ℕ}
-use mathlib.Core.List.{List, []}
-use lib.ListN.{getD}
+use Rattle.lists.specs.Core.{ℕ, List, [], getD}
 use Rattle.model.specs.declared.Refusal.{Refusal}
 use Rattle.model.specs.declared.Answer.{Answer}
 use Rattle.model.specs.declared.Answer.the-variants.{Cost, Refused}

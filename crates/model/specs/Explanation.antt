@@ -1,9 +1,5 @@
 -- Where the points of a sheet went (document 02, §7): its cost above the least cost in three parts, and what each part being 0 says.
-use Prim.Native.Nat.{ℕ, suc, _+_, _-_, _*_, _≤_, _<_}
-use mathlib.Core.Path.{_≡_}
-use mathlib.Core.Bool.{true, cond}
-use mathlib.Core.List.{List}
-use lib.Dec.{eqb}
+use Rattle.lists.specs.Core.{ℕ, suc, _+_, _-_, _*_, _≤_, _<_, _≡_, true, cond, List, eqb}
 use Rattle.lists.specs.Sums.{sum}
 use Rattle.model.specs.Instance.{Instance}
 use Rattle.model.specs.Counts.{operatingCost, allCounts}

@@ -1,9 +1,6 @@
 -- Examples of document 02, §7: where the points of a sheet went. Beside them answers of wrong programs, which differ.
-use Prim.Native.Nat.{ℕ}
+use Rattle.lists.specs.Core.{ℕ, List, [], _∷_, _++_, take, set, replicate, arith}
 use Prim.Native.String.{String}
-use mathlib.Core.List.{List, [], _∷_, _++_}
-use lib.ListN.{take, set, replicate}
-use native.Mathlib.Omega.{arith}
 use Rattle.lists.specs.Lists.{tabulate}
 use Rattle.lists.specs.Sums.{sum}
 use Rattle.model.specs.Sheets.{stateAt, activeAt, countsOf}

@@ -1,10 +1,6 @@
 -- A show, `Instance`, and its card (document 01, 'The show card'): the places of the fields, how they are read, `instanceOf`, and written,
 -- `cardBytes`, the bounds of the numbers, and when a table is convex and when it never falls ('Running cost of a count').
-use Prim.Native.Nat.{ℕ, _+_, _-_, _*_}
-use mathlib.Core.Bool.{Bool, _&&_}
-use mathlib.Core.List.{List, [], _∷_, _++_}
-use lib.ListN.{take, drop}
-use lib.Dec.{leb}
+use Rattle.lists.specs.Core.{ℕ, _+_, _-_, _*_, Bool, _&&_, List, [], _∷_, _++_, take, drop, leb}
 use Rattle.lists.specs.Tests.{every}
 use Rattle.lists.specs.Lists.{rows}
 use Rattle.lists.specs.Bytes.{littleEndian, bytesOf}

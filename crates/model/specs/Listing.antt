@@ -1,10 +1,6 @@
 -- The texts of the programs, as bytes of ASCII: the planner's (document 01, 'Program and listing') and the generator's (02 §5).
-use Prim.Native.Nat.{ℕ, zero, suc, _+_, _*_, _/_, _%_}
+use Rattle.lists.specs.Core.{ℕ, zero, suc, _+_, _*_, _/_, _%_, cond, List, [], _∷_, _++_, length, getD, take, drop, replicate, ltb}
 use Prim.Native.Char.{code}
-use mathlib.Core.Bool.{cond}
-use mathlib.Core.List.{List, [], _∷_, _++_}
-use lib.ListN.{length, getD, take, drop, replicate}
-use lib.Dec.{ltb}
 use Rattle.lists.specs.Lists.{rows}
 use Rattle.lists.specs.Text.{text}
 use Rattle.model.specs.declared.Answer.{Answer}

@@ -1,6 +1,5 @@
 -- More light than the load (document 02, §2): what a module costs that gives the light of a step or more, and the step it is active at.
-use Prim.Native.Nat.{ℕ, _-_}
-use lib.Dec.{eqb}
+use Rattle.lists.specs.Core.{ℕ, _-_, eqb}
 use Rattle.lists.specs.Ranges.{leastOver, firstOver}
 use Rattle.model.specs.Instance.{Instance}
 

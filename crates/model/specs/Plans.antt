@@ -1,10 +1,5 @@
 -- Plans: the sheet and the cost of one, and the least plan over a list of allowed counts (document 01, 'The plans'; 02 §2).
-use Prim.Native.Nat.{ℕ, zero, suc, _+_, _/_, _%_, _≤_, _<_}
-use mathlib.Core.Path.{_≡_}
-use mathlib.Core.Bool.{Bool, true, cond}
-use mathlib.Core.List.{List, [], _∷_, _++_, map, flatMap}
-use lib.ListN.{length, getD}
-use lib.Dec.{leb, ltb}
+use Rattle.lists.specs.Core.{ℕ, zero, suc, _+_, _/_, _%_, _≤_, _<_, _≡_, Bool, true, cond, List, [], _∷_, _++_, map, flatMap, length, getD, leb, ltb}
 use Rattle.lists.specs.Tests.{every}
 use Rattle.lists.specs.Lists.{tabulate, rows, keep}
 use Rattle.model.specs.Instance.{Instance}

@@ -1,11 +1,7 @@
 -- Examples for the definitions of RelatedShows: shows that stand in these relations, that no others do, and what the planners give a card and
 -- what they do not.
-use Prim.Native.Nat.{ℕ, zero, suc, _≤_}
-use mathlib.Core.Path.{_≡_, refl, sym, ap, ap₂, _∙_}
-use mathlib.Core.List.{List, [], _∷_, _++_, reverse, flatMap}
-use lib.ListN.{length, getD, take}
-use native.Mathlib.Omega.{arith}
-use borrow.Author.Tests.{le-ltb}
+use Rattle.lists.specs.Core.{ℕ, zero, suc, _≤_, _≡_, refl, sym, ap, ap₂, _∙_, List, [], _∷_, _++_, reverse, flatMap, length, getD, take, arith}
+use Rattle.lists.specs.Core.{le-ltb}
 use Rattle.lists.specs.Tests.{every, allOf}
 use Rattle.lists.specs.Sums.{sum}
 use Rattle.lists.specs.Ranges.{leastOver, firstOver}

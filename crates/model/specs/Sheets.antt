@@ -1,9 +1,5 @@
 -- Sheets: when one serves a show, what it costs, and its counts (document 01, 'Terms'; 02 §2).
-use Prim.Native.Nat.{ℕ, zero, suc, _+_, _*_}
-use mathlib.Core.Bool.{Bool, cond, _&&_, _||_}
-use mathlib.Core.List.{List}
-use lib.ListN.{length, getD}
-use lib.Dec.{leb, ltb, eqb}
+use Rattle.lists.specs.Core.{ℕ, zero, suc, _+_, _*_, Bool, cond, _&&_, _||_, List, length, getD, leb, ltb, eqb}
 use Rattle.lists.specs.Tests.{every}
 use Rattle.lists.specs.Sums.{sum}
 use Rattle.lists.specs.Lists.{tabulate}

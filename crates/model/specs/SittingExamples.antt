@@ -1,11 +1,7 @@
 -- Examples of the acts of a sitting (document 02, §4), most of them on card A, whose least cost is 32: tables of acts, a table of what wrong
 -- readings would answer, and a table of sequences of acts, among them a whole sitting, by the calls in turn and by its history.
-use Prim.Native.Nat.{ℕ}
+use Rattle.lists.specs.Core.{ℕ, List, [], _∷_, _++_, map, Option·elim, set, replicate, arith}
 use Prim.Native.String.{String}
-use mathlib.Core.List.{List, [], _∷_, _++_, map}
-use mathlib.Core.Option.{Option·elim}
-use lib.ListN.{set, replicate}
-use native.Mathlib.Omega.{arith}
 use Rattle.lists.specs.FirstPlace.{occurs, countOf, firstPlace, changeFirst}
 use Rattle.model.specs.declared.Seat.{Seat}
 use Rattle.model.specs.declared.Sitting.{Sitting}

@@ -1,11 +1,6 @@
 -- The state of a sitting (document 02, §4), how an event changes it, and the records that hold it: the sitting that each act gives back and
 -- the lent list of seats.
-use Prim.Native.Nat.{ℕ, _+_, min}
-use mathlib.Core.Bool.{Bool, cond, not}
-use mathlib.Core.List.{List, _++_, map}
-use mathlib.Core.Option.{Option, none, some}
-use lib.ListN.{getD, take, drop}
-use lib.Dec.{eqb}
+use Rattle.lists.specs.Core.{ℕ, _+_, min, Bool, cond, not, List, _++_, map, Option, none, some, getD, take, drop, eqb}
 use Rattle.lists.specs.FirstPlace.{occurs, firstPlace, changeFirst}
 use Rattle.model.specs.declared.Seat.{Seat}
 use Rattle.model.specs.declared.Sitting.{Sitting}

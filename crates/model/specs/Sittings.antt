@@ -1,13 +1,7 @@
 -- What an act of a sitting answers and does by the facts of the sitting, and what it leaves: of the state, `next`, and of the records that the
 -- calls hand on, `replyOf` and `seatsAtExit` (document 02, §4). What a list of acts is told: by the calls in turn, `toldInTurn`, and by the history
 -- alone, `toldFrom`.
-use Prim.Native.Nat.{ℕ, min}
-use mathlib.Core.Path.{_≡_}
-use mathlib.Core.Bool.{Bool, true, false, cond}
-use mathlib.Core.List.{List, [], _∷_, headD, flatMap}
-use mathlib.Core.Option.{Option, none, some}
-use lib.ListN.{length}
-use lib.Dec.{leb, eqb}
+use Rattle.lists.specs.Core.{ℕ, min, _≡_, Bool, true, false, cond, List, [], _∷_, headD, flatMap, Option, none, some, length, leb, eqb}
 use Rattle.lists.specs.Lists.{keep}
 use Rattle.lists.specs.Members.{Each}
 use Rattle.lists.specs.FirstPlace.{occurs, countOf}

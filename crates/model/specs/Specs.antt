@@ -1,11 +1,6 @@
 -- What the specification of a call is made of: tests, each with its refusal, the cost of a success, and lent buffers (document 01, 'Refused',
 -- 'The plans'). The groups of tests that several calls make have names here; Calls has the specification of each call, Acts that of each act.
-use Prim.Native.Nat.{ℕ, _*_}
-use mathlib.Core.Path.{_≡_}
-use mathlib.Core.Bool.{Bool, false, cond, not, _&&_, _||_}
-use mathlib.Core.List.{List, [], _∷_, _++_}
-use lib.ListN.{length, replicate}
-use lib.Dec.{ltb, eqb}
+use Rattle.lists.specs.Core.{ℕ, _*_, _≡_, Bool, false, cond, not, _&&_, _||_, List, [], _∷_, _++_, length, replicate, ltb, eqb}
 use Rattle.lists.specs.Lists.{sameList, writtenOver}
 use Rattle.model.specs.declared.Refusal.{Refusal}
 use Rattle.model.specs.declared.Refusal.the-variants.{NotACard, Version, RackSize, SlotCount, CardLength, PriceRange, NotConvex}

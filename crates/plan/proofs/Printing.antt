@@ -1,9 +1,5 @@
 -- What is printed for a card, by its answer and the planner's: the line of a refusal, or the listing of the plan and sheet in the areas.
-use Prim.Native.Nat.{ℕ, _*_, _≤_}
-use mathlib.Core.Path.{_≡_, refl, sym, _∙_, ap}
-use mathlib.Core.List.{List}
-use native.Mathlib.Omega.{arith}
-use lib.ListN.{length, take, length-take, length-replicate}
+use Rattle.lists.specs.Core.{ℕ, _*_, _≤_, _≡_, refl, sym, _∙_, ap, List, arith, length, take, length-take, length-replicate}
 use Rattle.model.specs.declared.Refusal.{Refusal}
 use Rattle.model.specs.declared.Answer.{Answer}
 use Rattle.model.specs.declared.Answer.the-variants.{Cost, Refused}

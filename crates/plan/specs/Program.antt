@@ -1,8 +1,5 @@
 -- What the parts of the program ask for.
-use Prim.Native.Nat.{ℕ, _≤_}
-use mathlib.Core.Path.{_≡_}
-use mathlib.Core.List.{List}
-use lib.ListN.{length, take}
+use Rattle.lists.specs.Core.{ℕ, _≤_, _≡_, List, length, take}
 use Rattle.model.specs.Instance.{instanceOf}
 use Rattle.model.specs.Planners.{exact, workBytes, plannedBy}
 use Rattle.card.specs.declared.Header.{Header}

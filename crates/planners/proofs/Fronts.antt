@@ -1,10 +1,5 @@
 -- A list at the front of a longer one, where a filling function has left it.
-use Prim.Native.Nat.{ℕ, _≤_}
-use mathlib.Core.Path.{_≡_, sym, _∙_, ap}
-use mathlib.Core.List.{List}
-use native.Mathlib.Omega.{arith}
-use lib.ListN.{length, take, drop, length-append}
-use lib.Seq.{take-at}
+use Rattle.lists.specs.Core.{ℕ, _≤_, _≡_, sym, _∙_, ap, List, arith, length, take, drop, length-append, take-at}
 use Rattle.lists.specs.Lists.{writtenOver}
 
 module _ (l old : List ℕ) {new : List ℕ} {r : ℕ} (size : r ≡ length l) (filled : new ≡ writtenOver l old) where

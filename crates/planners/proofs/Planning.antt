@@ -1,13 +1,6 @@
 -- A planner that keeps the rules: its counts as a list that is searched, its answer by the test on its buffers, and its buffers at exit.
-use Prim.Native.Nat.{ℕ, _≤_, _<_}
-use mathlib.Core.Path.{_≡_, refl, sym, ap, _∙_}
-use mathlib.Core.Bool.{Bool, true, false, _||_, or-false}
-use mathlib.Core.List.{List}
-use native.Mathlib.Nat.{mul-le-mul-right}
-use native.Mathlib.Omega.{arith}
-use lib.ListN.{length, take, replicate}
-use lib.Dec.{ltb}
-use borrow.Author.Tests.{ltb-false, lt-ltb, le-ltb}
+use Rattle.lists.specs.Core.{ℕ, _≤_, _<_, _≡_, refl, sym, ap, _∙_, Bool, true, false, _||_, or-false, List, mul-le-mul-right, arith, length, take}
+use Rattle.lists.specs.Core.{replicate, ltb, ltb-false, lt-ltb, le-ltb}
 use Rattle.lists.specs.Lists.{writtenOver}
 use Rattle.lists.specs.Tests.{or-left, or-right}
 use Rattle.model.specs.declared.Refusal.{Refusal}

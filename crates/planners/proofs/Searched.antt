@@ -1,10 +1,5 @@
 -- What the search over a list of allowed counts leaves in the buffers is the least plan over the list, and zeros.
-use Prim.Native.Nat.{ℕ, _≤_}
-use mathlib.Core.Path.{_≡_, sym, _∙_, ap}
-use mathlib.Core.List.{List, _++_}
-use native.Mathlib.Omega.{arith}
-use lib.ListN.{length, take, drop, replicate, length-replicate}
-use lib.Seq.{length-take-le}
+use Rattle.lists.specs.Core.{ℕ, _≤_, _≡_, sym, _∙_, ap, List, _++_, arith, length, take, drop, replicate, length-replicate, length-take-le}
 use Rattle.lists.specs.Lists.{writtenOver}
 use Rattle.model.specs.Instance.{Instance, instanceOf}
 use Rattle.model.specs.Thesis.{countsCost}

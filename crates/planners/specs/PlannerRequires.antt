@@ -1,9 +1,5 @@
 -- The planner of a kind, and what the planners ask for.
-use Prim.Native.Nat.{ℕ, _≤_}
-use mathlib.Core.Bool.{Bool, _||_}
-use mathlib.Core.List.{List}
-use lib.ListN.{length}
-use lib.Dec.{ltb}
+use Rattle.lists.specs.Core.{ℕ, _≤_, Bool, _||_, List, length, ltb}
 use Rattle.model.specs.Instance.{Instance, instanceOf}
 use Rattle.model.specs.Planners.{Planner, exact, coarse, workBytes}
 use Rattle.thresholds.specs.Places.{Ascending}

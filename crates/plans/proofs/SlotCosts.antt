@@ -1,9 +1,5 @@
 -- The cost of a slot by counts.
-use Prim.Native.Nat.{ℕ, _+_, _-_, _*_, _≤_}
-use mathlib.Core.Path.{_≡_, refl}
-use mathlib.Core.List.{List}
-use native.Mathlib.Nat.{mul-le-mul}
-use native.Mathlib.Omega.{arith}
+use Rattle.lists.specs.Core.{ℕ, _+_, _-_, _*_, _≤_, _≡_, refl, List, mul-le-mul, arith}
 use Rattle.model.specs.Instance.{instanceOf}
 use Rattle.model.specs.Counts.{operatingCost}
 use Rattle.model.specs.Thesis.{slotCost}

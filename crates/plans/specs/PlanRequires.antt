@@ -1,9 +1,5 @@
 -- What the functions of this crate ask for.
-use Prim.Native.Nat.{ℕ, _≤_, _<_}
-use mathlib.Core.Path.{_≡_}
-use mathlib.Core.Bool.{true}
-use mathlib.Core.List.{List}
-use lib.ListN.{length, getD}
+use Rattle.lists.specs.Core.{ℕ, _≤_, _<_, _≡_, true, List, length, getD}
 use Rattle.model.specs.Instance.{instanceOf}
 use Rattle.model.specs.Plans.{planServes}
 use Rattle.card.specs.declared.Header.{Header}

@@ -1,9 +1,5 @@
 -- The card that the encoder writes of the table and the loads that are drawn.
-use Prim.Native.Nat.{ℕ, _+_}
-use mathlib.Core.Path.{_≡_}
-use mathlib.Core.List.{List}
-use native.Mathlib.Omega.{arith}
-use lib.ListN.{length}
+use Rattle.lists.specs.Core.{ℕ, _+_, _≡_, List, arith, length}
 use Rattle.lists.specs.Filling.{Upto}
 use Rattle.lists.specs.Writing.{Room, Written}
 use Rattle.model.specs.Instance.{Instance, cardBytes}

@@ -1,6 +1,5 @@
 -- What the first draws and each next one give.
-use Prim.Native.Nat.{ℕ, suc, _+_, _%_}
-use mathlib.Core.Path.{_≡_, ap, _∙_}
+use Rattle.lists.specs.Core.{ℕ, suc, _+_, _%_, _≡_, ap, _∙_}
 use Rattle.model.specs.Practice.{draw, drawn, practiceEntry, practiceShow}
 use Rattle.practice.specs.Drawing.{OfStart}
 

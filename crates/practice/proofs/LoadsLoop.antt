@@ -1,10 +1,5 @@
 -- The loop that draws the loads of a practice show.
-use Prim.Native.Nat.{ℕ, _+_, _*_, _%_, _≤_, _<_}
-use mathlib.Core.Path.{_≡_, refl, subst}
-use mathlib.Core.List.{List}
-use native.Mathlib.Nat.{add-zero, mul-le-mul}
-use native.Mathlib.Omega.{arith}
-use lib.ListN.{length, set}
+use Rattle.lists.specs.Core.{ℕ, _+_, _*_, _%_, _≤_, _<_, _≡_, refl, subst, List, add-zero, mul-le-mul, arith, length, set}
 use Rattle.lists.specs.Filling.{Upto, upto-none, upto-more}
 use Rattle.model.specs.Practice.{draw, drawn, practiceShow}
 use Rattle.laws.specs.PracticeAccepted.{practice-sizes}

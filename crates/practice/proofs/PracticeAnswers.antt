@@ -1,10 +1,5 @@
 -- The answer of the practice call, by the start and the length of its area, and the area at exit.
-use Prim.Native.Nat.{ℕ, _≤_, _<_}
-use mathlib.Core.Path.{_≡_, sym, _∙_}
-use mathlib.Core.List.{List}
-use native.Mathlib.Omega.{arith}
-use lib.ListN.{length}
-use borrow.Author.Tests.{eq-eqb, ne-eqb, lt-ltb}
+use Rattle.lists.specs.Core.{ℕ, _≤_, _<_, _≡_, sym, _∙_, List, arith, length, eq-eqb, ne-eqb, lt-ltb}
 use Rattle.lists.specs.Writing.{Room, Written, written-start}
 use Rattle.model.specs.declared.Refusal.the-variants.{ZeroStart, BufferTooShort}
 use Rattle.model.specs.declared.Answer.{Answer}

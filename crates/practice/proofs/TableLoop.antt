@@ -1,10 +1,5 @@
 -- The loop that draws the table of a practice show.
-use Prim.Native.Nat.{ℕ, suc, _+_, _%_, _≤_, _<_}
-use mathlib.Core.Path.{_≡_, sym, subst, ap}
-use mathlib.Core.List.{List}
-use native.Mathlib.Numerals.{add-one}
-use native.Mathlib.Omega.{arith}
-use lib.ListN.{length, set}
+use Rattle.lists.specs.Core.{ℕ, suc, _+_, _%_, _≤_, _<_, _≡_, sym, subst, ap, List, add-one, arith, length, set}
 use Rattle.lists.specs.Filling.{Upto, upto-none, upto-more}
 use Rattle.model.specs.Practice.{draw, drawn, practiceDifference, practiceEntry}
 use Rattle.laws.specs.PracticeAccepted.{practice-sizes, difference-most, entry-most}

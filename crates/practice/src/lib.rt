@@ -2,9 +2,7 @@
 use encoder::Fields;
 use model::Answer;
 use model::Refusal;
-ghost use mathlib.Core.Path.{_≡_};
-ghost use Prim.Native.Nat.{_+_};
-ghost use lib.ListN.{length};
+ghost use Rattle.lists.specs.Core.{_≡_, _+_, length};
 ghost use Rattle.lists.specs.Filling.{Upto};
 ghost use Rattle.lists.specs.Writing.{Room, Written};
 ghost use Rattle.model.specs.Instance.{cardBytes};

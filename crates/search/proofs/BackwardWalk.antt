@@ -1,9 +1,5 @@
 -- Backward through the slots: the loop.
-use Prim.Native.Nat.{ℕ, suc, _+_, _-_, _≤_, _<_}
-use mathlib.Core.Path.{_≡_, sym, _∙_}
-use mathlib.Core.List.{List}
-use native.Mathlib.Omega.{arith}
-use lib.ListN.{length, getD, set}
+use Rattle.lists.specs.Core.{ℕ, suc, _+_, _-_, _≤_, _<_, _≡_, sym, _∙_, List, arith, length, getD, set}
 use Rattle.lists.specs.Filling.{Downto, downto-none, downto-more, downto-all}
 use Rattle.thresholds.specs.Thresholds.{raisedPlace, raisedAt, inSlot, backward}
 use Rattle.thresholds.specs.ThresholdLaws.{raised-inside, raised-step, raised-end}

@@ -1,12 +1,5 @@
 -- Forward through the slots: the loop, and what it hands to each slot.
-use Prim.Native.Nat.{ℕ, _+_, _-_, _≤_, _<_}
-use mathlib.Core.Path.{_≡_, refl, sym, ap, _∙_}
-use mathlib.Core.List.{List}
-use mathlib.Core.Logic.{⊎-elim}
-use native.Mathlib.Nat.{mul-le-mul-left, le-trans}
-use native.Mathlib.Numerals.{add-one}
-use native.Mathlib.Omega.{arith}
-use lib.ListN.{length, set}
+use Rattle.lists.specs.Core.{ℕ, _+_, _-_, _≤_, _<_, _≡_, refl, sym, ap, _∙_, List, ⊎-elim, mul-le-mul-left, le-trans, add-one, arith, length, set}
 use Rattle.lists.specs.Numbers.{le-or-lt}
 use Rattle.lists.specs.Lists.{tabulate}
 use Rattle.lists.specs.Filling.{Upto, upto-none, upto-more, upto-all}

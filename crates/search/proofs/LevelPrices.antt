@@ -1,13 +1,6 @@
 -- Levels of an accepted card's list of allowed counts, and what they cost.
-use Prim.Native.Nat.{ℕ, _+_, _-_, _*_, _≤_, _<_}
-use mathlib.Core.Path.{_≡_, ap}
-use mathlib.Core.Bool.{true, false}
-use mathlib.Core.List.{List}
-use mathlib.Core.Logic.{⊎-elim}
-use native.Mathlib.Nat.{mul-le-mul, mul-le-mul-right, mul-zero, sub-le, le-trans, le-of-lt}
-use native.Mathlib.Omega.{arith}
-use lib.ListN.{length, List·getD-eq-default}
-use borrow.Author.Tests.{le-leb, lt-leb}
+use Rattle.lists.specs.Core.{ℕ, _+_, _-_, _*_, _≤_, _<_, _≡_, ap, true, false, List, ⊎-elim, mul-le-mul, mul-le-mul-right, mul-zero, sub-le, le-trans}
+use Rattle.lists.specs.Core.{le-of-lt, arith, length, List·getD-eq-default, le-leb, lt-leb}
 use Rattle.lists.specs.Numbers.{le-or-lt}
 use Rattle.model.specs.Instance.{instanceOf}
 use Rattle.model.specs.Counts.{canServe}

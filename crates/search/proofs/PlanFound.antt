@@ -1,10 +1,6 @@
 -- The places found become counts, and these are the plan by thresholds.
-use Prim.Native.Nat.{ℕ, _+_, _≤_, _<_}
-use mathlib.Core.Path.{_≡_, refl, ap, _∙_}
-use mathlib.Core.List.{List, _++_}
-use native.Mathlib.Omega.{arith}
-use lib.Seq.{length-take-le}
-use lib.ListN.{length, getD, set, take, drop, replicate, length-append, length-drop, length-replicate}
+use Rattle.lists.specs.Core.{ℕ, _+_, _≤_, _<_, _≡_, refl, ap, _∙_, List, _++_, arith, length-take-le, length, getD, set, take, drop, replicate}
+use Rattle.lists.specs.Core.{length-append, length-drop, length-replicate}
 use Rattle.lists.specs.Lists.{tabulate, zeros-at}
 use Rattle.lists.specs.Filling.{Upto, upto-more, upto-all}
 use Rattle.model.specs.Instance.{instanceOf}

@@ -1,10 +1,5 @@
 -- The rounds: the loop over the digits, what it hands to the two walks, and that the places stay in the list.
-use Prim.Native.Nat.{ℕ, zero, suc, _+_, _-_, _^_, _≤_, _<_}
-use mathlib.Core.Path.{_≡_, refl, ap, _∙_}
-use mathlib.Core.List.{List}
-use native.Mathlib.Nat.{le-of-lt}
-use native.Mathlib.Omega.{arith}
-use lib.ListN.{length}
+use Rattle.lists.specs.Core.{ℕ, zero, suc, _+_, _-_, _^_, _≤_, _<_, _≡_, refl, ap, _∙_, List, le-of-lt, arith, length}
 use lib.Pow.{pow-mono, pow-pos}
 use Rattle.model.specs.Instance.{Instance, instanceOf}
 use Rattle.card.specs.declared.Header.{Header}

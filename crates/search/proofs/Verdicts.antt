@@ -1,7 +1,5 @@
 -- Verdicts and places as the code makes them from tests that are 0 or 1.
-use Prim.Native.Nat.{ℕ, _+_, _-_, _≤_, _<_, min}
-use mathlib.Core.Path.{_≡_, refl}
-use borrow.Author.Tests.{le-leb, lt-leb}
+use Rattle.lists.specs.Core.{ℕ, _+_, _-_, _≤_, _<_, min, _≡_, refl, le-leb, lt-leb}
 use Rattle.thresholds.specs.Thresholds.{isLess, weighed, raisedPlace}
 
 -- A verdict by its parts: the test on each side, and the truncated difference up to the price.

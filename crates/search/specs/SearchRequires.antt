@@ -1,8 +1,5 @@
 -- What the functions of the search ask for.
-use Prim.Native.Nat.{ℕ, _+_, _≤_, _<_}
-use mathlib.Core.Path.{_≡_}
-use mathlib.Core.List.{List}
-use lib.ListN.{length, getD}
+use Rattle.lists.specs.Core.{ℕ, _+_, _≤_, _<_, _≡_, List, length, getD}
 use Rattle.model.specs.Instance.{instanceOf}
 use Rattle.card.specs.declared.Header.{Header}
 use Rattle.card.specs.Checking.{Ready}

@@ -1,7 +1,5 @@
 -- What the functions of the search return and write.
-use Prim.Native.Nat.{ℕ}
-use mathlib.Core.List.{List}
-use lib.ListN.{length}
+use Rattle.lists.specs.Core.{ℕ, List, length}
 use Rattle.lists.specs.Lists.{tabulate}
 use Rattle.thresholds.specs.Places.{countAtPlace}
 use Rattle.thresholds.specs.Thresholds.{Verdict, inSlot}

@@ -1,7 +1,5 @@
 -- What a scan of the list of seats tells, and the list whose first records are emptied.
-use Prim.Native.Nat.{ℕ}
-use mathlib.Core.List.{List, _++_}
-use lib.ListN.{length, getD, take, drop, replicate}
+use Rattle.lists.specs.Core.{ℕ, List, _++_, length, getD, take, drop, replicate}
 use Rattle.lists.specs.FirstPlace.{firstPlace}
 use Rattle.model.specs.declared.Seat.{Seat}
 use Rattle.model.specs.SittingState.{seatsOf, isOf, emptySeat}

@@ -1,14 +1,7 @@
 -- One step of a scan and one of emptying, with the laws that take the loops from their start to their end.
-use Prim.Native.Nat.{ℕ, zero, suc, _+_, _≤_, _<_, min}
-use mathlib.Core.Path.{_≡_, refl, sym, ap, _∙_}
-use mathlib.Core.Logic.{⊎-elim}
-use mathlib.Core.Bool.{Bool, true, false, cond, true≢false}
-use mathlib.Core.List.{List, [], _∷_}
-use lib.ListN.{length, getD, take, set, replicate, length-take, length-replicate, List·getD-eq-default}
-use lib.Seq.{length-front, getD-take}
-use native.Mathlib.Nat.{zero-min, min-zero, suc-min-suc, min-le-left, min-le-right, le-refl, not-suc-le-zero, le-of-suc-le-suc}
-use native.Mathlib.Numerals.{add-one}
-use native.Mathlib.Omega.{arith}
+use Rattle.lists.specs.Core.{ℕ, zero, suc, _+_, _≤_, _<_, min, _≡_, refl, sym, ap, _∙_, ⊎-elim, Bool, true, false, cond, true≢false, List, [], _∷_}
+use Rattle.lists.specs.Core.{length, getD, take, set, replicate, length-take, length-replicate, List·getD-eq-default, length-front, getD-take}
+use Rattle.lists.specs.Core.{zero-min, min-zero, suc-min-suc, min-le-left, min-le-right, le-refl, not-suc-le-zero, le-of-suc-le-suc, add-one, arith}
 use Rattle.lists.specs.Numbers.{true-or-false}
 use Rattle.lists.specs.FirstPlace.{occurs, firstPlace, place-inside, place-beyond}
 use Rattle.model.specs.declared.Seat.{Seat}

@@ -1,10 +1,5 @@
 -- A sheet buffer of which the first t slots are filled.
-use Prim.Native.Nat.{ℕ, _+_, _-_, _*_, _≤_, _<_}
-use mathlib.Core.Path.{_≡_, ap, _∙_}
-use mathlib.Core.List.{List, _++_}
-use native.Mathlib.Nat.{mul-le-mul-left, zero-mul}
-use native.Mathlib.Omega.{arith}
-use lib.ListN.{length, getD, drop}
+use Rattle.lists.specs.Core.{ℕ, _+_, _-_, _*_, _≤_, _<_, _≡_, ap, _∙_, List, _++_, mul-le-mul-left, zero-mul, arith, length, getD, drop}
 use borrow.Rule.Slice.PartMut.{midOf, putMid}
 use Rattle.lists.specs.Lists.{tabulate, rows, writtenOver, length-rows}
 use Rattle.lists.specs.Parts.{part-length}

@@ -1,12 +1,6 @@
 -- A slot's row, filled in three parts.
-use Prim.Native.Nat.{ℕ, _-_, _+_, _/_, _%_, _≤_, _<_}
-use mathlib.Core.Path.{_≡_, refl, sym, ap, _∙_}
-use mathlib.Core.Bool.{Bool, true, false, cond}
-use mathlib.Core.List.{List, _++_}
-use native.Mathlib.Omega.{arith}
-use lib.ListN.{length, take, drop, replicate}
-use lib.Dec.{ltb}
-use borrow.Author.Tests.{lt-ltb, le-ltb}
+use Rattle.lists.specs.Core.{ℕ, _-_, _+_, _/_, _%_, _≤_, _<_, _≡_, refl, sym, ap, _∙_, Bool, true, false, cond, List, _++_, arith, length, take, drop}
+use Rattle.lists.specs.Core.{replicate, ltb, lt-ltb, le-ltb}
 use mir.Syntax.{w8}
 use mir.Val.{Fits}
 use borrow.Rule.Slice.PartMut.{midOf, putMid}

@@ -1,9 +1,5 @@
 -- Where the row of a slot lies in a sheet, and that it has room for the slot's count.
-use Prim.Native.Nat.{ℕ, _+_, _-_, _*_, _≤_, _<_}
-use mathlib.Core.Path.{_≡_}
-use mathlib.Core.List.{List}
-use native.Mathlib.Omega.{arith}
-use lib.ListN.{length, getD}
+use Rattle.lists.specs.Core.{ℕ, _+_, _-_, _*_, _≤_, _<_, _≡_, List, arith, length, getD}
 use borrow.Rule.Slice.PartMut.{midOf}
 use Rattle.lists.specs.Parts.{part-length}
 use Rattle.lists.specs.Rows.{row-within}

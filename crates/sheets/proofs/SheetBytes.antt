@@ -1,16 +1,8 @@
 -- A sheet's byte: whether it is an entry, its step and its cost.
-use Prim.Native.Nat.{ℕ, _+_, _*_, _≤_, _<_}
-use mathlib.Core.Path.{_≡_, _∙_}
-use mathlib.Core.Bool.{Bool, true, false, cond, not, or-true, or-false}
-use mathlib.Core.List.{List}
-use mathlib.Core.Logic.{⊎-elim}
-use native.Mathlib.Nat.{mul-le-mul}
-use native.Mathlib.Omega.{arith}
-use lib.ListN.{length, getD}
-use lib.Dec.{leb}
+use Rattle.lists.specs.Core.{ℕ, _+_, _*_, _≤_, _<_, _≡_, _∙_, Bool, true, false, cond, not, or-true, or-false, List, ⊎-elim, mul-le-mul, arith}
+use Rattle.lists.specs.Core.{length, getD, leb, leb-true, eq-eqb, ne-eqb, eqb-false}
 use mir.Syntax.{w8}
 use mir.Val.{Fits}
-use borrow.Author.Tests.{leb-true, eq-eqb, ne-eqb, eqb-false}
 use Rattle.lists.specs.Numbers.{true-or-false}
 use Rattle.lists.specs.Tests.{every-at, test-failed, test-passed}
 use Rattle.lists.specs.Sums.{sum-at-most}

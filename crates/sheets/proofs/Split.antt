@@ -1,12 +1,6 @@
 -- A sheet's bytes in rows of m: the first row, and the rows but the first beside the rows but the last.
-use Prim.Native.Nat.{ℕ, _+_, _-_, _<_}
-use mathlib.Core.Path.{_≡_, ap, _∙_}
-use mathlib.Core.List.{List}
-use native.Mathlib.Nat.{le-refl, add-sub-cancel-left}
-use native.Mathlib.Omega.{arith}
-use lib.ListN.{length, getD, take}
-use lib.Seq.{length-take-le, getD-take}
-use borrow.Author.Tests.{lt-ltb, le-ltb}
+use Rattle.lists.specs.Core.{ℕ, _+_, _-_, _<_, _≡_, ap, _∙_, List, le-refl, add-sub-cancel-left, arith, length, getD, take, length-take-le, getD-take}
+use Rattle.lists.specs.Core.{lt-ltb, le-ltb}
 use borrow.Rule.Slice.PartMut.{midOf, mid-len}
 use Rattle.lists.specs.Sums.{sum, sum-ext, sum-join}
 use Rattle.lists.specs.Parts.{part-at}

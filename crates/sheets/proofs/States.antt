@@ -1,13 +1,7 @@
 -- The bytes of a sheet of m × T bytes are its states, slot by slot and module by module.
-use Prim.Native.Nat.{ℕ, zero, suc, _+_, _-_, _*_, _≤_, _<_}
-use mathlib.Core.Path.{_≡_, ap, sym, _∙_}
-use mathlib.Core.Bool.{true, false, cond}
-use mathlib.Core.List.{List}
-use native.Mathlib.Omega.{arith}
-use lib.ListN.{length, getD}
+use Rattle.lists.specs.Core.{ℕ, zero, suc, _+_, _-_, _*_, _≤_, _<_, _≡_, ap, sym, _∙_, true, false, cond, List, arith, length, getD, leb, ltb, lt-ltb}
+use Rattle.lists.specs.Core.{le-ltb, le-leb, lt-leb}
 use lib.Arith.{digits-lt}
-use lib.Dec.{leb, ltb}
-use borrow.Author.Tests.{lt-ltb, le-ltb, le-leb, lt-leb}
 use borrow.Rule.Slice.PartMut.{midOf}
 use Rattle.lists.specs.Sums.{sum-ext}
 use Rattle.lists.specs.Parts.{getD-within, part-length, part-at}

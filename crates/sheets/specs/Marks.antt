@@ -1,9 +1,5 @@
 -- What the functions of this crate give where the model's definitions take a whole card or sheet.
-use Prim.Native.Nat.{ℕ, _+_}
-use mathlib.Core.Bool.{cond}
-use mathlib.Core.List.{List}
-use lib.ListN.{length, getD}
-use lib.Dec.{ltb}
+use Rattle.lists.specs.Core.{ℕ, _+_, cond, List, length, getD, ltb}
 use Rattle.lists.specs.Sums.{sum}
 use Rattle.model.specs.Instance.{Instance}
 use Rattle.model.specs.Sheets.{off, isOff, stepOf, stepCost, changeCost}

@@ -1,8 +1,6 @@
 // The sheet of a plan, and the marking of a sheet that is handed in.
 use card::Header;
-ghost use Prim.Native.Nat.{_≤_};
-ghost use mathlib.Core.Path.{_≡_};
-ghost use lib.ListN.{length};
+ghost use Rattle.lists.specs.Core.{_≤_, _≡_, length};
 ghost use Rattle.lists.specs.Lists.{tabulate, writtenOver};
 ghost use Rattle.model.specs.Instance.{instanceOf};
 ghost use Rattle.model.specs.Sheets.{isEntry, stepOf, sheetEntries, sheetLight, sheetCost};

@@ -1,9 +1,5 @@
 -- The lowest cost of a seat: marking a sheet, and reading it.
-use Prim.Native.Nat.{ℕ, _≤_, _<_, min}
-use mathlib.Core.Path.{_≡_, _∙_}
-use mathlib.Core.Option.{Option·getD, Option·elim}
-use native.Mathlib.Omega.{arith}
-use borrow.Author.Tests.{eq-eqb, ne-eqb}
+use Rattle.lists.specs.Core.{ℕ, _≤_, _<_, min, _≡_, _∙_, Option·getD, Option·elim, arith, eq-eqb, ne-eqb}
 use Rattle.model.specs.declared.Refusal.{Refusal}
 use Rattle.model.specs.declared.Answer.the-variants.{Cost, Refused}
 use Rattle.model.specs.declared.Seat.{Seat}

@@ -1,10 +1,5 @@
 -- The tests on the number that stands for a sitting's phase, and on its allowance.
-use Prim.Native.Nat.{ℕ, _<_, _≤_}
-use mathlib.Core.Path.{_≡_, refl}
-use mathlib.Core.Bool.{Bool, true, false, cond, not}
-use mathlib.Core.Logic.{⊎-elim}
-use lib.Dec.{eqb, leb}
-use borrow.Author.Tests.{eqb-true, ne-eqb, le-leb, lt-leb}
+use Rattle.lists.specs.Core.{ℕ, _<_, _≤_, _≡_, refl, Bool, true, false, cond, not, ⊎-elim, eqb, leb, eqb-true, ne-eqb, le-leb, lt-leb}
 use Rattle.lists.specs.Numbers.{true-or-false}
 use Rattle.model.specs.Acts.{opened, closed, unopened, isOpened, isClosed, isUnopened, allowanceInRange}
 use Rattle.model.specs.SittingState.{phaseOf}

@@ -1,9 +1,5 @@
 -- The answer to a submission, by its tests, and what a submission does, by its answer.
-use Prim.Native.Nat.{ℕ, _+_}
-use mathlib.Core.Path.{_≡_, refl, sym, ap, _∙_}
-use mathlib.Core.Bool.{true, false}
-use mathlib.Core.List.{List, [], _∷_}
-use mathlib.Core.Logic.{⊎-elim}
+use Rattle.lists.specs.Core.{ℕ, _+_, _≡_, refl, sym, ap, _∙_, true, false, List, [], _∷_, ⊎-elim}
 use Rattle.model.specs.declared.Refusal.{Refusal}
 use Rattle.model.specs.declared.Answer.{Answer}
 use Rattle.model.specs.declared.Answer.the-variants.{Cost, Refused}

@@ -1,13 +1,6 @@
 -- What an act makes of a view of the list is what it makes of the list.
-use Prim.Native.Nat.{ℕ}
-use mathlib.Core.Path.{_≡_, refl, sym, ap, _∙_}
-use mathlib.Core.Bool.{Bool, true, not}
-use mathlib.Core.List.{List, _++_, map}
-use lib.ListN.{length, getD, set, take-append-drop, List·getD-map}
-use native.Mathlib.Nat.{le-refl}
-use lib.Seq.{set-append-left, set-out}
-use lib.Dec.{eqb}
-use borrow.Author.Tests.{not-false}
+use Rattle.lists.specs.Core.{ℕ, _≡_, refl, sym, ap, _∙_, Bool, true, not, List, _++_, map, length, getD, set, take-append-drop, List·getD-map}
+use Rattle.lists.specs.Core.{le-refl, set-append-left, set-out, eqb, not-false}
 use Rattle.lists.specs.Tests.{or-right}
 use Rattle.lists.specs.FirstPlace.{occurs, firstPlace, changeFirst, occurs-place, place-inside, change-sets, occurs-map, place-map}
 use Rattle.model.specs.declared.Answer.{Answer}

@@ -1,8 +1,5 @@
 -- What an opening does, decided without the list of seats, is what it does with the list.
-use Prim.Native.Nat.{ℕ}
-use mathlib.Core.Path.{_≡_, refl, sym, ap}
-use mathlib.Core.List.{List, [], _∷_, _++_, map}
-use lib.ListN.{length, replicate}
+use Rattle.lists.specs.Core.{ℕ, _≡_, refl, sym, ap, List, [], _∷_, _++_, map, length, replicate}
 use Rattle.model.specs.declared.Answer.{Answer}
 use Rattle.model.specs.declared.Answer.the-variants.{Cost, Refused}
 use Rattle.model.specs.declared.Seat.{Seat}

@@ -1,9 +1,5 @@
 -- What an act makes of a view of the list of seats.
-use Prim.Native.Nat.{ℕ}
-use mathlib.Core.Path.{_≡_}
-use mathlib.Core.Bool.{Bool, not, _||_}
-use mathlib.Core.List.{[]}
-use lib.Dec.{ltb, eqb}
+use Rattle.lists.specs.Core.{ℕ, _≡_, Bool, not, _||_, [], ltb, eqb}
 use Rattle.model.specs.declared.Refusal.{Refusal}
 use Rattle.model.specs.declared.Answer.{Answer}
 use Rattle.model.specs.declared.Answer.the-variants.{Cost, Refused}

@@ -1,15 +1,8 @@
 -- Shows that agree in table and prices (document 02, §3): a slot with the same count and load costs the same in both. So a plan costs the
 -- same on a larger rack, and a plan of one show followed by a plan of another costs at most as much as the two.
-use Prim.Native.Nat.{ℕ, zero, suc, _+_, _-_, _*_, _/_, _%_, _≤_, _<_}
-use mathlib.Core.Path.{_≡_, refl, sym, ap, ap₂, _∙_}
-use mathlib.Core.Bool.{true}
-use mathlib.Core.Logic.{⊎-elim}
-use mathlib.Core.List.{List, _++_}
-use native.Mathlib.Nat.{add-suc, le-trans, le-dest, mul-le-mul-left, mul-le-mul-right, div-le-of-le-mul, eq-zero-or-pos}
-use native.Mathlib.Omega.{arith}
-use lib.ListN.{length, getD, length-append, List·getD-append}
-use lib.Seq.{getD-append-add}
-use borrow.Author.Tests.{leb-true}
+use Rattle.lists.specs.Core.{ℕ, zero, suc, _+_, _-_, _*_, _/_, _%_, _≤_, _<_, _≡_, refl, sym, ap, ap₂, _∙_, true, ⊎-elim, List, _++_, add-suc}
+use Rattle.lists.specs.Core.{le-trans, le-dest, mul-le-mul-left, mul-le-mul-right, div-le-of-le-mul, eq-zero-or-pos, arith, length, getD}
+use Rattle.lists.specs.Core.{length-append, List·getD-append, getD-append-add, leb-true}
 use Rattle.lists.specs.Numbers.{le-or-lt}
 use Rattle.lists.specs.Division.{quotient-lt}
 use Rattle.lists.specs.Ranges.{least-over-same}

@@ -1,14 +1,7 @@
 -- The hypotheses of the theorems can be met: they hold of document 01's example E, of a show whose table falls, of an accepted card, of the
 -- whole sitting of the examples, and of card A with the catalogue module's table.
-use Prim.Native.Nat.{ℕ, _*_, _≤_}
-use mathlib.Core.Path.{_≡_, refl}
-use mathlib.Core.Bool.{true, false}
-use mathlib.Core.List.{List, [], _∷_, _++_}
-use mathlib.Core.Option.{Option·elim}
-use native.Mathlib.Omega.{arith}
-use lib.Dec.{leb, lit<}
-use lib.ListN.{getD, take, drop, replicate}
-use borrow.Author.Tests.{leb-true}
+use Rattle.lists.specs.Core.{ℕ, _*_, _≤_, _≡_, refl, true, false, List, [], _∷_, _++_, Option·elim, arith, leb, lit<, getD, take, drop, replicate}
+use Rattle.lists.specs.Core.{leb-true}
 use Rattle.lists.specs.Tests.{every, every-at}
 use Rattle.lists.specs.Lists.{tabulate}
 use Rattle.lists.specs.Members.{Each}

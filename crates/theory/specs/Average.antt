@@ -1,11 +1,8 @@
 -- The operating cost never falls with more light, since G never falls: `more-light`, `lighter`. Its average over the modules never rises with their
 -- number: `average-falls`.
-use Prim.Native.Nat.{ℕ, zero, suc, _+_, _-_, _*_, _/_, _%_, _≤_, _<_}
-use mathlib.Core.Path.{_≡_, ap}
-use mathlib.Core.Logic.{⊎-elim}
-use native.Mathlib.Nat.{mul-le-mul, mul-le-mul-left, mul-le-mul-right, lt-of-mul-lt-mul-left, le-of-mul-le-mul-left}
-use native.Mathlib.Nat.{add-zero, sub-zero, mod-lt, div-add-mod, mul-add-div, div-eq-of-lt, mul-add-mod-self-left, mod-eq-of-lt}
-use native.Mathlib.Omega.{arith}
+use Rattle.lists.specs.Core.{ℕ, zero, suc, _+_, _-_, _*_, _/_, _%_, _≤_, _<_, _≡_, ap, ⊎-elim, mul-le-mul, mul-le-mul-left, mul-le-mul-right}
+use Rattle.lists.specs.Core.{lt-of-mul-lt-mul-left, le-of-mul-le-mul-left, add-zero, sub-zero, mod-lt, div-add-mod, mul-add-div, div-eq-of-lt}
+use Rattle.lists.specs.Core.{mul-add-mod-self-left, mod-eq-of-lt, arith}
 use Rattle.lists.specs.Numbers.{le-or-lt}
 use Rattle.lists.specs.Products.{exchange, mul-le-mul-some}
 use Rattle.lists.specs.Rising.{rises-to}

@@ -1,14 +1,7 @@
 -- The balanced sheet on a sheet's own active modules (document 02, §7): it serves, with the same modules active in the same slots, and costs
 -- just as much to operate as the sheet's counts.
-use Prim.Native.Nat.{ℕ, zero, suc, _+_, _*_, _≤_, _<_}
-use mathlib.Core.Path.{_≡_, refl, ap, _∙_}
-use mathlib.Core.Bool.{Bool, true, false, cond, or-true}
-use mathlib.Core.List.{List}
-use mathlib.Core.Logic.{⊎-elim}
-use lib.Dec.{leb}
-use native.Mathlib.Nat.{add-zero, le-refl, le-dest}
-use native.Mathlib.Numerals.{add-one}
-use native.Mathlib.Omega.{arith}
+use Rattle.lists.specs.Core.{ℕ, zero, suc, _+_, _*_, _≤_, _<_, _≡_, refl, ap, _∙_, Bool, true, false, cond, or-true, List, ⊎-elim, leb, add-zero}
+use Rattle.lists.specs.Core.{le-refl, le-dest, add-one, arith}
 use Rattle.lists.specs.Numbers.{true-or-false}
 use Rattle.lists.specs.Sums.{sum, sum-ext, sum-join}
 use Rattle.model.specs.Instance.{Instance}

@@ -1,10 +1,6 @@
 -- The worked examples of facts 1 to 5 of docs/COURSE-BOOK.md, on cards that meet the hypotheses of these facts: `book-examples`; and that sharper
 -- forms of the facts fail, as `coarse-sometimes-dearer`.
-use Prim.Native.Nat.{ℕ, _≤_}
-use mathlib.Core.Path.{_≡_, refl, sym, ap, ap₂, _∙_}
-use mathlib.Core.Bool.{true}
-use mathlib.Core.List.{List, [], _∷_, _++_, flatMap, reverse}
-use native.Mathlib.Omega.{arith}
+use Rattle.lists.specs.Core.{ℕ, _≤_, _≡_, refl, sym, ap, ap₂, _∙_, true, List, [], _∷_, _++_, flatMap, reverse, arith}
 use Rattle.lists.specs.Tests.{every}
 use Rattle.lists.specs.Sums.{sum}
 use Rattle.lists.specs.Ranges.{leastOver, firstOver}

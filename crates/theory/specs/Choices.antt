@@ -1,11 +1,5 @@
 -- The best of several places, a place at a time from the last one down.
-use Prim.Native.Nat.{ℕ, _≤_, _<_}
-use mathlib.Core.Path.{_≡_, refl, ap}
-use mathlib.Core.Bool.{Bool, true, false, cond}
-use mathlib.Core.Logic.{⊎-elim}
-use native.Mathlib.Omega.{arith}
-use lib.Dec.{leb}
-use borrow.Author.Tests.{leb-true, leb-false}
+use Rattle.lists.specs.Core.{ℕ, _≤_, _<_, _≡_, refl, ap, Bool, true, false, cond, ⊎-elim, arith, leb, leb-true, leb-false}
 use Rattle.lists.specs.Numbers.{le-or-lt}
 use Rattle.theory.specs.Columns.{Choice, cheaper}
 

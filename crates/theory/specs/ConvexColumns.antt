@@ -1,12 +1,6 @@
 -- Columns are convex, `column-bends`. So the verdict of a slot on a level, with the column's difference there for the right lead, is right about
 -- the searched plan: `judged-at`, `next-slope`.
-use Prim.Native.Nat.{ℕ, zero, suc, _+_, _-_, _*_, _≤_, _<_, min}
-use mathlib.Core.Path.{_≡_}
-use mathlib.Core.Logic.{⊎-elim}
-use mathlib.Core.List.{List}
-use native.Mathlib.Nat.{le-of-lt, mul-le-mul-left}
-use native.Mathlib.Omega.{arith}
-use lib.ListN.{length}
+use Rattle.lists.specs.Core.{ℕ, zero, suc, _+_, _-_, _*_, _≤_, _<_, min, _≡_, ⊎-elim, List, le-of-lt, mul-le-mul-left, arith, length}
 use Rattle.lists.specs.Numbers.{le-or-lt}
 use Rattle.lists.specs.Backwards.{back-step, back-all}
 use Rattle.model.specs.Instance.{Instance}

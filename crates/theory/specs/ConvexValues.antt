@@ -1,9 +1,6 @@
 -- Three values in convex position, numbers only: the middle one is at most the straight line between its neighbours.
-use Prim.Native.Nat.{ℕ, _+_, _-_, _*_, _≤_, _<_, min}
-use mathlib.Core.Path.{_≡_, ap}
-use mathlib.Core.Logic.{⊎-elim}
-use native.Mathlib.Nat.{eq-zero-or-pos, le-of-lt, lt-of-not-le, mul-le-mul-left, min-eq-left, min-eq-right, min-le-left, min-le-right}
-use native.Mathlib.Omega.{arith}
+use Rattle.lists.specs.Core.{ℕ, _+_, _-_, _*_, _≤_, _<_, min, _≡_, ap, ⊎-elim, eq-zero-or-pos, le-of-lt, lt-of-not-le, mul-le-mul-left, min-eq-left}
+use Rattle.lists.specs.Core.{min-eq-right, min-le-left, min-le-right, arith}
 use Rattle.lists.specs.Numbers.{le-or-lt}
 
 -- Of the values a, b, c at three points, the second u after the first and v before the third, the middle one is at most the straight line

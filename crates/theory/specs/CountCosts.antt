@@ -1,11 +1,6 @@
 -- What the counts of a plan cost (thesis 3.9 to 3.13): their operating cost, and both prices for each rise. From 0 before the first slot to 0
 -- after the last the counts rise as much as they fall.
-use Prim.Native.Nat.{ℕ, suc, _+_, _-_, _*_}
-use mathlib.Core.Path.{_≡_, refl, sym, ap, _∙_}
-use mathlib.Core.List.{List}
-use native.Mathlib.Numerals.{add-one}
-use native.Mathlib.Omega.{arith}
-use lib.ListN.{length, List·getD-eq-default}
+use Rattle.lists.specs.Core.{ℕ, suc, _+_, _-_, _*_, _≡_, refl, sym, ap, _∙_, List, add-one, arith, length, List·getD-eq-default}
 use Rattle.lists.specs.Sums.{sum, sum-add, sum-scale, sum-balance}
 use Rattle.model.specs.Instance.{Instance}
 use Rattle.model.specs.Counts.{operatingCost}

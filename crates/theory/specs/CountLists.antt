@@ -1,17 +1,8 @@
 -- The rules for a list of allowed counts and its ratio (document 02, §8) as propositions, `InRules`: that the test `keepsRules` decides them within
 -- its bounds, `rules-hold`, `rules-kept`; what they say of every list, `rules-grow`; and that the counts allowed a planner keep them with its
 -- ratio, if a list that it is handed passes the test, `planner-rules`.
-use Prim.Native.Nat.{ℕ, zero, suc, _+_, _-_, _*_, _^_, _≤_, _<_}
-use mathlib.Core.Path.{_≡_, refl, ap}
-use mathlib.Core.Bool.{true}
-use mathlib.Core.List.{List}
-use mathlib.Core.Logic.{_⊎_, inl, inr, ⊎-elim}
-use native.Mathlib.Nat.{le-refl, le-trans, mul-le-mul-right}
-use native.Mathlib.Numerals.{add-one}
-use native.Mathlib.Omega.{arith}
-use lib.ListN.{length, getD}
-use lib.Dec.{ltb}
-use borrow.Author.Tests.{leb-true, le-leb, ltb-true, lt-ltb, eqb-true, eq-eqb}
+use Rattle.lists.specs.Core.{ℕ, zero, suc, _+_, _-_, _*_, _^_, _≤_, _<_, _≡_, refl, ap, true, List, _⊎_, inl, inr, ⊎-elim, le-refl, le-trans}
+use Rattle.lists.specs.Core.{mul-le-mul-right, add-one, arith, length, getD, ltb, leb-true, le-leb, ltb-true, lt-ltb, eqb-true, eq-eqb}
 use Rattle.lists.specs.Numbers.{le-or-lt}
 use Rattle.lists.specs.Tests.{every-at, every-all, and-left, and-right}
 use Rattle.lists.specs.Lists.{length-tabulate, getD-tabulate}

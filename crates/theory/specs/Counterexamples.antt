@@ -1,12 +1,6 @@
 -- Shows and cards on which the conclusion of a theorem or of a clause fails without one of its hypotheses, or with a stronger conclusion.
-use Prim.Native.Nat.{ℕ, zero, suc, _+_, _*_, _^_, _≤_, _<_, max}
-use mathlib.Core.Path.{_≡_, refl}
-use mathlib.Core.Bool.{true, false}
-use mathlib.Core.List.{List, [], _∷_, _++_}
-use native.Mathlib.Omega.{arith}
-use lib.ListN.{length, getD, take, set}
-use lib.Dec.{leb, lit<}
-use borrow.Author.Tests.{leb-true}
+use Rattle.lists.specs.Core.{ℕ, zero, suc, _+_, _*_, _^_, _≤_, _<_, max, _≡_, refl, true, false, List, [], _∷_, _++_, arith, length, getD, take, set}
+use Rattle.lists.specs.Core.{leb, lit<, leb-true}
 use Rattle.lists.specs.Tests.{every, every-at}
 use Rattle.lists.specs.Sums.{sum}
 use Rattle.lists.specs.Ranges.{leastOver, firstOver}

@@ -1,17 +1,9 @@
 -- The function `leastPlan`, which gives the first of the cheapest plans in an enumeration of all plans in tie order, gives the least plan,
 -- `least-plan`, and there is only one least plan, `least-plan-unique`.
-use Prim.Native.Nat.{ℕ, zero, suc, _+_, _≤_, _<_}
-use mathlib.Core.Path.{_≡_, refl, sym, ap, _∙_}
-use mathlib.Core.Bool.{Bool, true, false, cond}
-use mathlib.Core.Logic.{⊎-elim}
-use mathlib.Core.List.{List, [], _∷_, _++_, map, List·Memᴰ, List·Memᴰ·head, List·Memᴰ·tail}
-use mathlib.Core.List.{List·Memᴰ·not-nil, List·Memᴰ·cases-cons, List·Memᴰ·eq-of-singleton, Memᴰ·cast, Memᴰ·map}
-use native.Mathlib.Nat.{not-suc-le-zero}
-use native.Mathlib.Omega.{arith}
-use lib.ListN.{length, getD, take, replicate, length-replicate, getD-replicate}
-use lib.Seq.{getD-at, take-all, take-suc, length-take-le, getD-take}
-use lib.Dec.{ltb}
-use borrow.Author.Tests.{ltb-true, ltb-false}
+use Rattle.lists.specs.Core.{ℕ, zero, suc, _+_, _≤_, _<_, _≡_, refl, sym, ap, _∙_, Bool, true, false, cond, ⊎-elim, List, [], _∷_, _++_, map}
+use Rattle.lists.specs.Core.{List·Memᴰ, List·Memᴰ·head, List·Memᴰ·tail, List·Memᴰ·not-nil, List·Memᴰ·cases-cons, List·Memᴰ·eq-of-singleton, Memᴰ·cast}
+use Rattle.lists.specs.Core.{Memᴰ·map, not-suc-le-zero, arith, length, getD, take, replicate, length-replicate, getD-replicate, getD-at, take-all}
+use Rattle.lists.specs.Core.{take-suc, length-take-le, getD-take, ltb, ltb-true, ltb-false}
 use Rattle.lists.specs.Numbers.{le-or-lt}
 use Rattle.lists.specs.Lists.{keep}
 use Rattle.lists.specs.Members.{InOrder, none, next, member-at, place-of, snoc-before, snoc-length, rising-in-order}

@@ -2,13 +2,7 @@
 -- `switching-at-least` in SheetLaws), together the sheet's cost above the least, `points-together`, and each is 0 exactly if changing that one
 -- thing alone saves nothing, `spread-zero`, `swaps-zero`, `counts-zero`. All three are 0 exactly if no sheet that serves costs less, `all-zero`.
 -- The sheets of plans have spread 0 and swaps 0, `plan-points`, and the exact plan's sheet has counts 0 too, `exact-points`.
-use Prim.Native.Nat.{ℕ, zero, suc, _+_, _≤_, _<_}
-use mathlib.Core.Path.{_≡_, refl}
-use mathlib.Core.Bool.{true}
-use mathlib.Core.List.{List}
-use mathlib.Core.Logic.{_↔_, ⊎-elim}
-use borrow.Author.Tests.{eq-eqb, le-ltb}
-use native.Mathlib.Omega.{arith}
+use Rattle.lists.specs.Core.{ℕ, zero, suc, _+_, _≤_, _<_, _≡_, refl, true, List, _↔_, ⊎-elim, eq-eqb, le-ltb, arith}
 use Rattle.lists.specs.Numbers.{le-or-lt}
 use Rattle.lists.specs.Sums.{sum-ext}
 use Rattle.lists.specs.Lists.{tabulate-same}

@@ -1,12 +1,7 @@
 -- The dynamic program over a list of allowed counts gives the least plan by counts from a start count, first in tie order: `searched-least`, and
 -- its cost: `searched-cost`.
-use Prim.Native.Nat.{ℕ, zero, suc, _+_, _-_, _*_, _≤_, _<_}
-use mathlib.Core.Path.{_≡_, refl, sym, _∙_}
-use mathlib.Core.List.{List, [], _∷_, _++_}
-use native.Mathlib.Nat.{not-suc-le-zero, zero-sub, mul-zero}
-use native.Mathlib.Omega.{arith}
-use lib.ListN.{length, getD}
-use lib.Seq.{getD-at}
+use Rattle.lists.specs.Core.{ℕ, zero, suc, _+_, _-_, _*_, _≤_, _<_, _≡_, refl, sym, _∙_, List, [], _∷_, _++_, not-suc-le-zero, zero-sub, mul-zero}
+use Rattle.lists.specs.Core.{arith, length, getD, getD-at}
 use Rattle.lists.specs.Sums.{sum}
 use Rattle.lists.specs.Members.{snoc-before, snoc-length}
 use Rattle.model.specs.Instance.{Instance}

@@ -1,15 +1,7 @@
 -- What is read of a long input (document 01, 'Program and listing'): no accepted card is longer than 2,869 bytes, so what follows the first 2,870
 -- bytes is without effect on what the program prints: `long-printed`.
-use Prim.Native.Nat.{ℕ, _+_, _≤_}
-use mathlib.Core.Path.{_≡_, _∙_, ap}
-use mathlib.Core.Bool.{Bool, true, false, not, _&&_}
-use mathlib.Core.List.{List, _∷_}
-use mathlib.Core.Logic.{⊎-elim}
-use native.Mathlib.Omega.{arith}
-use lib.Dec.{leb, ltb, eqb}
-use lib.ListN.{length, take, replicate}
-use lib.Seq.{length-take-le, take-take}
-use borrow.Author.Tests.{le-ltb, leb-true, ltb-false, ne-eqb, not-false}
+use Rattle.lists.specs.Core.{ℕ, _+_, _≤_, _≡_, _∙_, ap, Bool, true, false, not, _&&_, List, _∷_, ⊎-elim, arith, leb, ltb, eqb, length, take}
+use Rattle.lists.specs.Core.{replicate, length-take-le, take-take, le-ltb, leb-true, ltb-false, ne-eqb, not-false}
 use Rattle.lists.specs.Numbers.{true-or-false}
 use Rattle.lists.specs.Tests.{and-right}
 use Rattle.lists.specs.Bytes.{little-take}

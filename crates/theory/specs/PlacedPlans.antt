@@ -1,12 +1,5 @@
 -- Plans whose counts stand at places of a list of allowed counts.
-use Prim.Native.Nat.{ℕ, suc, _≤_, _<_}
-use mathlib.Core.Path.{_≡_, sym, _∙_}
-use mathlib.Core.Bool.{true}
-use mathlib.Core.Logic.{⊎-elim}
-use mathlib.Core.List.{List, [], _∷_, _++_}
-use native.Mathlib.Omega.{arith}
-use lib.ListN.{length, getD}
-use lib.Seq.{getD-at}
+use Rattle.lists.specs.Core.{ℕ, suc, _≤_, _<_, _≡_, sym, _∙_, true, ⊎-elim, List, [], _∷_, _++_, arith, length, getD, getD-at}
 use Rattle.lists.specs.Numbers.{le-or-lt}
 use Rattle.lists.specs.Tests.{every-at, every-all}
 use Rattle.lists.specs.Members.{snoc-before}

@@ -1,11 +1,6 @@
 -- A column between its places: the straight lines through its values at neighbouring counts.
-use Prim.Native.Nat.{ℕ, _+_, _-_, _*_, _≤_, _<_}
-use mathlib.Core.Path.{_≡_, ap}
-use mathlib.Core.List.{List}
-use mathlib.Core.Logic.{⊎-elim}
-use native.Mathlib.Nat.{le-dest, le-of-lt, mul-le-mul-left, le-of-mul-le-mul-left}
-use native.Mathlib.Omega.{arith}
-use lib.ListN.{length}
+use Rattle.lists.specs.Core.{ℕ, _+_, _-_, _*_, _≤_, _<_, _≡_, ap, List, ⊎-elim, le-dest, le-of-lt, mul-le-mul-left, le-of-mul-le-mul-left, arith}
+use Rattle.lists.specs.Core.{length}
 use Rattle.lists.specs.Numbers.{le-or-lt}
 use Rattle.lists.specs.Products.{line-moved}
 use Rattle.lists.specs.Rising.{between}

@@ -1,15 +1,8 @@
 -- Over a list of allowed counts that grow by r, `GrowsBy`, the least cost by counts, from any start count, is at most r times what every plan that
 -- serves costs with the price of the start: `ratio` (compare thesis 5.5, 5.11).
-use Prim.Native.Nat.{ℕ, zero, suc, _+_, _-_, _*_, _≤_, _<_, min}
-use mathlib.Core.Path.{_≡_, ap}
-use mathlib.Core.Bool.{true}
-use mathlib.Core.List.{List}
-use mathlib.Core.Logic.{⊎-elim}
-use native.Mathlib.Nat.{sub-self, sub-le, min-le-left, min-le-right, mul-zero, add-zero, zero-add, le-refl, le-trans}
-use native.Mathlib.Nat.{mul-le-mul-left, mul-le-mul-right, le-of-mul-le-mul-left}
-use native.Mathlib.Omega.{arith}
-use lib.ListN.{length, getD}
-use borrow.Author.Tests.{leb-true, le-leb}
+use Rattle.lists.specs.Core.{ℕ, zero, suc, _+_, _-_, _*_, _≤_, _<_, min, _≡_, ap, true, List, ⊎-elim, sub-self, sub-le, min-le-left, min-le-right}
+use Rattle.lists.specs.Core.{mul-zero, add-zero, zero-add, le-refl, le-trans, mul-le-mul-left, mul-le-mul-right, le-of-mul-le-mul-left, arith, length}
+use Rattle.lists.specs.Core.{getD, leb-true, le-leb}
 use Rattle.lists.specs.Numbers.{le-or-lt}
 use Rattle.lists.specs.Tests.{every-at}
 use Rattle.lists.specs.Sums.{sum}

@@ -1,14 +1,7 @@
 -- The swaps by sheets (document 02, §7): they are 0 exactly if no sheet that serves, with the same steps in each slot, costs less:
 -- `swaps-zero-sheets`.
-use Prim.Native.Nat.{ℕ, zero, suc, _-_, _*_, _≤_, _<_}
-use mathlib.Core.Path.{_≡_, refl, sym, ap, _∙_}
-use mathlib.Core.Bool.{true, false, cond}
-use mathlib.Core.List.{List}
-use mathlib.Core.Logic.{_↔_, Iff·trans, ⊎-elim}
-use lib.Dec.{eqb}
-use borrow.Author.Tests.{eq-eqb, ne-eqb, eqb-true}
-use native.Mathlib.Nat.{not-suc-le-zero, le-of-suc-le-suc, eq-or-lt-of-le, add-sub-of-le, mul-zero}
-use native.Mathlib.Omega.{arith}
+use Rattle.lists.specs.Core.{ℕ, zero, suc, _-_, _*_, _≤_, _<_, _≡_, refl, sym, ap, _∙_, true, false, cond, List, _↔_, Iff·trans, ⊎-elim, eqb, eq-eqb}
+use Rattle.lists.specs.Core.{ne-eqb, eqb-true, not-suc-le-zero, le-of-suc-le-suc, eq-or-lt-of-le, add-sub-of-le, mul-zero, arith}
 use Rattle.lists.specs.Numbers.{le-or-lt, true-or-false}
 use Rattle.lists.specs.Lists.{tabulate-same}
 use Rattle.lists.specs.Sums.{sum, sum-ext, sum-add, sum-scale, sum-const, sum-from}

@@ -1,16 +1,9 @@
 -- The answer of every call: the first refusal of its list that applies, `answered-first`, which is the lowest one where no paragraph of document 02
 -- sets an order, `OwnOrder`, `refusals-ascend`, `lowest-least`, or, where none applies, the cost, `accepted-none`. No call answers 9, `nine-never`,
 -- and after a refusal every lent buffer of bytes is as it was lent, `refused-unchanged`.
-use Prim.Native.Nat.{ℕ, _+_, _-_, _≤_, _<_}
-use mathlib.Core.Path.{_≡_, refl, sym, ap, _∙_}
-use mathlib.Core.Bool.{true, false, not, true≢false}
-use mathlib.Core.Logic.{_⊎_, inl, inr, ⊎-elim}
-use mathlib.Core.List.{List, [], _∷_, _++_, map, List·Memᴰ, List·Memᴰ·head, List·Memᴰ·not-nil, List·Memᴰ·cases-cons, Memᴰ·map, Memᴰ·append-right}
-use native.Mathlib.Nat.{le-refl, le-of-lt}
-use native.Mathlib.Omega.{arith}
-use lib.ListN.{length}
-use lib.Dec.{eqb}
-use borrow.Author.Tests.{ltb-true, lt-ltb, eqb-false, not-true}
+use Rattle.lists.specs.Core.{ℕ, _+_, _-_, _≤_, _<_, _≡_, refl, sym, ap, _∙_, true, false, not, true≢false, _⊎_, inl, inr, ⊎-elim, List, [], _∷_, _++_}
+use Rattle.lists.specs.Core.{map, List·Memᴰ, List·Memᴰ·head, List·Memᴰ·not-nil, List·Memᴰ·cases-cons, Memᴰ·map, Memᴰ·append-right, le-refl, le-of-lt}
+use Rattle.lists.specs.Core.{arith, length, eqb, ltb-true, lt-ltb, eqb-false, not-true}
 use Rattle.lists.specs.Numbers.{true-or-false}
 use Rattle.lists.specs.Tests.{every, every-at, every-all, allOf}
 use Rattle.lists.specs.Members.{each-member, InOrder, next, in-order-at, rising-in-order, all-of-at}

@@ -1,10 +1,7 @@
 -- A show played backwards (document 02, §3): a plan in reverse costs the same there, since its counts, from 0 back to 0, rise as much as they
 -- fall. So the least plan in reverse is the least plan, and, being the smallest in every slot, the one of the tie rule.
-use Prim.Native.Nat.{ℕ, zero, suc, _+_, _-_, _*_, _≤_}
-use mathlib.Core.Path.{_≡_, refl, sym, ap, _∙_}
-use mathlib.Core.List.{List, reverse, reverse-reverse}
-use native.Mathlib.Omega.{arith}
-use lib.ListN.{length, getD, length-reverse, List·getD-eq-default}
+use Rattle.lists.specs.Core.{ℕ, zero, suc, _+_, _-_, _*_, _≤_, _≡_, refl, sym, ap, _∙_, List, reverse, reverse-reverse, arith, length, getD}
+use Rattle.lists.specs.Core.{length-reverse, List·getD-eq-default}
 use Rattle.lists.specs.Sums.{sum, sum-reverse}
 use Rattle.lists.specs.Lists.{from-back, getD-reverse}
 use Rattle.model.specs.Instance.{Instance}

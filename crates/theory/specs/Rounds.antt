@@ -1,12 +1,6 @@
 -- Each round of the search digit by digit halves the places in which the searched plan is known to be, until one is left in each slot:
 -- `rounds-found`.
-use Prim.Native.Nat.{ℕ, zero, suc, _+_, _-_, _^_, _≤_, _<_}
-use mathlib.Core.Path.{_≡_, sym, ap, _∙_}
-use mathlib.Core.Logic.{⊎-elim}
-use mathlib.Core.List.{List}
-use native.Mathlib.Nat.{pow-zero, two-pow-succ}
-use native.Mathlib.Omega.{arith}
-use lib.ListN.{length, replicate}
+use Rattle.lists.specs.Core.{ℕ, zero, suc, _+_, _-_, _^_, _≤_, _<_, _≡_, sym, ap, _∙_, ⊎-elim, List, pow-zero, two-pow-succ, arith, length, replicate}
 use lib.Pow.{pow-pos}
 use Rattle.lists.specs.Numbers.{le-or-lt}
 use Rattle.lists.specs.Backwards.{back-end}

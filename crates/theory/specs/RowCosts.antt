@@ -1,14 +1,8 @@
 -- On a convex table the operating cost of a count is the least cost of a row of bytes with enough light, `row-at-least`, and the row of a plan
 -- attains it, `plan-row-cost`. It is the thesis's n·f(L/n) with straight lines between table entries, with G for F: `straight-line`.
-use Prim.Native.Nat.{ℕ, zero, suc, _+_, _-_, _*_, _/_, _%_, _≤_, _<_}
-use mathlib.Core.Path.{_≡_, refl, ap, sym, _∙_}
-use mathlib.Core.Bool.{Bool, true, false, cond, or-true, or-false}
-use mathlib.Core.Logic.{_⊎_, inl, inr, ⊎-elim}
-use lib.Dec.{leb}
-use borrow.Author.Tests.{leb-true, le-leb, eqb-true, ne-eqb}
-use native.Mathlib.Nat.{add-sub-of-le, mod-lt, div-add-mod, div-le-of-le-mul}
-use native.Mathlib.Nat.{le-trans, le-of-lt, eq-or-lt-of-le, eq-zero-or-pos, mul-le-mul-left, mul-le-mul-right}
-use native.Mathlib.Omega.{arith}
+use Rattle.lists.specs.Core.{ℕ, zero, suc, _+_, _-_, _*_, _/_, _%_, _≤_, _<_, _≡_, refl, ap, sym, _∙_, Bool, true, false, cond, or-true, or-false}
+use Rattle.lists.specs.Core.{_⊎_, inl, inr, ⊎-elim, leb, leb-true, le-leb, eqb-true, ne-eqb, add-sub-of-le, mod-lt, div-add-mod, div-le-of-le-mul}
+use Rattle.lists.specs.Core.{le-trans, le-of-lt, eq-or-lt-of-le, eq-zero-or-pos, mul-le-mul-left, mul-le-mul-right, arith}
 use Rattle.lists.specs.Numbers.{le-or-lt, true-or-false}
 use Rattle.lists.specs.Division.{remainder-le, quotient-lt, part-and-rest}
 use Rattle.lists.specs.Sums.{sum, sum-const, sum-from, sum-at-most}

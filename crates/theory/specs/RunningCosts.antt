@@ -1,9 +1,6 @@
 -- On a convex table the operating cost of a load is convex in the count, over the counts that serve the load: `running-convex`.
-use Prim.Native.Nat.{ℕ, _+_, _-_, _*_, _/_, _%_, _≤_, _<_}
-use mathlib.Core.Path.{_≡_, ap}
-use mathlib.Core.Logic.{⊎-elim}
-use native.Mathlib.Nat.{add-zero, eq-zero-or-pos, div-add-mod, div-le-of-le-mul, sub-add-cancel, mul-le-mul-left, mul-le-mul-right}
-use native.Mathlib.Omega.{arith}
+use Rattle.lists.specs.Core.{ℕ, _+_, _-_, _*_, _/_, _%_, _≤_, _<_, _≡_, ap, ⊎-elim, add-zero, eq-zero-or-pos, div-add-mod, div-le-of-le-mul}
+use Rattle.lists.specs.Core.{sub-add-cancel, mul-le-mul-left, mul-le-mul-right, arith}
 use Rattle.lists.specs.Numbers.{le-or-lt}
 use Rattle.lists.specs.Products.{mul-le-mul-some}
 use Rattle.lists.specs.Division.{remainder-le, quotient-lt}

@@ -1,18 +1,10 @@
 -- Sheets: their cost by the modules that go on, `sheet-cost-starts`; the thesis's 2.2 and 2.3, `thesis-cost`, `serves-feasible`; that on a convex
 -- table a sheet that serves costs at least what its counts cost, `sheet-at-least`; and that the sheet of a plan serves and costs just that,
 -- `plan-sheet-serves`, `plan-cost-counts`; operating cost and switching cost also apart (02 §7).
-use Prim.Native.Nat.{ℕ, zero, suc, _+_, _-_, _*_, _/_, _%_, _≤_, _<_}
-use mathlib.Core.Path.{_≡_, refl, ap, ap₂, sym, _∙_, subst}
-use mathlib.Core.Bool.{Bool, true, false, cond}
-use mathlib.Core.Logic.{_↔_, ⊎-elim}
-use mathlib.Core.List.{List}
-use lib.ListN.{length, getD}
+use Rattle.lists.specs.Core.{ℕ, zero, suc, _+_, _-_, _*_, _/_, _%_, _≤_, _<_, _≡_, refl, ap, ap₂, sym, _∙_, subst, Bool, true, false, cond, _↔_}
+use Rattle.lists.specs.Core.{⊎-elim, List, length, getD, eqb-true, eq-eqb, leb-true, le-leb, lt-ltb, le-ltb, le-refl, le-trans, le-of-lt, add-le-add}
+use Rattle.lists.specs.Core.{mul-le-mul-left, mul-zero, mul-comm, eq-zero-or-pos, mod-lt, div-lt-iff-lt-mul, div-add-mod', add-one, arith}
 use lib.Arith.{digits-lt}
-use borrow.Author.Tests.{eqb-true, eq-eqb, leb-true, le-leb, lt-ltb, le-ltb}
-use native.Mathlib.Nat.{le-refl, le-trans, le-of-lt, add-le-add, mul-le-mul-left, mul-zero, mul-comm}
-use native.Mathlib.Nat.{eq-zero-or-pos, mod-lt, div-lt-iff-lt-mul, div-add-mod'}
-use native.Mathlib.Numerals.{add-one}
-use native.Mathlib.Omega.{arith}
 use Rattle.lists.specs.Tests.{every-at, every-all, and-left, and-right, and-both}
 use Rattle.lists.specs.Sums.{sum, sum-ext, sum-mono, sum-const}
 use Rattle.lists.specs.Lists.{tabulate, length-tabulate, getD-tabulate, equal-tabulate, rows, length-rows, getD-rows}

@@ -1,12 +1,7 @@
 -- What an act of a sitting can do, by the rules that its answer has passed (document 02, §4): `Possible` says which events can happen in a state,
 -- and what an act does is one of them, `acts-possible`.
-use Prim.Native.Nat.{ℕ, _<_}
-use mathlib.Core.Path.{_≡_, refl, sym, ap, _∙_}
-use mathlib.Core.Bool.{Bool, true, false, not, _&&_, true≢false}
-use mathlib.Core.List.{List, [], _∷_, _++_, map}
-use mathlib.Core.Logic.{⊎-elim}
-use lib.Dec.{leb, eqb}
-use borrow.Author.Tests.{not-false, leb-false}
+use Rattle.lists.specs.Core.{ℕ, _<_, _≡_, refl, sym, ap, _∙_, Bool, true, false, not, _&&_, true≢false, List, [], _∷_, _++_, map, ⊎-elim, leb, eqb}
+use Rattle.lists.specs.Core.{not-false, leb-false}
 use Rattle.lists.specs.Numbers.{true-or-false}
 use Rattle.lists.specs.Tests.{or-left, or-right, and-left, and-right, allOf}
 use Rattle.lists.specs.FirstPlace.{occurs}

@@ -1,17 +1,9 @@
 -- When the state of a sitting is that of a history, a list of events (document 02, §4): `Joined`, and of its seats `SeatsTold`. Then both give the
 -- same facts, `joined-agrees`. The state after an opening is that of every history that ends with it, `opening-joined`, and it stays so with
 -- everything that can happen, `event-joined`.
-use Prim.Native.Nat.{ℕ, _+_, _≤_, _<_}
-use mathlib.Core.Path.{_≡_, refl, sym, ap, _∙_}
-use mathlib.Core.Bool.{true, false, not, true≢false}
-use mathlib.Core.List.{List, [], _∷_, map, headD, flatMap}
-use mathlib.Core.Option.{Option, none, some}
-use mathlib.Core.Logic.{⊎-elim}
-use native.Mathlib.Nat.{le-refl}
-use native.Mathlib.Omega.{arith}
-use lib.ListN.{length, getD, length-map, List·getD-eq-default}
-use lib.Dec.{leb, eqb}
-use borrow.Author.Tests.{lt-ltb, le-ltb, le-leb, lt-leb, eqb-true, eqb-false, ne-eqb}
+use Rattle.lists.specs.Core.{ℕ, _+_, _≤_, _<_, _≡_, refl, sym, ap, _∙_, true, false, not, true≢false, List, [], _∷_, map, headD, flatMap, Option}
+use Rattle.lists.specs.Core.{none, some, ⊎-elim, le-refl, arith, length, getD, length-map, List·getD-eq-default, leb, eqb, lt-ltb, le-ltb, le-leb}
+use Rattle.lists.specs.Core.{lt-leb, eqb-true, eqb-false, ne-eqb}
 use Rattle.lists.specs.Numbers.{true-or-false, le-or-lt}
 use Rattle.lists.specs.Lists.{keep}
 use Rattle.lists.specs.FirstPlace.{occurs, countOf, firstPlace, changeFirst, occurs-count, place-beyond, length-change, count-taken}

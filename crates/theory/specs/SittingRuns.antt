@@ -1,10 +1,6 @@
 -- Any sequence of acts of a sitting that starts afresh is told what the rules tell from the history alone (document 02, §4): `any-sequence`. What a
 -- call leaves holds the state that the transition makes of the one handed to it: `transition`.
-use Prim.Native.Nat.{ℕ}
-use mathlib.Core.Path.{_≡_, refl, sym, ap, _∙_, subst}
-use mathlib.Core.Bool.{false, true≢false}
-use mathlib.Core.List.{List, [], _∷_}
-use lib.ListN.{length, length-map}
+use Rattle.lists.specs.Core.{ℕ, _≡_, refl, sym, ap, _∙_, subst, false, true≢false, List, [], _∷_, length, length-map}
 use Rattle.lists.specs.FirstPlace.{occurs}
 use Rattle.model.specs.declared.Answer.{Answer}
 use Rattle.model.specs.declared.Seat.{Seat}

@@ -1,12 +1,7 @@
 -- One slot's choice is the least over all places that serve, and the smallest place that attains it: `slot-best`, `column-best`. So a column rises
 -- with the place, by at most the switching price a module: `column-rises`, `column-slope`.
-use Prim.Native.Nat.{ℕ, zero, suc, _+_, _-_, _*_, _≤_, _<_}
-use mathlib.Core.Path.{_≡_, refl, sym, ap, _∙_}
-use mathlib.Core.Bool.{Bool, true, false, cond, false≢true}
-use mathlib.Core.List.{List}
-use native.Mathlib.Nat.{mul-le-mul-left}
-use native.Mathlib.Omega.{arith}
-use lib.ListN.{length}
+use Rattle.lists.specs.Core.{ℕ, zero, suc, _+_, _-_, _*_, _≤_, _<_, _≡_, refl, sym, ap, _∙_, Bool, true, false, cond, false≢true, List}
+use Rattle.lists.specs.Core.{mul-le-mul-left, arith, length}
 use Rattle.model.specs.Instance.{Instance}
 use Rattle.model.specs.Counts.{canServe}
 use Rattle.model.specs.Thesis.{switchingPrice}

@@ -1,14 +1,8 @@
 -- Of all plans of least cost the one that the tie rule chooses is the smallest in every slot, `least-plan-smallest`, and no sheet that serves at
 -- the least cost has fewer modules active in a slot, `least-sheet-smallest`. The reason: of two plans the slot-wise smaller one and the slot-wise
 -- larger one together cost no more than the two, since the price of a rise is convex in the difference of two counts.
-use Prim.Native.Nat.{ℕ, zero, suc, _+_, _-_, _≤_, _<_, min, max}
-use mathlib.Core.Path.{_≡_, sym, _∙_}
-use mathlib.Core.Bool.{true}
-use mathlib.Core.Logic.{⊎-elim}
-use mathlib.Core.List.{List}
-use native.Mathlib.Nat.{le-of-lt, min-le-left, min-le-right, min-eq-left, min-eq-right, max-eq-left, max-eq-right, mul-le-mul-left}
-use native.Mathlib.Omega.{arith}
-use lib.ListN.{getD}
+use Rattle.lists.specs.Core.{ℕ, zero, suc, _+_, _-_, _≤_, _<_, min, max, _≡_, sym, _∙_, true, ⊎-elim, List, le-of-lt, min-le-left, min-le-right}
+use Rattle.lists.specs.Core.{min-eq-left, min-eq-right, max-eq-left, max-eq-right, mul-le-mul-left, arith, getD}
 use Rattle.lists.specs.Numbers.{le-or-lt}
 use Rattle.lists.specs.Sums.{sum, sum-mono, sum-add}
 use Rattle.lists.specs.Lists.{tabulate, length-tabulate, getD-tabulate}

@@ -1,11 +1,7 @@
 -- Switching between two rows of bytes: how many modules go on, at least as many as the count rises by, `started-at-least`, and between rows of
 -- plans just as many, `plan-started`; and what the changes cost, `change-cost`.
-use Prim.Native.Nat.{ℕ, zero, suc, _+_, _-_, _*_, _≤_, _<_}
-use mathlib.Core.Path.{_≡_, refl, ap, _∙_}
-use mathlib.Core.Bool.{Bool, true, false, cond}
-use mathlib.Core.Logic.{⊎-elim}
-use native.Mathlib.Nat.{le-refl, le-of-lt, mul-zero}
-use native.Mathlib.Omega.{arith}
+use Rattle.lists.specs.Core.{ℕ, zero, suc, _+_, _-_, _*_, _≤_, _<_, _≡_, refl, ap, _∙_, Bool, true, false, cond, ⊎-elim, le-refl, le-of-lt, mul-zero}
+use Rattle.lists.specs.Core.{arith}
 use Rattle.lists.specs.Numbers.{le-or-lt}
 use Rattle.lists.specs.Sums.{sum, sum-mono, sum-add, sum-scale, sum-const, sum-balance}
 use Rattle.model.specs.Instance.{Instance}

@@ -1,12 +1,5 @@
 -- The plan that is found digit by digit is the searched plan, `threshold-searched`, so it is the least plan by counts, `threshold-least`.
-use Prim.Native.Nat.{ℕ, zero, suc, _^_, _≤_, _<_}
-use mathlib.Core.Path.{_≡_, sym, ap, _∙_}
-use mathlib.Core.Logic.{⊎-elim}
-use mathlib.Core.List.{List, []}
-use native.Mathlib.Nat.{le-of-lt, not-suc-le-zero}
-use native.Mathlib.Omega.{arith}
-use lib.ListN.{getD}
-use lib.Seq.{getD-at}
+use Rattle.lists.specs.Core.{ℕ, zero, suc, _^_, _≤_, _<_, _≡_, sym, ap, _∙_, ⊎-elim, List, [], le-of-lt, not-suc-le-zero, arith, getD, getD-at}
 use Rattle.lists.specs.Numbers.{le-or-lt}
 use Rattle.lists.specs.Backwards.{back-end, back-step}
 use Rattle.lists.specs.Lists.{equal-tabulate}

@@ -1,12 +1,6 @@
 -- The tie order of plans: the last slot in which two plans differ decides.
-use Prim.Native.Nat.{ℕ, zero, suc, _≤_, _<_}
-use mathlib.Core.Path.{_≡_, sym, _∙_}
-use mathlib.Core.Logic.{⊎-elim}
-use mathlib.Core.List.{List, [], _∷_, _++_}
-use native.Mathlib.Nat.{not-suc-le-zero, le-antisymm}
-use native.Mathlib.Omega.{arith}
-use lib.ListN.{length, getD}
-use lib.Seq.{ext-getD, getD-at}
+use Rattle.lists.specs.Core.{ℕ, zero, suc, _≤_, _<_, _≡_, sym, _∙_, ⊎-elim, List, [], _∷_, _++_, not-suc-le-zero, le-antisymm, arith, length, getD}
+use Rattle.lists.specs.Core.{ext-getD, getD-at}
 use Rattle.lists.specs.Numbers.{le-or-lt}
 use Rattle.lists.specs.Members.{snoc-before}
 

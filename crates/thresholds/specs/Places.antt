@@ -1,14 +1,6 @@
 -- Lists of allowed counts that ascend from 0 to m, `Ascending`, how fast they grow, `GrowsBy`, and laws of their places. A place is an index of the
 -- list.
-use Prim.Native.Nat.{ℕ, zero, suc, _+_, _-_, _*_, _≤_, _<_}
-use mathlib.Core.Path.{_≡_}
-use mathlib.Core.Bool.{true}
-use mathlib.Core.Logic.{⊎-elim}
-use mathlib.Core.List.{List}
-use native.Mathlib.Numerals.{add-one}
-use native.Mathlib.Omega.{arith}
-use lib.ListN.{length, getD}
-use borrow.Author.Tests.{le-leb}
+use Rattle.lists.specs.Core.{ℕ, zero, suc, _+_, _-_, _*_, _≤_, _<_, _≡_, true, ⊎-elim, List, add-one, arith, length, getD, le-leb}
 use Rattle.lists.specs.Numbers.{le-or-lt}
 use Rattle.lists.specs.Members.{InOrder, rising-in-order, in-order-at, in-order-le}
 use Rattle.model.specs.Instance.{Instance}

@@ -1,10 +1,6 @@
 -- Plans found digit by digit, beside the least plans by a dynamic program over columns, which were worked out apart from these
 -- definitions.
-use Prim.Native.Nat.{ℕ, _-_}
-use mathlib.Core.Path.{_≡_, refl}
-use mathlib.Core.Bool.{Bool, true, _&&_}
-use mathlib.Core.List.{List, [], _∷_}
-use lib.ListN.{length, getD}
+use Rattle.lists.specs.Core.{ℕ, _-_, _≡_, refl, Bool, true, _&&_, List, [], _∷_, length, getD}
 use Rattle.lists.specs.Backwards.{fromEnd, backTo}
 use Rattle.lists.specs.Lists.{tabulate, sameList}
 use Rattle.lists.specs.Ranges.{leastOver}

@@ -1,15 +1,7 @@
 -- Laws of what the search digit by digit computes: the verdict of a slot by cases, the bounds of sides and leads, `side-most`, `lead-most`,
 -- `carried-most`, and a round slot by slot.
-use Prim.Native.Nat.{ℕ, suc, _+_, _-_, _≤_, _<_}
-use mathlib.Core.Path.{_≡_, refl, sym, ap, _∙_}
-use mathlib.Core.Bool.{Bool, true, false, cond}
-use mathlib.Core.List.{List}
-use mathlib.Core.Logic.{⊎-elim}
-use native.Mathlib.Nat.{le-of-lt, eq-or-lt-of-le}
-use native.Mathlib.Omega.{arith}
-use lib.Dec.{leb}
-use lib.ListN.{length, List·getD-eq-default}
-use borrow.Author.Tests.{le-leb, lt-leb, eq-eqb, ne-eqb}
+use Rattle.lists.specs.Core.{ℕ, suc, _+_, _-_, _≤_, _<_, _≡_, refl, sym, ap, _∙_, Bool, true, false, cond, List, ⊎-elim, le-of-lt, eq-or-lt-of-le}
+use Rattle.lists.specs.Core.{arith, leb, length, List·getD-eq-default, le-leb, lt-leb, eq-eqb, ne-eqb}
 use Rattle.lists.specs.Numbers.{le-or-lt, true-or-false}
 use Rattle.lists.specs.Lists.{tabulate, length-tabulate, getD-tabulate}
 use Rattle.lists.specs.Backwards.{back-end, back-step}

@@ -1,7 +1,4 @@
-use Prim.Native.Nat.{_-_}
-use mathlib.Core.Path.{refl, _∙_}
-use native.Mathlib.Omega.{arith}
-use lib.ListN.{length}
+use Rattle.lists.specs.Core.{_-_, refl, _∙_, arith, length}
 use Rattle.lists.specs.Lists.{tabulate-constant}
 use Rattle.lists.specs.Filling.{Upto, upto-none, upto-more, upto-all}
 use Rattle.buffers.proofs.fill.Statement.{statement}

@@ -1,6 +1,5 @@
-use native.Mathlib.Omega.{arith}
+use Rattle.lists.specs.Core.{arith, needs}
 use Rattle.lists.specs.Writing.{written-one}
-use borrow.Author.Needs.{needs}
 use Rattle.buffers.proofs.put.Statement.{statement}
 use Rattle.buffers.proofs.put.Tie as tie
 

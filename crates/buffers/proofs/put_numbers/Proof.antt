@@ -1,9 +1,6 @@
-use Prim.Native.Nat.{_-_}
-use native.Mathlib.Omega.{arith}
-use lib.ListN.{length, getD}
+use Rattle.lists.specs.Core.{_-_, arith, length, getD, needs}
 use Rattle.lists.specs.Writing.{RowsWritten, rows-none, rows-room, rows-more, rows-all}
 use Rattle.lists.specs.Bytes.{bytesOf}
-use borrow.Author.Needs.{needs}
 use Rattle.buffers.proofs.put_numbers.Statement.{statement}
 use Rattle.buffers.proofs.put_numbers.Tie as tie
 

@@ -1,4 +1,4 @@
-use borrow.Author.Needs.{needs}
+use Rattle.lists.specs.Core.{needs}
 use Rattle.lists.specs.Bytes.{bytesOf}
 use Rattle.buffers.proofs.put_one.Statement.{statement}
 use Rattle.buffers.proofs.put_one.Tie as tie

@@ -1,6 +1,5 @@
-use mathlib.Core.Path.{sym}
+use Rattle.lists.specs.Core.{sym, needs}
 use Rattle.card.proofs.Groups.{accepted-answer, refused-answer}
-use borrow.Author.Needs.{needs}
 use Rattle.calls.proofs.check_card.Statement.{statement}
 use Rattle.calls.proofs.check_card.Tie as tie
 

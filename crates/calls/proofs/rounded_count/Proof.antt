@@ -1,7 +1,4 @@
-use Prim.Native.Nat.{ℕ, _≤_}
-use mathlib.Core.Path.{_≡_}
-use mathlib.Core.Bool.{true}
-use borrow.Author.Needs.{needs}
+use Rattle.lists.specs.Core.{ℕ, _≤_, _≡_, true, needs}
 use Rattle.lists.specs.Tests.{test-failed, test-passed}
 use Rattle.model.specs.Instance.{rackNumber}
 use Rattle.laws.specs.Acceptance.{rack-range}

@@ -1,4 +1,4 @@
-use borrow.Author.Needs.{needs}
+use Rattle.lists.specs.Core.{needs}
 use Rattle.lists.specs.Tests.{test-failed, test-passed}
 use Rattle.card.proofs.CardTests.{front-short, front-unmarked, front-version, front-passed}
 use Rattle.card.proofs.check_front.Statement.{statement}

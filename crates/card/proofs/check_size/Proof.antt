@@ -1,6 +1,6 @@
 use Rattle.lists.specs.Tests.{test-failed, test-passed}
 use Rattle.card.proofs.CardTests.{size-rack, size-slots, size-length, size-passed}
-use borrow.Author.Needs.{needs}
+use Rattle.lists.specs.Core.{needs}
 use Rattle.card.proofs.check_size.Statement.{statement}
 use Rattle.card.proofs.check_size.Tie as tie
 

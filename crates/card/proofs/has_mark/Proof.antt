@@ -1,4 +1,4 @@
-use borrow.Author.Needs.{needs}
+use Rattle.lists.specs.Core.{needs}
 use Rattle.card.proofs.Mark.{mark-first, mark-second, mark-third}
 use Rattle.card.proofs.has_mark.Statement.{statement}
 use Rattle.card.proofs.has_mark.Tie as tie

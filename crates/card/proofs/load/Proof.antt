@@ -1,7 +1,6 @@
-use native.Mathlib.Omega.{arith}
+use Rattle.lists.specs.Core.{arith, needs}
 use Rattle.card.proofs.FieldsRead.{read-at}
 use Rattle.model.specs.Instance.{instanceOf}
-use borrow.Author.Needs.{needs}
 use Rattle.card.proofs.load.Statement.{statement}
 use Rattle.card.proofs.load.Tie as tie
 

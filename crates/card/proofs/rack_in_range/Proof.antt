@@ -1,5 +1,5 @@
 use Rattle.lists.specs.Tests.{test-failed, test-passed}
-use borrow.Author.Needs.{needs}
+use Rattle.lists.specs.Core.{needs}
 use Rattle.card.proofs.rack_in_range.Statement.{statement}
 use Rattle.card.proofs.rack_in_range.Tie as tie
 

@@ -1,4 +1,4 @@
-use borrow.Author.Tests.{le-leb, lt-leb}
+use Rattle.lists.specs.Core.{le-leb, lt-leb}
 use Rattle.card.proofs.rack_number.Statement.{statement}
 use Rattle.card.proofs.rack_number.Tie as tie
 

@@ -1,6 +1,4 @@
-use borrow.Author.Needs.{needs}
-use mathlib.Core.Path.{refl}
-use native.Mathlib.Omega.{arith}
+use Rattle.lists.specs.Core.{needs, refl, arith}
 use Rattle.model.specs.Instance.{instanceOf}
 use Rattle.card.proofs.FieldsRead.{read-at}
 use Rattle.card.proofs.read_header.Statement.{statement}

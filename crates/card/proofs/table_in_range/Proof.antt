@@ -1,7 +1,4 @@
-use Prim.Native.Nat.{_+_, _-_}
-use native.Mathlib.Omega.{arith}
-use lib.Dec.{leb}
-use borrow.Author.Tests.{le-leb, lt-leb}
+use Rattle.lists.specs.Core.{_+_, _-_, arith, leb, le-leb, lt-leb}
 use Rattle.lists.specs.Tests.{Passed, passed-none, passed-more, passed-all, passed-not}
 use Rattle.model.specs.Instance.{instanceOf, tableInRange}
 use Rattle.card.proofs.table_in_range.Statement.{statement}

@@ -1,7 +1,6 @@
-use native.Mathlib.Omega.{arith}
+use Rattle.lists.specs.Core.{arith, needs}
 use Rattle.lists.specs.Tests.{test-failed, test-passed}
 use Rattle.laws.specs.Acceptance.{rack-range}
-use borrow.Author.Needs.{needs}
 use Rattle.catalogue.proofs.CatalogueAnswers.{top-refused, short-refused, table-given}
 use Rattle.catalogue.proofs.catalogue_table.Statement.{statement}
 use Rattle.catalogue.proofs.catalogue_table.Tie as tie

@@ -1,7 +1,5 @@
-use mathlib.Core.Path.{sym}
-use lib.Seq.{length-take-le}
+use Rattle.lists.specs.Core.{sym, length-take-le, needs}
 use Rattle.lists.specs.Writing.{written-start}
-use borrow.Author.Needs.{needs}
 use Rattle.catalogue.proofs.CatalogueAnswers.{entries-room}
 use Rattle.catalogue.proofs.put_entries.Statement.{statement}
 use Rattle.catalogue.proofs.put_entries.Tie as tie

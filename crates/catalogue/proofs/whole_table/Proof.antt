@@ -1,4 +1,4 @@
-use mathlib.Core.Path.{refl}
+use Rattle.lists.specs.Core.{refl}
 use Rattle.lists.specs.Tests.{every}
 use Rattle.model.specs.Instance.{convex, convexAt, neverFalls}
 use Rattle.model.specs.Catalogue.{catalogueEntry, followsRule}

@@ -1,7 +1,6 @@
-use native.Mathlib.Omega.{arith}
+use Rattle.lists.specs.Core.{arith, needs}
 use Rattle.model.specs.Catalogue.{catalogueEntry}
 use Rattle.laws.specs.CatalogueTables.{product-most}
-use borrow.Author.Needs.{needs}
 use Rattle.catalogue_lines.proofs.Lines.{entry-zero}
 use Rattle.catalogue_lines.proofs.entry.Statement.{statement}
 use Rattle.catalogue_lines.proofs.entry.Tie as tie

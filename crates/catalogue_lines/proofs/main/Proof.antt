@@ -1,8 +1,5 @@
-use mathlib.Core.Path.{sym}
-use native.Mathlib.Omega.{arith}
-use lib.Seq.{length-take-le}
+use Rattle.lists.specs.Core.{sym, arith, length-take-le, needs}
 use Rattle.lists.specs.Writing.{start-within}
-use borrow.Author.Needs.{needs}
 use Rattle.catalogue_lines.proofs.Lines.{lines-size}
 use Rattle.catalogue_lines.proofs.main.Statement.{statement}
 use Rattle.catalogue_lines.proofs.main.Tie as tie

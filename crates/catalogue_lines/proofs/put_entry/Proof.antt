@@ -1,5 +1,5 @@
 use Rattle.lists.specs.Writing.{room-first, room-rest, written-more}
-use borrow.Author.Needs.{needs}
+use Rattle.lists.specs.Core.{needs}
 use Rattle.catalogue_lines.proofs.put_entry.Statement.{statement}
 use Rattle.catalogue_lines.proofs.put_entry.Tie as tie
 

@@ -1,5 +1,4 @@
-use Prim.Native.Nat.{_-_}
-use native.Mathlib.Omega.{arith}
+use Rattle.lists.specs.Core.{_-_, arith}
 use Rattle.lists.specs.Writing.{RowsWritten, written-start, rows-none, rows-room, rows-more, rows-all}
 use Rattle.model.specs.Catalogue.{catalogueSize}
 use Rattle.model.specs.Listing.{entryLine, catalogueLines}

@@ -1,8 +1,6 @@
-use mathlib.Core.Path.{sym}
-use lib.Seq.{length-take-le}
+use Rattle.lists.specs.Core.{sym, length-take-le, needs}
 use Rattle.planners.proofs.Searched.{few-counts}
 use Rattle.count_lists.proofs.Widened.{copy-is, copy-within, copy-length}
-use borrow.Author.Needs.{needs}
 use Rattle.count_lists.proofs.plan_over_list.Statement.{statement}
 use Rattle.count_lists.proofs.plan_over_list.Tie as tie
 

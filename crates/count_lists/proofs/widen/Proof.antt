@@ -1,10 +1,6 @@
-use Prim.Native.Nat.{_-_}
-use mathlib.Core.Path.{refl}
-use native.Mathlib.Omega.{arith}
-use lib.ListN.{length, getD}
+use Rattle.lists.specs.Core.{_-_, refl, arith, length, getD, needs}
 use Rattle.lists.specs.Filling.{Upto, upto-none, upto-more}
 use Rattle.count_lists.proofs.Widened.{copied}
-use borrow.Author.Needs.{needs}
 use Rattle.count_lists.proofs.widen.Statement.{statement}
 use Rattle.count_lists.proofs.widen.Tie as tie
 

@@ -1,8 +1,4 @@
-use Prim.Native.Nat.{_-_}
-use native.Mathlib.Omega.{arith}
-use lib.ListN.{length}
-use borrow.Author.Needs.{needs}
-use borrow.Author.Tests.{lt-leb}
+use Rattle.lists.specs.Core.{_-_, arith, length, needs, lt-leb}
 use Rattle.model.specs.CountRules.{endsAt}
 use Rattle.count_rules.proofs.Rules.{too-many, not-from-zero, from-zero}
 use Rattle.count_rules.proofs.ends_at.Statement.{statement}

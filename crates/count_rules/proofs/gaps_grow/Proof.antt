@@ -1,8 +1,4 @@
-use Prim.Native.Nat.{_+_, _-_, _*_}
-use native.Mathlib.Omega.{arith}
-use lib.ListN.{length}
-use lib.Dec.{leb}
-use borrow.Author.Needs.{needs}
+use Rattle.lists.specs.Core.{_+_, _-_, _*_, arith, length, leb, needs}
 use Rattle.lists.specs.Tests.{Passed, passed-none, passed-more, passed-all, passed-not, test-failed, test-passed}
 use Rattle.model.specs.CountRules.{gapAfter, gapsGrowBy}
 use Rattle.count_rules.proofs.Rules.{rising}

@@ -1,6 +1,4 @@
-use mathlib.Core.Path.{_∙_}
-use native.Mathlib.Omega.{arith}
-use borrow.Author.Needs.{needs}
+use Rattle.lists.specs.Core.{_∙_, arith, needs}
 use Rattle.lists.specs.Tests.{test-failed, test-passed}
 use Rattle.count_rules.proofs.Rules.{ends-two, ratio-most, wrong-ends, not-ascending, wrong-ratio, first-high, gaps-decide}
 use Rattle.count_rules.proofs.keeps_rules.Statement.{statement}

@@ -1,9 +1,4 @@
-use Prim.Native.Nat.{_+_, _-_}
-use native.Mathlib.Omega.{arith}
-use lib.ListN.{length, getD}
-use lib.Dec.{ltb}
-use borrow.Author.Needs.{needs}
-use borrow.Author.Tests.{le-ltb, lt-ltb}
+use Rattle.lists.specs.Core.{_+_, _-_, arith, length, getD, ltb, needs, le-ltb, lt-ltb}
 use Rattle.lists.specs.Tests.{Passed, passed-none, passed-more, passed-all, passed-not}
 use Rattle.model.specs.CountRules.{strictlyAscends}
 use Rattle.count_rules.proofs.strictly_ascends.Statement.{statement}

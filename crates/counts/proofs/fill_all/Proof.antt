@@ -1,6 +1,4 @@
-use mathlib.Core.Path.{sym}
-use lib.Seq.{length-take-le}
-use borrow.Author.Needs.{needs}
+use Rattle.lists.specs.Core.{sym, length-take-le, needs}
 use Rattle.counts.proofs.CountsWritten.{all-written}
 use Rattle.counts.proofs.fill_all.Statement.{statement}
 use Rattle.counts.proofs.fill_all.Tie as tie

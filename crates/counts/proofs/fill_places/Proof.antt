@@ -1,7 +1,4 @@
-use Prim.Native.Nat.{_-_}
-use mathlib.Core.Path.{refl}
-use native.Mathlib.Omega.{arith}
-use lib.ListN.{length}
+use Rattle.lists.specs.Core.{_-_, refl, arith, length}
 use Rattle.lists.specs.Filling.{Upto, upto-none, upto-more, upto-all}
 use Rattle.counts.specs.AllowedCounts.{numbersBelow}
 use Rattle.counts.proofs.fill_places.Statement.{statement}

@@ -1,6 +1,4 @@
-use Prim.Native.Nat.{_-_, _^_}
-use native.Mathlib.Omega.{arith}
-use lib.ListN.{length}
+use Rattle.lists.specs.Core.{_-_, _^_, arith, length}
 use Rattle.lists.specs.Filling.{Upto, upto-none, upto-more, upto-all}
 use Rattle.counts.specs.AllowedCounts.{firstPowers}
 use Rattle.counts.proofs.fill_powers.Statement.{statement}

@@ -1,6 +1,4 @@
-use native.Mathlib.Nat.{le-of-lt}
-use native.Mathlib.Omega.{arith}
-use borrow.Author.Needs.{needs}
+use Rattle.lists.specs.Core.{le-of-lt, arith, needs}
 use Rattle.model.specs.Instance.{instanceOf}
 use Rattle.card.proofs.FieldsThere.{entry-there}
 use Rattle.card.proofs.Lowest.{lowest-in-table}

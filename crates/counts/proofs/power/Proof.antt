@@ -1,6 +1,5 @@
-use native.Mathlib.Omega.{arith}
+use Rattle.lists.specs.Core.{arith, needs}
 use lib.Pow.{pow-mono}
-use borrow.Author.Needs.{needs}
 use Rattle.counts.proofs.Powers.{table-entry}
 use Rattle.counts.proofs.power.Statement.{statement}
 use Rattle.counts.proofs.power.Tie as tie

@@ -1,7 +1,4 @@
-use Prim.Native.Nat.{ℕ, min}
-use mathlib.Core.Path.{_≡_}
-use native.Mathlib.Omega.{arith}
-use borrow.Author.Needs.{needs}
+use Rattle.lists.specs.Core.{ℕ, min, _≡_, arith, needs}
 use Rattle.model.specs.Counts.{roundedCount, printedCases, caseValue, roundedByCases}
 use Rattle.laws.specs.RoundedCounts.{rounded-by-cases}
 use Rattle.counts.specs.AllowedCounts.{RackCount}

@@ -1,4 +1,4 @@
-use borrow.Author.Needs.{needs}
+use Rattle.lists.specs.Core.{needs}
 use Rattle.lists.specs.Bytes.{bytesOf}
 use Rattle.lists.specs.Writing.{written-more}
 use Rattle.encoder.proofs.put_front.Statement.{statement}

@@ -1,9 +1,6 @@
-use Prim.Native.Nat.{_-_}
-use native.Mathlib.Omega.{arith}
-use lib.ListN.{getD}
+use Rattle.lists.specs.Core.{_-_, arith, getD, needs}
 use Rattle.lists.specs.Bytes.{bytesOf}
 use Rattle.lists.specs.Writing.{RowsWritten, rows-none, rows-room, rows-more, rows-all}
-use borrow.Author.Needs.{needs}
 use Rattle.encoder.specs.Shows.{bytesIn}
 use Rattle.encoder.proofs.put_list.Statement.{statement}
 use Rattle.encoder.proofs.put_list.Tie as tie

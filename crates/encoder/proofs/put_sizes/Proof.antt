@@ -1,4 +1,4 @@
-use borrow.Author.Needs.{needs}
+use Rattle.lists.specs.Core.{needs}
 use Rattle.lists.specs.Writing.{room-first, room-rest, written-more}
 use Rattle.encoder.proofs.put_sizes.Statement.{statement}
 use Rattle.encoder.proofs.put_sizes.Tie as tie

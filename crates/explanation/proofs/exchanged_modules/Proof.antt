@@ -1,6 +1,4 @@
-use Prim.Native.Nat.{_-_}
-use native.Mathlib.Omega.{arith}
-use lib.ListN.{length}
+use Rattle.lists.specs.Core.{_-_, arith, length}
 use Rattle.lists.specs.Summing.{summed-none}
 use Rattle.explanation.proofs.Exchanging.{Counted, next-fits, start-fits, row-fits, end-fits, row-end, next-end}
 use Rattle.explanation.proofs.Exchanging.{next-short, rows-paired, rise-there, total-fits, change-counted, all-counted}

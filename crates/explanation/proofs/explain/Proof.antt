@@ -1,6 +1,6 @@
 use Rattle.card.proofs.Groups.{ready}
 use Rattle.explanation.proofs.Explaining.{refused-card}
-use borrow.Author.Needs.{needs}
+use Rattle.lists.specs.Core.{needs}
 use Rattle.explanation.proofs.explain.Statement.{statement}
 use Rattle.explanation.proofs.explain.Tie as tie
 

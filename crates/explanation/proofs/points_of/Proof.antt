@@ -1,7 +1,5 @@
-use mathlib.Core.Path.{sym, _∙_}
-use lib.Seq.{length-take-le}
+use Rattle.lists.specs.Core.{sym, _∙_, length-take-le, needs}
 use Rattle.explanation.proofs.Explaining.{slots-most}
-use borrow.Author.Needs.{needs}
 use Rattle.explanation.proofs.points_of.Statement.{statement}
 use Rattle.explanation.proofs.points_of.Tie as tie
 

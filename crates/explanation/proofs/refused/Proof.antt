@@ -1,4 +1,4 @@
-use borrow.Author.Needs.{needs}
+use Rattle.lists.specs.Core.{needs}
 use Rattle.explanation.proofs.refused.Statement.{statement}
 use Rattle.explanation.proofs.refused.Tie as tie
 

@@ -1,5 +1,5 @@
 use Rattle.explanation.proofs.RowCounts.{start-off, start-none}
-use borrow.Author.Needs.{needs}
+use Rattle.lists.specs.Core.{needs}
 use Rattle.explanation.proofs.start_of.Statement.{statement}
 use Rattle.explanation.proofs.start_of.Tie as tie
 

@@ -1,6 +1,4 @@
-use Prim.Native.Nat.{_-_}
-use native.Mathlib.Omega.{arith}
-use lib.ListN.{length}
+use Rattle.lists.specs.Core.{_-_, arith, length}
 use Rattle.lists.specs.Filling.{upto-none}
 use Rattle.explanation.proofs.WritingCounts.{Written, row-end, row-fits, start-fits, short, count-written, counts-written}
 use Rattle.explanation.proofs.write_counts.Statement.{statement}

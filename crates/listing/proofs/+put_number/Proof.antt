@@ -1,10 +1,7 @@
-use mathlib.Core.List.{[], _∷_}
+use Rattle.lists.specs.Core.{[], _∷_, arith, ℕ, _%_, _<_, needs}
 use Rattle.lists.specs.Writing.{room-less, room-first, room-rest, written-more}
 use Rattle.model.specs.Listing.{digit}
 use Rattle.listing.proofs.Digits.{decimal-one, decimal-more}
-use native.Mathlib.Omega.{arith}
-use Prim.Native.Nat.{ℕ, _%_, _<_}
-use borrow.Author.Needs.{needs}
 use borrow.Fn.Kinds.{In}
 use borrow.Fn.PlainCycle.{Measures, is, falls, and}
 use Rattle.listing.proofs.put_number.Reads as own

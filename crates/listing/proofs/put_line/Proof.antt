@@ -1,5 +1,5 @@
 use Rattle.lists.specs.Writing.{room-first, room-rest, written-more}
-use borrow.Author.Needs.{needs}
+use Rattle.lists.specs.Core.{needs}
 use Rattle.listing.proofs.put_line.Statement.{statement}
 use Rattle.listing.proofs.put_line.Tie as tie
 

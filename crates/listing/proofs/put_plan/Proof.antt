@@ -1,6 +1,6 @@
 use Rattle.lists.specs.Writing.{room-first, room-rest, written-more}
 use Rattle.model.specs.Listing.{planLine}
-use borrow.Author.Needs.{needs}
+use Rattle.lists.specs.Core.{needs}
 use Rattle.listing.proofs.put_plan.Statement.{statement}
 use Rattle.listing.proofs.put_plan.Tie as tie
 

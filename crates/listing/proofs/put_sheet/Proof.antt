@@ -1,5 +1,4 @@
-use Prim.Native.Nat.{_-_}
-use native.Mathlib.Omega.{arith}
+use Rattle.lists.specs.Core.{_-_, arith}
 use Rattle.lists.specs.Writing.{RowsWritten, rows-none, rows-room, rows-more, rows-all}
 use Rattle.listing.specs.Texts.{sheetLine}
 use Rattle.listing.proofs.SheetRows.{row-in-sheet, row-line}

@@ -1,7 +1,6 @@
-use native.Mathlib.Omega.{arith}
+use Rattle.lists.specs.Core.{arith, needs}
 use Rattle.lists.specs.Writing.{room-less, room-first, room-rest, written-more}
 use Rattle.model.specs.Listing.{newline, slotLine}
-use borrow.Author.Needs.{needs}
 use Rattle.listing.proofs.put_slot.Statement.{statement}
 use Rattle.listing.proofs.put_slot.Tie as tie
 

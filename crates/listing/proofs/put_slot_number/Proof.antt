@@ -1,7 +1,6 @@
-use native.Mathlib.Omega.{arith}
+use Rattle.lists.specs.Core.{arith, needs}
 use Rattle.lists.specs.Writing.{room-less, room-first, room-rest, written-more}
 use Rattle.listing.proofs.Digits.{decimal-rise}
-use borrow.Author.Needs.{needs}
 use Rattle.listing.proofs.put_slot_number.Statement.{statement}
 use Rattle.listing.proofs.put_slot_number.Tie as tie
 

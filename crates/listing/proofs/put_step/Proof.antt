@@ -1,7 +1,6 @@
-use native.Mathlib.Omega.{arith}
+use Rattle.lists.specs.Core.{arith, needs}
 use Rattle.lists.specs.Writing.{room-less}
 use Rattle.listing.proofs.StepTexts.{step-off, step-on, step-some}
-use borrow.Author.Needs.{needs}
 use Rattle.listing.proofs.put_step.Statement.{statement}
 use Rattle.listing.proofs.put_step.Tie as tie
 

@@ -1,6 +1,4 @@
-use Prim.Native.Nat.{_-_}
-use native.Mathlib.Omega.{arith}
-use lib.ListN.{length, getD}
+use Rattle.lists.specs.Core.{_-_, arith, length, getD}
 use Rattle.lists.specs.Parts.{getD-within}
 use Rattle.lists.specs.Writing.{RowsWritten, rows-none, rows-room, rows-more, rows-all}
 use Rattle.model.specs.Sheets.{off}

@@ -1,7 +1,7 @@
 use Rattle.lists.specs.Writing.{Room, room-first, room-rest, written-more, written-start}
 use Rattle.model.specs.Listing.{costLine, listing}
 use Rattle.listing.proofs.Lengths.{listing-room}
-use borrow.Author.Needs.{needs}
+use Rattle.lists.specs.Core.{needs}
 use Rattle.listing.proofs.write_listing.Statement.{statement}
 use Rattle.listing.proofs.write_listing.Tie as tie
 

@@ -1,7 +1,5 @@
-use mathlib.Core.Path.{sym}
-use lib.Seq.{length-take-le}
+use Rattle.lists.specs.Core.{sym, length-take-le, needs}
 use Rattle.lists.specs.Writing.{start-within}
-use borrow.Author.Needs.{needs}
 use Rattle.plan.proofs.main.Statement.{statement}
 use Rattle.plan.proofs.main.Tie as tie
 

@@ -1,6 +1,6 @@
 use Rattle.lists.specs.Writing.{start-same}
 use Rattle.plan.proofs.Printing.{planned-text, printed-listing, printed-refusal}
-use borrow.Author.Needs.{needs}
+use Rattle.lists.specs.Core.{needs}
 use Rattle.plan.proofs.print_accepted.Statement.{statement}
 use Rattle.plan.proofs.print_accepted.Tie as tie
 

@@ -1,6 +1,6 @@
 use Rattle.lists.specs.Writing.{start-same}
 use Rattle.plan.proofs.Printing.{accepted-text, printed-invalid}
-use borrow.Author.Needs.{needs}
+use Rattle.lists.specs.Core.{needs}
 use Rattle.plan.proofs.print_card.Statement.{statement}
 use Rattle.plan.proofs.print_card.Tie as tie
 

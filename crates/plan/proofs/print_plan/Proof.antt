@@ -1,9 +1,7 @@
 use Rattle.lists.specs.Writing.{start-same}
-use mathlib.Core.Path.{sym}
-use lib.Seq.{length-take-le}
+use Rattle.lists.specs.Core.{sym, length-take-le, needs}
 use Rattle.card.proofs.Sizes.{sheet-size-fits}
 use Rattle.plan.proofs.Printing.{slots-within, entries-within, print-ready, print-done}
-use borrow.Author.Needs.{needs}
 use Rattle.plan.proofs.print_plan.Statement.{statement}
 use Rattle.plan.proofs.print_plan.Tie as tie
 

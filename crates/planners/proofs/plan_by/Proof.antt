@@ -1,8 +1,7 @@
-use native.Mathlib.Omega.{arith}
+use Rattle.lists.specs.Core.{arith, needs}
 use Rattle.model.specs.Planners.{allowedCounts}
 use Rattle.planners.proofs.Fronts.{front-within, front-length}
 use Rattle.planners.proofs.Planning.{rack-fits, kind-ready, kind-written}
-use borrow.Author.Needs.{needs}
 use Rattle.planners.proofs.plan_by.Statement.{statement}
 use Rattle.planners.proofs.plan_by.Tie as tie
 

@@ -1,7 +1,5 @@
-use mathlib.Core.Path.{sym}
-use lib.Seq.{length-take-le}
+use Rattle.lists.specs.Core.{sym, length-take-le, needs}
 use Rattle.planners.proofs.Searched.{plan-long, work-long, searchable, made-within, made-length, made-ready, least-written}
-use borrow.Author.Needs.{needs}
 use Rattle.planners.proofs.plan_over.Statement.{statement}
 use Rattle.planners.proofs.plan_over.Tie as tie
 

@@ -1,5 +1,5 @@
 use Rattle.planners.proofs.Planning.{buffers-given, plan-short, plan-done, kind-keeps}
-use borrow.Author.Needs.{needs}
+use Rattle.lists.specs.Core.{needs}
 use Rattle.planners.proofs.plan_show_on.Statement.{statement}
 use Rattle.planners.proofs.plan_show_on.Tie as tie
 

@@ -1,8 +1,7 @@
-use native.Mathlib.Omega.{arith}
+use Rattle.lists.specs.Core.{arith, needs}
 use Rattle.laws.specs.Acceptance.{accepted-bounds}
 use Rattle.counts.proofs.Shares.{operating-most}
 use Rattle.plans.proofs.SlotCosts.{switching-most, slot-kept, slot-raised}
-use borrow.Author.Needs.{needs}
 use Rattle.plans.proofs.slot_cost.Statement.{statement}
 use Rattle.plans.proofs.slot_cost.Tie as tie
 

@@ -1,6 +1,4 @@
-use Prim.Native.Nat.{_-_}
-use native.Mathlib.Omega.{arith}
-use borrow.Author.Needs.{needs}
+use Rattle.lists.specs.Core.{_-_, arith, needs}
 use Rattle.practice.proofs.LoadsLoop.{LoadsSoFar, full-range, load-place, loads-start, loads-turn, loads-end}
 use Rattle.practice.proofs.draw_loads.Statement.{statement}
 use Rattle.practice.proofs.draw_loads.Tie as tie

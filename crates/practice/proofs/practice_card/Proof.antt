@@ -1,5 +1,4 @@
-use native.Mathlib.Omega.{arith}
-use borrow.Author.Needs.{needs}
+use Rattle.lists.specs.Core.{arith, needs}
 use Rattle.practice.proofs.PracticeAnswers.{zero-refused, short-refused, card-given, length-is, card-room, from-start}
 use Rattle.practice.proofs.practice_card.Statement.{statement}
 use Rattle.practice.proofs.practice_card.Tie as tie

@@ -1,4 +1,4 @@
-use borrow.Author.Needs.{needs}
+use Rattle.lists.specs.Core.{needs}
 use Rattle.practice.proofs.DrawnCard.{drawn-room, drawn-written}
 use Rattle.practice.proofs.put_drawn.Statement.{statement}
 use Rattle.practice.proofs.put_drawn.Tie as tie

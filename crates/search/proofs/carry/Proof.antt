@@ -1,5 +1,4 @@
-use mathlib.Core.Path.{sym}
-use native.Mathlib.Omega.{arith}
+use Rattle.lists.specs.Core.{sym, arith}
 use Rattle.thresholds.specs.ThresholdLaws.{carried-same, carried-above, carried-below}
 use Rattle.search.proofs.carry.Statement.{statement}
 use Rattle.search.proofs.carry.Tie as tie

@@ -1,7 +1,4 @@
-use Prim.Native.Nat.{_-_}
-use mathlib.Core.Path.{refl}
-use native.Mathlib.Omega.{arith}
-use lib.ListN.{length}
+use Rattle.lists.specs.Core.{_-_, refl, arith, length}
 use Rattle.model.specs.Instance.{instanceOf}
 use Rattle.card.proofs.FieldsThere.{load-there}
 use Rattle.search.proofs.ForwardWalk.{ForwardLoop, forward-starts, carried-small, forward-turns, forward-ends}

@@ -1,6 +1,4 @@
-use mathlib.Core.Path.{sym, _∙_}
-use native.Mathlib.Omega.{arith}
-use borrow.Author.Needs.{needs}
+use Rattle.lists.specs.Core.{sym, _∙_, arith, needs}
 use Rattle.counts.proofs.Shares.{operating-most}
 use Rattle.search.proofs.LevelPrices.{can-serve, cannot-serve, served-at, served-above, low-top, level-most}
 use Rattle.thresholds.specs.ThresholdLaws.{judge-beyond, judge-serves, judge-forced}

@@ -1,6 +1,4 @@
-use native.Mathlib.Omega.{arith}
-use native.Mathlib.Nat.{le-of-lt}
-use borrow.Author.Needs.{needs}
+use Rattle.lists.specs.Core.{arith, le-of-lt, needs}
 use Rattle.search.proofs.LevelPrices.{price-most, price-beyond, price-there, price-fits}
 use Rattle.search.proofs.level_price.Statement.{statement}
 use Rattle.search.proofs.level_price.Tie as tie

@@ -1,6 +1,4 @@
-use Prim.Native.Nat.{_+_, _-_}
-use native.Mathlib.Omega.{arith}
-use borrow.Author.Needs.{needs}
+use Rattle.lists.specs.Core.{_+_, _-_, arith, needs}
 use Rattle.thresholds.specs.ThresholdLaws.{less-most}
 use Rattle.search.proofs.Verdicts.{raised-not, raised-up}
 use Rattle.search.proofs.raise.Statement.{statement}

@@ -1,9 +1,4 @@
-use Prim.Native.Nat.{_≤_}
-use mathlib.Core.Path.{sym}
-use native.Mathlib.Omega.{arith}
-use lib.ListN.{length}
-use lib.Seq.{length-take-le}
-use borrow.Author.Needs.{needs}
+use Rattle.lists.specs.Core.{_≤_, sym, arith, length, length-take-le, needs}
 use Rattle.search.proofs.PlanFound.{rounds-ready, places-found, plan-found, cleared-whole}
 use Rattle.search.proofs.search.Statement.{statement}
 use Rattle.search.proofs.search.Tie as tie

@@ -1,6 +1,4 @@
-use Prim.Native.Nat.{_-_, _<_}
-use native.Mathlib.Omega.{arith}
-use lib.ListN.{length}
+use Rattle.lists.specs.Core.{_-_, _<_, arith, length}
 use Rattle.lists.specs.Filling.{upto-none}
 use Rattle.search.proofs.PlanFound.{CountsLoop, place-there, counts-turn, counts-end}
 use Rattle.search.proofs.to_counts.Statement.{statement}

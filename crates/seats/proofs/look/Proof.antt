@@ -1,5 +1,4 @@
-use borrow.Author.Tests.{eq-eqb, ne-eqb}
-use borrow.Author.Needs.{needs}
+use Rattle.lists.specs.Core.{eq-eqb, ne-eqb, needs}
 use Rattle.seats.proofs.look.Statement.{statement}
 use Rattle.seats.proofs.look.Tie as tie
 

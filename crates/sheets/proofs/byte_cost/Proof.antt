@@ -1,7 +1,6 @@
-use native.Mathlib.Omega.{arith}
+use Rattle.lists.specs.Core.{arith, needs}
 use Rattle.laws.specs.Acceptance.{accepted-bounds}
 use Rattle.sheets.proofs.SheetBytes.{step-there, cost-stopped, cost-started, cost-kept}
-use borrow.Author.Needs.{needs}
 use Rattle.sheets.proofs.byte_cost.Statement.{statement}
 use Rattle.sheets.proofs.byte_cost.Tie as tie
 

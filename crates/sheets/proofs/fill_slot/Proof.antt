@@ -1,7 +1,4 @@
-use mathlib.Core.Path.{sym}
-use native.Mathlib.Omega.{arith}
-use lib.Seq.{length-take-le}
-use borrow.Author.Needs.{needs}
+use Rattle.lists.specs.Core.{sym, arith, length-take-le, needs}
 use Rattle.sheets.proofs.Row.{row-filled}
 use Rattle.sheets.proofs.fill_slot.Statement.{statement}
 use Rattle.sheets.proofs.fill_slot.Tie as tie

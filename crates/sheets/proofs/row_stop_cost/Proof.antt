@@ -1,7 +1,4 @@
-use Prim.Native.Nat.{_-_}
-use native.Mathlib.Omega.{arith}
-use lib.ListN.{length, getD}
-use borrow.Author.Needs.{needs}
+use Rattle.lists.specs.Core.{_-_, arith, length, getD, needs}
 use Rattle.lists.specs.Summing.{Summed, summed-none, summed-more, summed-all, summed-room}
 use Rattle.sheets.specs.Marks.{stopCost, rowStopCost}
 use Rattle.sheets.proofs.SheetBytes.{stop-each}

@@ -1,8 +1,6 @@
-use Prim.Native.Nat.{_+_, _*_, _≤_}
-use native.Mathlib.Omega.{arith}
+use Rattle.lists.specs.Core.{_+_, _*_, _≤_, arith, needs}
 use Rattle.sheets.proofs.Totals.{first-inside, earlier-inside, earlier-fits, first-counted, earlier-counted, first-ready, later-ready}
 use Rattle.sheets.proofs.Totals.{rows-paired, last-priced, rows-fit, total-small, sheet-empty, sheet-whole}
-use borrow.Author.Needs.{needs}
 use Rattle.sheets.proofs.sheet_cost.Statement.{statement}
 use Rattle.sheets.proofs.sheet_cost.Tie as tie
 

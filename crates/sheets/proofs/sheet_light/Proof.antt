@@ -1,7 +1,4 @@
-use Prim.Native.Nat.{suc, _-_}
-use native.Mathlib.Omega.{arith}
-use lib.Dec.{leb}
-use borrow.Author.Needs.{needs}
+use Rattle.lists.specs.Core.{suc, _-_, arith, leb, needs}
 use Rattle.lists.specs.Tests.{Passed, passed-none, passed-more, passed-all, passed-not}
 use Rattle.model.specs.Instance.{instanceOf}
 use Rattle.model.specs.Sheets.{lightAt, sheetLight}

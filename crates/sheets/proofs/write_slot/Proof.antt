@@ -1,6 +1,4 @@
-use native.Mathlib.Nat.{le-of-lt}
-use native.Mathlib.Omega.{arith}
-use borrow.Author.Needs.{needs}
+use Rattle.lists.specs.Core.{le-of-lt, arith, needs}
 use Rattle.counts.proofs.Shares.{rest-below, step-small}
 use Rattle.sheets.proofs.Row.{active-fits, row-off, row-shared}
 use Rattle.sheets.proofs.write_slot.Statement.{statement}

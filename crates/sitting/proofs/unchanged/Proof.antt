@@ -1,5 +1,5 @@
 use Rattle.sitting.proofs.Replies.{none-changed}
-use borrow.Author.Needs.{needs}
+use Rattle.lists.specs.Core.{needs}
 use Rattle.sitting.proofs.unchanged.Statement.{statement}
 use Rattle.sitting.proofs.unchanged.Tie as tie
 

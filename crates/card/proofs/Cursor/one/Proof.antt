@@ -1,6 +1,5 @@
-use borrow.Author.Needs.{needs}
+use Rattle.lists.specs.Core.{needs, arith}
 use Rattle.card.proofs.FieldsRead.{read-one}
-use native.Mathlib.Omega.{arith}
 use Rattle.card.proofs.Cursor.one.Statement.{statement}
 use Rattle.card.proofs.Cursor.one.Tie as tie
 

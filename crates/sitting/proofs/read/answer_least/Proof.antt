@@ -1,10 +1,9 @@
-use borrow.Author.Tests.{eq-eqb, ne-eqb, lt-ltb, le-ltb}
+use Rattle.lists.specs.Core.{eq-eqb, ne-eqb, lt-ltb, le-ltb, needs}
 use Rattle.model.specs.Acts.{actSpec}
 use Rattle.model.specs.Specs.{firstOf}
 use Rattle.model.specs.Sittings.{answerTo}
 use Rattle.sitting.specs.Seen.{seen}
 use Rattle.sitting.proofs.Phases.{closed-phase}
-use borrow.Author.Needs.{needs}
 use Rattle.sitting.proofs.read.answer_least.Statement.{statement}
 use Rattle.sitting.proofs.read.answer_least.Tie as tie
 

@@ -1,8 +1,7 @@
-use borrow.Author.Tests.{eq-eqb, ne-eqb}
+use Rattle.lists.specs.Core.{eq-eqb, ne-eqb, needs}
 use Rattle.model.specs.Acts.{actSpec}
 use Rattle.model.specs.Specs.{firstOf}
 use Rattle.model.specs.Sittings.{answerTo}
-use borrow.Author.Needs.{needs}
 use Rattle.sitting.proofs.read.answer_used.Statement.{statement}
 use Rattle.sitting.proofs.read.answer_used.Tie as tie
 

@@ -1,5 +1,4 @@
-use borrow.Author.Tests.{eq-eqb, ne-eqb}
-use borrow.Author.Needs.{needs}
+use Rattle.lists.specs.Core.{eq-eqb, ne-eqb, needs}
 use Rattle.sitting.proofs.read.may_read_lowest.Statement.{statement}
 use Rattle.sitting.proofs.read.may_read_lowest.Tie as tie
 

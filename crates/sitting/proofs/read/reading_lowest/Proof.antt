@@ -4,7 +4,7 @@ use Rattle.model.specs.Specs.{firstOf}
 use Rattle.model.specs.Sittings.{answerTo}
 use Rattle.sitting.specs.Seen.{seen, unseated}
 use Rattle.sitting.proofs.Lowest.{lowest-refused, lowest-none, lowest-some}
-use borrow.Author.Needs.{needs}
+use Rattle.lists.specs.Core.{needs}
 use Rattle.sitting.proofs.read.reading_lowest.Statement.{statement}
 use Rattle.sitting.proofs.read.reading_lowest.Tie as tie
 
