@@ -1,7 +1,7 @@
 #!/usr/bin/env python3
 """The constant table of the catalogue module beside the stored output of its generator, digit for digit: catalogue.py [--write] [ROOT].
 
-The generator is the program crates/catalogue_lines. `rt ci` runs it and compares what it prints with its file stdout, and this script
+The generator is the program crates/catalogue_program. `rt ci` runs it and compares what it prints with its file stdout, and this script
 compares that file with the constant CATALOGUE of crates/catalogue, and sees that the function whole_table returns this constant. Then it
 tries itself: it changes a copy of both in many ways, and each change must be told. --write writes the constant anew from the stored output,
 in the form that `rt fmt` gives, if that changes the file, and says whether it did."""
@@ -14,7 +14,7 @@ import tempfile
 
 ENTRIES = 201
 CRATE = pathlib.PurePath("crates", "catalogue")
-OUTPUT = pathlib.PurePath("crates", "catalogue_lines", "stdout")
+OUTPUT = pathlib.PurePath("crates", "catalogue_program", "stdout")
 NAME = re.compile(r"\bconst\s+CATALOGUE\b")
 WHOLE = re.compile(r"\bconst\s+CATALOGUE\s*:\s*\[\s*u16\s*;\s*([^\s\];]+)\s*\]\s*=\s*\[([^\[\]]*)\]\s*;")
 NUMBER = re.compile(r"0|[1-9][0-9]*")

@@ -9,7 +9,7 @@ import time
 from cards import card
 
 ROOT = pathlib.Path(__file__).resolve().parent.parent
-PROGRAM = ROOT / "target" / "bin" / "plan"
+PROGRAM = ROOT / "target" / "bin" / "plan_program"
 done = 0
 
 

@@ -17,7 +17,7 @@ from cards import card
 from words import tool_words
 
 ROOT = pathlib.Path(__file__).resolve().parent.parent
-PROGRAM = ROOT / "target" / "bin" / "plan"
+PROGRAM = ROOT / "target" / "bin" / "plan_program"
 SCRIPTS = ("build", "card", "lamp", "plan")
 COMMANDS = ("awk", "find", "flock", "head", "mkdir", "readlink", "rm", "sh", "touch", "tr")
 DIGITS = "0123456789ABCDEF"
@@ -90,7 +90,7 @@ def put(path, content="", mode=0o644):
     return path
 
 
-def copied(folder, scripts=SCRIPTS, program="target/bin/plan"):
+def copied(folder, scripts=SCRIPTS, program="target/bin/plan_program"):
     """A folder with scripts and the program, and no sources."""
     (folder / "bin").mkdir(parents=True)
     for name in scripts:
@@ -268,10 +268,10 @@ def plan_sees_a_broken_program(folder, path):
         ("half a line", "printf 'refused 1'", "bin/plan: the program printed neither a listing nor a refusal\n"),
     ]
     for name, text, message in cases:
-        put(folder / "target/bin/plan", READER + text + "\n", 0o755)
+        put(folder / "target/bin/plan_program", READER + text + "\n", 0o755)
         status, out, found = place.run("bin/plan", data=A_CARD)
         equal(f"a program that is {name}", (status, out, found.endswith(message)), (2, NOTHING, True))
-    put(folder / "target/bin/plan", READER + "echo refused 9\n", 0o755)
+    put(folder / "target/bin/plan_program", READER + "echo refused 9\n", 0o755)
     words = "a number that bin/plan has no words for"
     equal("a refusal without words", place.run("bin/plan", data=A_CARD), refused(9, words))
 
@@ -288,16 +288,16 @@ def plan_elsewhere(folder, path):
     equal("a link to a link", alone.run(folder / "again", data=A_CARD, cwd=folder), PLANNED)
     equal("by the PATH", alone.run("planner", data=A_CARD, path=f"{link.parent}:{path}"), PLANNED)
 
-    release = Place(copied(folder / "release", ("plan",), "libexec/plan"), path)
+    release = Place(copied(folder / "release", ("plan",), "libexec/plan_program"), path)
     equal("a release", release.run("bin/plan", data=A_CARD), PLANNED)
     equal("a release changes nothing", sorted(os.listdir(release.folder)), ["bin", "libexec"])
     both = Place(copied(folder / "both"), path)
-    put(both.folder / "libexec/plan", READER + "echo cost 7\n", 0o755)
+    put(both.folder / "libexec/plan_program", READER + "echo cost 7\n", 0o755)
     equal("libexec beside target", both.run("bin/plan", data=A_CARD), PLANNED)
     nothing = Place(copied(folder / "nothing", ("plan",), None), path)
     complains("bin/plan alone", nothing.run("bin/plan", data=A_CARD), "bin/plan: there is neither a program nor bin/build here")
     bare = Place(copied(folder / "bare", ("plan", "build"), None), path)
-    complains("no program", bare.run("bin/plan", data=A_CARD), "bin/build: target/bin/plan is missing; there is no crates here")
+    complains("no program", bare.run("bin/plan", data=A_CARD), "bin/build: target/bin/plan_program is missing; there is no crates here")
 
 
 # ---------------------------------------------------------------- bin/card
@@ -424,7 +424,7 @@ echo "${0##*/} on standard error" >&2
 while read -r line; do echo "read $line" >>calls; done
 (: 3<&9) 2>/dev/null && echo "has the lock" >>calls
 case "${0##*/} $1" in
-'rt check') product=target/bin/plan mode=755 ;;
+'rt check') product=target/bin/plan_program mode=755 ;;
 'rt staticlib') product=target/staticlib/liblamp.a mode=644 ;;
 *) product=${CARGO_TARGET_DIR:-tool/target}/release/lamp mode=755 ;;
 esac
@@ -433,7 +433,7 @@ read -r does <does
 case $does in
 write) write ;;
 leave) [ -e "$product" ] || write ;;
-edit) write && touch crates/plan/src/main.rt ;;
+edit) write && touch crates/plan_program/src/main.rt ;;
 slowly) sleep 1 && write ;;
 nothing) ;;
 half) write && exit 1 ;;
@@ -441,10 +441,10 @@ fail) exit 1 ;;
 stop) write && kill -9 $PPID ;;
 esac
 """
-CHECK = "rt check plan"
+CHECK = "rt check plan_program"
 STATICLIB = "rt staticlib lamp"
 CARGO = "cargo build --release --offline --quiet --manifest-path tool/Cargo.toml"
-PRODUCTS = {"program": "target/bin/plan", "library": "target/staticlib/liblamp.a", "tool": "tool/target/release/lamp"}
+PRODUCTS = {"program": "target/bin/plan_program", "library": "target/staticlib/liblamp.a", "tool": "tool/target/release/lamp"}
 CALLS = {"program": CHECK, "library": STATICLIB, "tool": CARGO}
 LATE, EARLY = time.time() - 100, time.time() - 10000
 RT = "to build it, rt, the Rattle toolchain, must be on the PATH\n"
@@ -462,7 +462,7 @@ class Tree(Place):
         put(self.builders / "cargo", FAKE, 0o755)
         links(folder.with_name(folder.name + " more"), ("cp", "chmod", "sleep"))
         self.path = f"{self.builders}:{folder.with_name(folder.name + ' more')}:{path}"
-        for source in ("crates/plan/src/main.rt", "crates/plan/src/old.rt", "crates.txt", "tool/Cargo.toml", "tool/src/main.rs"):
+        for source in ("crates/plan_program/src/main.rt", "crates/plan_program/src/old.rt", "crates.txt", "tool/Cargo.toml", "tool/src/main.rs"):
             put(folder / source, "text\n")
         put(folder / "made", "#!/bin/sh\necho cost 1\n", 0o755)
         self.does("write")
@@ -513,15 +513,15 @@ def build_when_needed(tree):
         equal("no mark is left", (tree.folder / (product + ".unfinished")).exists(), False)
         tree.have(what)
         equal("it is silent", tree.builds(f"a newer {what}", what, []), "")
-        for source in ("crates/plan/src/main.rt", "crates.txt", "crates/plan", "crates"):
+        for source in ("crates/plan_program/src/main.rt", "crates.txt", "crates/plan_program", "crates"):
             tree.have(what)
             tree.touch(source)
             tree.builds(f"a {what} older than {source}", what, [call])
             tree.builds(f"the {what} again", what, [])
         tree.have(what)
-        (tree.folder / "crates/plan/src/old.rt").unlink()
+        (tree.folder / "crates/plan_program/src/old.rt").unlink()
         tree.builds(f"a {what} whose source was removed", what, [call])
-        put(tree.folder / "crates/plan/src/old.rt")
+        put(tree.folder / "crates/plan_program/src/old.rt")
         tree.have(what)
         put(tree.folder / product)
         tree.builds(f"an empty {what}", what, [call])
@@ -540,13 +540,13 @@ def build_that_leaves_the_product(tree):
     tree.does("leave")
     tree.have("program")
     tree.touch("crates.txt")
-    put(tree.folder / "target/stamp/plan", "stamp")
+    put(tree.folder / "target/stamp/plan_program", "stamp")
     tree.builds("a program that stays as it is", "program", [CHECK])
     tree.builds("the program that stayed", "program", [])
-    equal("its stamp is kept", (tree.folder / "target/stamp/plan").exists(), True)
+    equal("its stamp is kept", (tree.folder / "target/stamp/plan_program").exists(), True)
     tree.have()
     tree.builds("a program that is missing", "program", [CHECK])
-    equal("its stamp is removed", (tree.folder / "target/stamp/plan").exists(), False)
+    equal("its stamp is removed", (tree.folder / "target/stamp/plan_program").exists(), False)
     tree.does("write")
 
 
@@ -564,7 +564,7 @@ def build_that_fails(tree):
     tree.have()
     tree.does("nothing")
     message = tree.builds("a build that writes nothing", "program", [CHECK], 2)
-    equal("it says so", message.endswith("bin/build: the build of the program ended well and did not write target/bin/plan\n"), True)
+    equal("it says so", message.endswith("bin/build: the build of the program ended well and did not write target/bin/plan_program\n"), True)
     tree.have("program")
     tree.touch("crates.txt")
     tree.does("stop")
@@ -586,7 +586,7 @@ def build_without_builders(tree):
         product = PRODUCTS[what]
         tree.have(what)
         equal("it is silent", tree.builds(f"a newer {what} without rt", what, []), "")
-        tree.touch("crates/plan/src/main.rt")
+        tree.touch("crates/plan_program/src/main.rt")
         before = (tree.folder / product).stat().st_mtime
         wanted = f"bin/build: {product} {STALE}; {RT}"
         equal("what it says", tree.builds(f"an older {what} without rt", what, [], 2), wanted)
@@ -700,7 +700,7 @@ def plan_builds(tree):
     equal("the card is not read by the build", tree.calls(), [CHECK])
     equal("planned again", tree.run("bin/plan", data=A_CARD), PLANNED)
     equal("nothing is built again", tree.calls(), [])
-    tree.touch("crates/plan/src/main.rt")
+    tree.touch("crates/plan_program/src/main.rt")
     status, out, message = tree.run("bin/plan", data=A_CARD, path=tree.without)
     equal("stale, and no rt", (status, out, RT in message), (2, NOTHING, True))
     tree.does("fail")
@@ -838,7 +838,7 @@ def builds(folder, path):
 
 def main():
     if not PROGRAM.exists():
-        sys.exit("target/bin/plan is missing; bin/build program makes it")
+        sys.exit("target/bin/plan_program is missing; bin/build program makes it")
     with tempfile.TemporaryDirectory() as name:
         folder = pathlib.Path(name)
         folder.chmod(0o755)

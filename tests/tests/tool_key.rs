@@ -65,7 +65,7 @@ fn compare_coarse(card: &[u8], least: u64) {
 }
 
 fn compare(card: &[u8], classes: &mut Classes) {
-    let printed = run("target/bin/plan", &[], card);
+    let printed = run("target/bin/plan_program", &[], card);
     let key = run("tool/target/release/lamp", &["key", "-"], card);
     let number = check_card(card).number;
     if number == 0 {
@@ -117,7 +117,7 @@ fn key_at_the_programs_limit() {
     classes.require_all();
     for (modules, slots) in [(64, 1_024), (200, 327), (200, 1_024)] {
         let card = Card { modules, loads: vec![u16::from(modules) * 3; slots], ..largest(0) }.bytes();
-        assert_eq!(run("target/bin/plan", &[], &card).stdout, b"refused 10\n");
+        assert_eq!(run("target/bin/plan_program", &[], &card).stdout, b"refused 10\n");
         let key = run("tool/target/release/lamp", &["key", "-"], &card);
         assert_eq!(key.status.code(), Some(0));
         assert_eq!(listing(&key.stdout).split(|byte| *byte == b'\n').count(), slots + 3);

@@ -1,7 +1,7 @@
 -- A number of v + w bytes is written as its v lowest bytes and then as the w bytes of what is left of it.
-use Rattle.lists.specs.Core.{ℕ, _+_, _/_, _^_, List, arith}
-use Rattle.lists.specs.Bytes.{bytesOf, bytes-join, length-bytes}
-use Rattle.lists.specs.Writing.{Room, Written, room-less, written-more}
+use Rattle.basics.specs.Core.{ℕ, _+_, _/_, _^_, List, arith}
+use Rattle.basics.specs.Bytes.{bytesOf, bytes-join, length-bytes}
+use Rattle.basics.specs.Writing.{Room, Written, room-less, written-more}
 
 module _ (v w n : ℕ) {p : ℕ} {old : List ℕ} where
   -- Room for v + w bytes is room for v of them.

@@ -1,8 +1,8 @@
 // Writing bytes into a lent area. A function that writes from a place on returns the place after what it wrote.
-ghost use Rattle.lists.specs.Core.{_≡_, [], _∷_, length, replicate};
-ghost use Rattle.lists.specs.Bytes.{bytesOf};
-ghost use Rattle.lists.specs.Rows.{elementBytes};
-ghost use Rattle.lists.specs.Writing.{Room, Written};
+ghost use Rattle.basics.specs.Core.{_≡_, [], _∷_, length, replicate};
+ghost use Rattle.basics.specs.Bytes.{bytesOf};
+ghost use Rattle.basics.specs.Rows.{elementBytes};
+ghost use Rattle.basics.specs.Writing.{Room, Written};
 
 // Every byte of the part is set to the byte given.
 pub fn fill(part: &mut [u8], byte: u8)

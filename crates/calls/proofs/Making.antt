@@ -1,7 +1,7 @@
 -- The answer of the sheet call, by its tests on the buffer and the plan, and the sheet buffer at exit.
-use Rattle.lists.specs.Core.{ℕ, _*_, _≤_, _<_, _≡_, refl, sym, ap, _∙_, true, false, List, arith, length, lt-ltb, le-ltb, eq-eqb, ne-eqb, leb-true}
-use Rattle.lists.specs.Tests.{every-at}
-use Rattle.lists.specs.Lists.{writtenOver}
+use Rattle.basics.specs.Core.{ℕ, _*_, _≤_, _<_, _≡_, refl, sym, ap, _∙_, true, false, List, arith, length, lt-ltb, le-ltb, eq-eqb, ne-eqb, leb-true}
+use Rattle.basics.specs.Tests.{every-at}
+use Rattle.basics.specs.Lists.{writtenOver}
 use Rattle.model.specs.declared.Refusal.{Refusal}
 use Rattle.model.specs.declared.Refusal.the-variants.{BufferTooShort, WrongLength, EntryRange, LoadNotServed}
 use Rattle.model.specs.declared.Answer.{Answer}

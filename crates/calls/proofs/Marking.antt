@@ -1,5 +1,5 @@
 -- The answer of marking, by its tests.
-use Rattle.lists.specs.Core.{ℕ, _*_, _≡_, sym, ap, _∙_, true, false, List, length, eq-eqb, ne-eqb}
+use Rattle.basics.specs.Core.{ℕ, _*_, _≡_, sym, ap, _∙_, true, false, List, length, eq-eqb, ne-eqb}
 use Rattle.model.specs.declared.Refusal.{Refusal}
 use Rattle.model.specs.declared.Refusal.the-variants.{WrongLength, EntryRange, LoadNotServed}
 use Rattle.model.specs.declared.Answer.the-variants.{Cost, Refused}

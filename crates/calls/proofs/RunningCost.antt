@@ -1,5 +1,5 @@
 -- The answer of the call for the running cost, by its tests.
-use Rattle.lists.specs.Core.{ℕ, _*_, _≤_, _<_, _≡_, sym, ap, _∙_, List, mul-le-mul, arith, le-leb, lt-leb}
+use Rattle.basics.specs.Core.{ℕ, _*_, _≤_, _<_, _≡_, sym, ap, _∙_, List, mul-le-mul, arith, le-leb, lt-leb}
 use mir.Syntax.{w64}
 use mir.Val.{Fits}
 use Rattle.model.specs.declared.Refusal.{Refusal}

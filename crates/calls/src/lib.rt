@@ -4,7 +4,7 @@ use card::Checked;
 use card::Header;
 use model::Answer;
 use model::Refusal;
-ghost use Rattle.lists.specs.Core.{_≡_};
+ghost use Rattle.basics.specs.Core.{_≡_};
 ghost use Rattle.model.specs.Calls.{answer, checkCard, runningCost, makeSheet, markSheet, roundCount, sheetAtExit};
 ghost use Rattle.card.specs.Checking.{Ready};
 

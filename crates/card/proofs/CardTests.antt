@@ -1,8 +1,8 @@
 -- What the tests of a card look at, and the refusal that each way through the checks gives.
-use Rattle.lists.specs.Core.{ℕ, _≤_, _<_, _≡_, refl, sym, _∙_, Bool, true, false, _&&_, List, length, leb, lt-ltb, le-ltb, ltb-false, le-leb, lt-leb}
-use Rattle.lists.specs.Core.{eq-eqb, ne-eqb, eqb-true, not-false}
-use Rattle.lists.specs.Lists.{sameList}
-use Rattle.lists.specs.Tests.{or-left}
+use Rattle.basics.specs.Core.{ℕ, _≤_, _<_, _≡_, refl, sym, _∙_, Bool, true, false, _&&_, List, length, leb, lt-ltb, le-ltb, ltb-false, le-leb, lt-leb}
+use Rattle.basics.specs.Core.{eq-eqb, ne-eqb, eqb-true, not-false}
+use Rattle.basics.specs.Lists.{sameList}
+use Rattle.basics.specs.Tests.{or-left}
 use Rattle.model.specs.declared.Refusal.the-variants.{NotACard, Version, RackSize, SlotCount, CardLength, PriceRange, NotConvex, LoadRange}
 use Rattle.model.specs.declared.Answer.{Answer}
 use Rattle.model.specs.declared.Answer.the-variants.{Cost, Refused}

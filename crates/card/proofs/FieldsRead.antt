@@ -1,7 +1,7 @@
 -- Taking a number in one byte, and in twice as many bytes: one law over the width.
-use Rattle.lists.specs.Core.{ℕ, _+_, _*_, _^_, _<_, _≡_, sym, _∙_, ap, List, mul-le-mul-left, arith, getD}
+use Rattle.basics.specs.Core.{ℕ, _+_, _*_, _^_, _<_, _≡_, sym, _∙_, ap, List, mul-le-mul-left, arith, getD}
 use lib.Pow.{pow-add}
-use Rattle.lists.specs.Bytes.{littleEndian, little-one, little-join}
+use Rattle.basics.specs.Bytes.{littleEndian, little-one, little-join}
 use Rattle.card.specs.Fields.{ReadAt}
 
 pub read-one : (s : List ℕ) (p x : ℕ) → x ≡ getD s p 0 → x < 256 → ReadAt s p 1 x (p + 1)

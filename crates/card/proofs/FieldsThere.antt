@@ -1,5 +1,5 @@
 -- An accepted card is as long as its header says, so it has each entry of its table and each load.
-use Rattle.lists.specs.Core.{ℕ, _≤_, _<_, List, arith}
+use Rattle.basics.specs.Core.{ℕ, _≤_, _<_, List, arith}
 use Rattle.model.specs.Instance.{instanceOf}
 use Rattle.laws.specs.Acceptance.{card-size}
 use Rattle.card.specs.declared.Header.{Header}

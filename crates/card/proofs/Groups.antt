@@ -1,5 +1,5 @@
 -- The card's answer from its three groups of refusals.
-use Rattle.lists.specs.Core.{ℕ, _≡_, refl, sym, _∙_, ap, List, arith}
+use Rattle.basics.specs.Core.{ℕ, _≡_, refl, sym, _∙_, ap, List, arith}
 use Rattle.model.specs.declared.Refusal.{Refusal}
 use Rattle.model.specs.declared.Answer.{Answer}
 use Rattle.model.specs.declared.Answer.the-variants.{Cost, Refused}

@@ -1,7 +1,7 @@
 -- The lowest step of a convex table, found by going up as long as the table falls.
-use Rattle.lists.specs.Core.{ℕ, _+_, _≤_, _<_, max, _≡_, sym, _∙_, List, ⊎-elim, le-of-lt, max-eq-left, max-eq-right, arith}
-use Rattle.lists.specs.Numbers.{le-or-lt}
-use Rattle.lists.specs.Ranges.{LeastAt}
+use Rattle.basics.specs.Core.{ℕ, _+_, _≤_, _<_, max, _≡_, sym, _∙_, List, ⊎-elim, le-of-lt, max-eq-left, max-eq-right, arith}
+use Rattle.basics.specs.Numbers.{le-or-lt}
+use Rattle.basics.specs.Ranges.{LeastAt}
 use Rattle.model.specs.Instance.{instanceOf}
 use Rattle.model.specs.MoreLight.{activeStep}
 use Rattle.laws.specs.Acceptance.{accepted-bounds}

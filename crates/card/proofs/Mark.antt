@@ -1,7 +1,7 @@
 -- The mark, one byte at a time.
-use Rattle.lists.specs.Core.{ℕ, _≤_, _≡_, _∙_, false, _&&_, and-true, List, [], _∷_, not-suc-le-zero, arith, length, getD, eqb, eq-eqb, ne-eqb}
-use Rattle.lists.specs.Lists.{sameList}
-use Rattle.lists.specs.Bytes.{little-one}
+use Rattle.basics.specs.Core.{ℕ, _≤_, _≡_, _∙_, false, _&&_, and-true, List, [], _∷_, not-suc-le-zero, arith, length, getD, eqb, eq-eqb, ne-eqb}
+use Rattle.basics.specs.Lists.{sameList}
+use Rattle.basics.specs.Bytes.{little-one}
 use Rattle.model.specs.Instance.{headLength, markOf, cardMark}
 use Rattle.card.specs.Fields.{ReadAt}
 use Rattle.card.proofs.FieldsRead.{read-at}

@@ -1,5 +1,5 @@
 -- The sizes that a header gives are those of its card, and small.
-use Rattle.lists.specs.Core.{ℕ, _+_, _*_, _≤_, _≡_, List, mul-le-mul, arith}
+use Rattle.basics.specs.Core.{ℕ, _+_, _*_, _≤_, _≡_, List, mul-le-mul, arith}
 use mir.Syntax.{w64}
 use mir.Val.{Fits}
 use Rattle.model.specs.Instance.{instanceOf}

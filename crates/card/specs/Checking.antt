@@ -1,5 +1,5 @@
 -- What checking a card gives, `checkedOf`, and an accepted card with its header, `Ready`, which the crates above ask for.
-use Rattle.lists.specs.Core.{ℕ, _+_, _≤_, _≡_, Bool, true, _&&_, List}
+use Rattle.basics.specs.Core.{ℕ, _+_, _≤_, _≡_, Bool, true, _&&_, List}
 use Rattle.model.specs.declared.Answer.{Answer}
 use Rattle.model.specs.declared.Answer.the-variants.{Cost, Refused}
 use Rattle.model.specs.Instance.{instanceOf, rackNumber, convex}

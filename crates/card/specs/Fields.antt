@@ -1,6 +1,6 @@
 -- What reading a card's bytes gives: numbers, the header, entries of the table and loads.
-use Rattle.lists.specs.Core.{ℕ, _+_, _^_, _≤_, _<_, _≡_, List, length}
-use Rattle.lists.specs.Bytes.{littleEndian}
+use Rattle.basics.specs.Core.{ℕ, _+_, _^_, _≤_, _<_, _≡_, List, length}
+use Rattle.basics.specs.Bytes.{littleEndian}
 use Rattle.model.specs.Instance.{instanceOf, loadPlace}
 use Rattle.card.specs.declared.Header.{Header}
 

@@ -1,8 +1,8 @@
 // The show card: a cursor that takes numbers from its bytes, and the checks behind refusals 1 to 8.
 use model::Answer;
 use model::Refusal;
-ghost use Rattle.lists.specs.Core.{_≡_, _+_, _≤_, length};
-ghost use Rattle.lists.specs.Lists.{sameList};
+ghost use Rattle.basics.specs.Core.{_≡_, _+_, _≤_, length};
+ghost use Rattle.basics.specs.Lists.{sameList};
 ghost use Rattle.model.specs.Instance.{instanceOf, headLength, loadPlace, markOf, cardMark, versionOf, rackNumber};
 ghost use Rattle.model.specs.Instance.{convexAt, convex, tableInRange, loadsInRange};
 ghost use Rattle.model.specs.MoreLight.{activeStep};

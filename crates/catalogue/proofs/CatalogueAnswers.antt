@@ -1,9 +1,9 @@
 -- The answer of the catalogue call, by the top step and the length of its area, the area at exit, and what its bytes are in a card.
-use Rattle.lists.specs.Core.{ℕ, suc, _+_, _≤_, _<_, _≡_, refl, sym, ap, _∙_, true, false, List, arith, length, take, take-at, length-take-le, lt-ltb}
-use Rattle.lists.specs.Core.{le-ltb}
-use Rattle.lists.specs.Lists.{writtenOver}
-use Rattle.lists.specs.Rows.{elementBytes, length-numbers, taken-bytes}
-use Rattle.lists.specs.Writing.{Room}
+use Rattle.basics.specs.Core.{ℕ, suc, _+_, _≤_, _<_, _≡_, refl, sym, ap, _∙_, true, false, List, arith, length, take, take-at, length-take-le, lt-ltb}
+use Rattle.basics.specs.Core.{le-ltb}
+use Rattle.basics.specs.Lists.{writtenOver}
+use Rattle.basics.specs.Rows.{elementBytes, length-numbers, taken-bytes}
+use Rattle.basics.specs.Writing.{Room}
 use Rattle.model.specs.declared.Refusal.the-variants.{RackSize, BufferTooShort}
 use Rattle.model.specs.declared.Answer.{Answer}
 use Rattle.model.specs.declared.Answer.the-variants.{Cost, Refused}

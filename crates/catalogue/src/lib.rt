@@ -1,9 +1,9 @@
 // The catalogue module's table (document 02, §5): a constant, and the call that writes its first entries as a card's fields.
 use model::Answer;
 use model::Refusal;
-ghost use Rattle.lists.specs.Core.{_≡_, take};
-ghost use Rattle.lists.specs.Lists.{writtenOver};
-ghost use Rattle.lists.specs.Rows.{elementBytes};
+ghost use Rattle.basics.specs.Core.{_≡_, take};
+ghost use Rattle.basics.specs.Lists.{writtenOver};
+ghost use Rattle.basics.specs.Rows.{elementBytes};
 ghost use Rattle.model.specs.Answers.{numberOf};
 ghost use Rattle.model.specs.Catalogue.{TestedTable};
 ghost use Rattle.model.specs.Calls.{answer, catalogueTable, tableAtExit};

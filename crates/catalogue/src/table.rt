@@ -1,4 +1,4 @@
-// F(0) to F(200) of the catalogue module: the numbers that the generator of crates/catalogue_lines prints, in its file `stdout`.
+// F(0) to F(200) of the catalogue module: the numbers that the generator of crates/catalogue_program prints, in its file `stdout`.
 pub const CATALOGUE: [u16; 201] = [
     400,
     403,

@@ -1,8 +1,8 @@
 -- The planner over a list, by its tests: what is a planner's in general is applied to it.
-use Rattle.lists.specs.Core.{ℕ, _*_, _≡_, refl, Bool, true, false, not, List, arith, length}
+use Rattle.basics.specs.Core.{ℕ, _*_, _≡_, refl, Bool, true, false, not, List, arith, length}
 use mir.Syntax.{w64}
 use mir.Val.{Fits}
-use Rattle.lists.specs.Tests.{test-failed, test-passed}
+use Rattle.basics.specs.Tests.{test-failed, test-passed}
 use Rattle.model.specs.declared.Refusal.the-variants.{BufferTooShort, CountList}
 use Rattle.model.specs.declared.Answer.the-variants.{Cost, Refused}
 use Rattle.model.specs.Instance.{instanceOf}

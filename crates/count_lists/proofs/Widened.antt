@@ -1,7 +1,7 @@
 -- A list as it is copied, and as the front of a longer one.
-use Rattle.lists.specs.Core.{ℕ, _≤_, _≡_, refl, sym, _∙_, List, _++_, arith, length, getD, take, drop}
-use Rattle.lists.specs.Lists.{equal-tabulate, writtenOver}
-use Rattle.lists.specs.Filling.{Upto, upto-all}
+use Rattle.basics.specs.Core.{ℕ, _≤_, _≡_, refl, sym, _∙_, List, _++_, arith, length, getD, take, drop}
+use Rattle.basics.specs.Lists.{equal-tabulate, writtenOver}
+use Rattle.basics.specs.Filling.{Upto, upto-all}
 use Rattle.planners.proofs.Fronts.{front-is, front-within, front-length}
 
 -- What is copied up to the end is the list.

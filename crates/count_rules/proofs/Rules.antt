@@ -1,7 +1,7 @@
 -- The rules for a list of allowed counts and its ratio, test by test.
-use Rattle.lists.specs.Core.{ℕ, _+_, _-_, _*_, _≤_, _<_, _≡_, true, false, List, le-of-lt, mul-le-mul-left, mul-le-mul-right, arith, length, getD}
-use Rattle.lists.specs.Core.{leb, eqb, ltb-true, leb-true, le-leb, lt-leb, eq-eqb, ne-eqb}
-use Rattle.lists.specs.Tests.{and-left, and-right, every-at}
+use Rattle.basics.specs.Core.{ℕ, _+_, _-_, _*_, _≤_, _<_, _≡_, true, false, List, le-of-lt, mul-le-mul-left, mul-le-mul-right, arith, length, getD}
+use Rattle.basics.specs.Core.{leb, eqb, ltb-true, leb-true, le-leb, lt-leb, eq-eqb, ne-eqb}
+use Rattle.basics.specs.Tests.{and-left, and-right, every-at}
 use Rattle.model.specs.CountRules.{strictlyAscends, gapsGrowBy, endsAt, ratioInRange, keepsRules}
 use Rattle.count_rules.specs.RuleRequires.{Rising}
 

@@ -1,5 +1,5 @@
 // The rules for a list of allowed counts and its ratio (document 02, §8).
-ghost use Rattle.lists.specs.Core.{_-_, _*_, _≤_, _≡_, true, leb};
+ghost use Rattle.basics.specs.Core.{_-_, _*_, _≤_, _≡_, true, leb};
 ghost use Rattle.model.specs.CountRules.{strictlyAscends, gapsGrowBy, endsAt, ratioInRange, keepsRules};
 ghost use Rattle.count_rules.specs.RuleRequires.{Rising};
 

@@ -1,11 +1,11 @@
 -- The coarse counts of a rack of at most 200: 0, the powers of two up to m, and m if it is no power. The number of powers is read
 -- off the leading zeros. What holds of one rack and the next is a test that antt computes for each rack.
-use Rattle.lists.specs.Core.{ℕ, zero, suc, _-_, _^_, _≤_, _<_, _≡_, refl, sym, _∙_, Bool, true, cond, _&&_, _||_, or-true, List, [], _∷_, _++_}
-use Rattle.lists.specs.Core.{add-one, arith, getD, eqb, leb, ltb, eq-eqb, ne-eqb, leb-true, ltb-true}
+use Rattle.basics.specs.Core.{ℕ, zero, suc, _-_, _^_, _≤_, _<_, _≡_, refl, sym, _∙_, Bool, true, cond, _&&_, _||_, or-true, List, [], _∷_, _++_}
+use Rattle.basics.specs.Core.{add-one, arith, getD, eqb, leb, ltb, eq-eqb, ne-eqb, leb-true, ltb-true}
 use lib.Count.{leadingZeros}
-use Rattle.lists.specs.Tests.{every, every-at, and-left, and-right}
-use Rattle.lists.specs.Lists.{tabulate, getD-tabulate, keep, sameList, same-list-equal}
-use Rattle.lists.specs.Prefixes.{tabulate-more, keep-append, keep-tabulate}
+use Rattle.basics.specs.Tests.{every, every-at, and-left, and-right}
+use Rattle.basics.specs.Lists.{tabulate, getD-tabulate, keep, sameList, same-list-equal}
+use Rattle.basics.specs.Prefixes.{tabulate-more, keep-append, keep-tabulate}
 use Rattle.model.specs.Counts.{allCounts, powerOfTwo, isCoarse, coarseCounts}
 use Rattle.counts.specs.AllowedCounts.{firstPowers, powersUpTo}
 

@@ -1,9 +1,9 @@
 -- A load shared by n modules: quotient and remainder stay in the table, and the cost is the definition's.
-use Rattle.lists.specs.Core.{ℕ, _+_, _-_, _*_, _/_, _%_, _^_, _≤_, _<_, _≡_, sym, _∙_, List, le-of-lt, sub-zero, pos-of-ne-zero, mod-lt}
-use Rattle.lists.specs.Core.{div-le-of-le-mul, mul-le-mul, arith, eq-eqb}
+use Rattle.basics.specs.Core.{ℕ, _+_, _-_, _*_, _/_, _%_, _^_, _≤_, _<_, _≡_, sym, _∙_, List, le-of-lt, sub-zero, pos-of-ne-zero, mod-lt}
+use Rattle.basics.specs.Core.{div-le-of-le-mul, mul-le-mul, arith, eq-eqb}
 use mir.Syntax.{w64}
 use mir.Val.{Fits}
-use Rattle.lists.specs.Division.{quotient-lt, part-and-rest}
+use Rattle.basics.specs.Division.{quotient-lt, part-and-rest}
 use Rattle.model.specs.Instance.{Instance, instanceOf}
 use Rattle.model.specs.MoreLight.{leastFrom}
 use Rattle.model.specs.Counts.{operatingCost}

@@ -1,7 +1,7 @@
 -- The lists of allowed counts as they are written to memory, and what writing them asks for.
-use Rattle.lists.specs.Core.{ℕ, _+_, _-_, _^_, _≤_, _<_, List, length}
+use Rattle.basics.specs.Core.{ℕ, _+_, _-_, _^_, _≤_, _<_, List, length}
 use lib.Count.{leadingZeros}
-use Rattle.lists.specs.Lists.{tabulate}
+use Rattle.basics.specs.Lists.{tabulate}
 
 -- There is room for all counts from 0 to m.
 pub record AllRoom (counts : List ℕ) (m : ℕ) : Type 0 where

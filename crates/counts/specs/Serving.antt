@@ -1,5 +1,5 @@
 -- What serving a load with a count asks for.
-use Rattle.lists.specs.Core.{ℕ, _*_, _≤_, List}
+use Rattle.basics.specs.Core.{ℕ, _*_, _≤_, List}
 use Rattle.model.specs.Instance.{instanceOf}
 use Rattle.card.specs.declared.Header.{Header}
 use Rattle.card.specs.Checking.{Ready}

@@ -1,7 +1,7 @@
 // Counts of active modules: the planners' lists of allowed counts, the rounded count, and the operating cost of a count.
 use card::Header;
-ghost use Rattle.lists.specs.Core.{_≡_, _^_, _≤_, length};
-ghost use Rattle.lists.specs.Lists.{writtenOver};
+ghost use Rattle.basics.specs.Core.{_≡_, _^_, _≤_, length};
+ghost use Rattle.basics.specs.Lists.{writtenOver};
 ghost use Rattle.model.specs.Instance.{instanceOf};
 ghost use Rattle.model.specs.Counts.{operatingCost, allCounts, coarseCounts, roundedCount, printedCases, caseValue};
 ghost use Rattle.counts.specs.Serving.{Served};

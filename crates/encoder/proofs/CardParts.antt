@@ -1,6 +1,6 @@
 -- A card is written part by part: where there is room for the card, there is room for each part behind the ones before it.
-use Rattle.lists.specs.Core.{ℕ, _+_, _≤_, List, _++_, arith, length}
-use Rattle.lists.specs.Writing.{Room, Written, room-first, room-rest, written-more}
+use Rattle.basics.specs.Core.{ℕ, _+_, _≤_, List, _++_, arith, length}
+use Rattle.basics.specs.Writing.{Room, Written, room-first, room-rest, written-more}
 use Rattle.model.specs.Instance.{Instance, frontBytes, sizeBytes, priceBytes, tableBytes, loadBytes, cardBytes}
 use Rattle.encoder.specs.declared.Fields.{Fields}
 use Rattle.encoder.specs.Shows.{showOf, CardRoom}

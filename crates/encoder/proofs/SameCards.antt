@@ -1,7 +1,7 @@
 -- Two shows that are the same have the same card.
-use Rattle.lists.specs.Core.{_+_, _≡_, ap, arith}
-use Rattle.lists.specs.Lists.{rows-same}
-use Rattle.lists.specs.Bytes.{bytesOf}
+use Rattle.basics.specs.Core.{_+_, _≡_, ap, arith}
+use Rattle.basics.specs.Lists.{rows-same}
+use Rattle.basics.specs.Bytes.{bytesOf}
 use Rattle.model.specs.Instance.{Instance, cardBytes}
 use Rattle.laws.specs.Encoding.{SameShow}
 

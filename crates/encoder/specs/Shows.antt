@@ -1,7 +1,7 @@
 -- The show that a card is written for, as plain fields and lists.
-use Rattle.lists.specs.Core.{ℕ, _≤_, _<_, List, length, getD}
-use Rattle.lists.specs.Rows.{numbers}
-use Rattle.lists.specs.Writing.{Room}
+use Rattle.basics.specs.Core.{ℕ, _≤_, _<_, List, length, getD}
+use Rattle.basics.specs.Rows.{numbers}
+use Rattle.basics.specs.Writing.{Room}
 use Rattle.model.specs.Instance.{Instance, cardBytes}
 use Rattle.encoder.specs.declared.Fields.{Fields}
 use Rattle.encoder.specs.declared.Width.{Width}

@@ -1,7 +1,7 @@
 // The encoder of show cards (document 01, 'The show card'): a card's bytes from a show's fields, its table and its loads.
-ghost use Rattle.lists.specs.Core.{_≡_, _++_, _≤_, length};
-ghost use Rattle.lists.specs.Bytes.{bytesOf};
-ghost use Rattle.lists.specs.Writing.{Room, Written};
+ghost use Rattle.basics.specs.Core.{_≡_, _++_, _≤_, length};
+ghost use Rattle.basics.specs.Bytes.{bytesOf};
+ghost use Rattle.basics.specs.Writing.{Room, Written};
 ghost use Rattle.model.specs.Instance.{loadPlace, frontBytes, cardBytes};
 ghost use Rattle.encoder.specs.Shows.{bytesIn, listBytes, showOf, CardRoom};
 

@@ -1,10 +1,10 @@
 -- The loop that counts the modules which go on beyond the rises of the counts.
-use Rattle.lists.specs.Core.{ℕ, suc, _+_, _-_, _*_, _≤_, _<_, _≡_, ap, sym, _∙_, List, mul-le-mul, mul-le-mul-right, sub-le, add-one, arith, length}
-use Rattle.lists.specs.Core.{getD}
+use Rattle.basics.specs.Core.{ℕ, suc, _+_, _-_, _*_, _≤_, _<_, _≡_, ap, sym, _∙_, List, mul-le-mul, mul-le-mul-right, sub-le, add-one, arith, length}
+use Rattle.basics.specs.Core.{getD}
 use mir.Syntax.{w64}
 use mir.Val.{Fits}
 use borrow.Rule.Slice.PartMut.{midOf}
-use Rattle.lists.specs.Summing.{Summed, summed-more, summed-all, summed-room}
+use Rattle.basics.specs.Summing.{Summed, summed-more, summed-all, summed-room}
 use Rattle.model.specs.Instance.{instanceOf}
 use Rattle.model.specs.Sheets.{activeAt}
 use Rattle.laws.specs.Acceptance.{accepted-bounds}

@@ -1,6 +1,6 @@
 -- The explanation of a sheet, by its tests: the numbers that it returns, and its work buffer at exit.
-use Rattle.lists.specs.Core.{ℕ, _≤_, _<_, _≡_, sym, ap, _∙_, List, arith, length, replicate}
-use Rattle.lists.specs.Lists.{writtenOver}
+use Rattle.basics.specs.Core.{ℕ, _≤_, _<_, _≡_, sym, ap, _∙_, List, arith, length, replicate}
+use Rattle.basics.specs.Lists.{writtenOver}
 use Rattle.model.specs.declared.Refusal.{Refusal}
 use Rattle.model.specs.declared.Refusal.the-variants.{BufferTooShort}
 use Rattle.model.specs.declared.Answer.{Answer}

@@ -1,5 +1,5 @@
 -- A row's bytes: which count as active, and which as going on.
-use Rattle.lists.specs.Core.{ℕ, _≤_, _<_, _≡_, _∙_, Bool, true, false, cond, List, arith, length, getD, eq-eqb, ne-eqb}
+use Rattle.basics.specs.Core.{ℕ, _≤_, _<_, _≡_, _∙_, Bool, true, false, cond, List, arith, length, getD, eq-eqb, ne-eqb}
 use Rattle.model.specs.Sheets.{off, isOff, activeOf}
 use Rattle.theory.specs.RowCosts.{at-most-one}
 use Rattle.explanation.specs.Exchanges.{startOf}

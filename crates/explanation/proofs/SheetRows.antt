@@ -1,8 +1,8 @@
 -- The rows of a sheet, as they are lent: their active modules are the sheet's counts, and those that go on are the sheet's.
-use Rattle.lists.specs.Core.{ℕ, suc, _+_, _-_, _*_, _≤_, _<_, _≡_, ap, ap₂, List, arith, length, getD}
+use Rattle.basics.specs.Core.{ℕ, suc, _+_, _-_, _*_, _≤_, _<_, _≡_, ap, ap₂, List, arith, length, getD}
 use borrow.Rule.Slice.PartMut.{midOf}
-use Rattle.lists.specs.Sums.{sum-ext}
-use Rattle.lists.specs.Lists.{getD-tabulate}
+use Rattle.basics.specs.Sums.{sum-ext}
+use Rattle.basics.specs.Lists.{getD-tabulate}
 use Rattle.model.specs.Instance.{Instance}
 use Rattle.model.specs.Sheets.{stateAt, activeOf, activeAt, countsOf}
 use Rattle.theory.specs.Hypotheses.{activeIn}

@@ -1,6 +1,6 @@
 -- The switching cost of a sheet is that of its counts and the switching price for each module that goes on beyond their rises.
-use Rattle.lists.specs.Core.{ℕ, zero, suc, _+_, _-_, _*_, _≤_, _<_, _≡_, refl, ap, sym, List, sub-zero, one-add, arith}
-use Rattle.lists.specs.Sums.{sum, sum-ext, sum-add, sum-join}
+use Rattle.basics.specs.Core.{ℕ, zero, suc, _+_, _-_, _*_, _≤_, _<_, _≡_, refl, ap, sym, List, sub-zero, one-add, arith}
+use Rattle.basics.specs.Sums.{sum, sum-ext, sum-add, sum-join}
 use Rattle.model.specs.Instance.{Instance}
 use Rattle.model.specs.Sheets.{stateAt, activeAt, countsOf, sheetSwitchingCost}
 use Rattle.model.specs.Thesis.{switchingPrice, countAt}

@@ -1,9 +1,9 @@
 -- The three numbers of a sheet that serves, from its cost, the modules that go on beyond the rises of its counts, the cost of its counts as a
 -- plan, and the exact planner's cost.
-use Rattle.lists.specs.Core.{ℕ, _+_, _-_, _*_, _≤_, _≡_, sym, ap, _∙_, List, mul-le-mul, mul-comm, sub-le, le-trans, arith, length, eqb-true}
+use Rattle.basics.specs.Core.{ℕ, _+_, _-_, _*_, _≤_, _≡_, sym, ap, _∙_, List, mul-le-mul, mul-comm, sub-le, le-trans, arith, length, eqb-true}
 use mir.Syntax.{w64}
 use mir.Val.{Fits}
-use Rattle.lists.specs.Sums.{sum-at-most}
+use Rattle.basics.specs.Sums.{sum-at-most}
 use Rattle.model.specs.declared.Answer.the-variants.{Cost}
 use Rattle.model.specs.declared.Points.{Points}
 use Rattle.model.specs.Instance.{instanceOf}

@@ -1,10 +1,10 @@
 -- The loop that writes the counts of a sheet.
-use Rattle.lists.specs.Core.{ℕ, suc, _+_, _-_, _*_, _≤_, _<_, _≡_, ap, _∙_, List, arith, length, set}
+use Rattle.basics.specs.Core.{ℕ, suc, _+_, _-_, _*_, _≤_, _<_, _≡_, ap, _∙_, List, arith, length, set}
 use mir.Syntax.{w64}
 use mir.Val.{Fits}
 use borrow.Rule.Slice.PartMut.{midOf}
-use Rattle.lists.specs.Lists.{tabulate}
-use Rattle.lists.specs.Filling.{Upto, upto-more, upto-all}
+use Rattle.basics.specs.Lists.{tabulate}
+use Rattle.basics.specs.Filling.{Upto, upto-more, upto-all}
 use Rattle.model.specs.Instance.{instanceOf}
 use Rattle.model.specs.Sheets.{activeAt, countsOf}
 use Rattle.card.specs.declared.Header.{Header}

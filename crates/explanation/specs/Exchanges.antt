@@ -1,7 +1,7 @@
 -- What the functions of this crate count in the rows of a sheet: the active modules, and the modules that go on beyond the rise of the count,
 -- `exchanged`.
-use Rattle.lists.specs.Core.{ℕ, suc, _-_, cond, List, length, getD}
-use Rattle.lists.specs.Sums.{sum}
+use Rattle.basics.specs.Core.{ℕ, suc, _-_, cond, List, length, getD}
+use Rattle.basics.specs.Sums.{sum}
 use Rattle.model.specs.Instance.{Instance}
 use Rattle.model.specs.Sheets.{isOff, stateAt, activeOf, activeAt}
 

@@ -1,5 +1,5 @@
 -- What the functions of this crate ask for.
-use Rattle.lists.specs.Core.{ℕ, _≤_, _≡_, true, List, length}
+use Rattle.basics.specs.Core.{ℕ, _≤_, _≡_, true, List, length}
 use Rattle.model.specs.Instance.{instanceOf}
 use Rattle.model.specs.Sheets.{serves, sheetCost, countsOf}
 use Rattle.model.specs.Planners.{exact, workBytes}

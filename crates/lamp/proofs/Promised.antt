@@ -1,5 +1,5 @@
 -- What the exports promise beyond the answer of the call below them.
-use Rattle.lists.specs.Core.{ℕ, _≡_, refl, sym, ap, _∙_, Bool, true, false, cond, List, take, eqb, ne-eqb}
+use Rattle.basics.specs.Core.{ℕ, _≡_, refl, sym, ap, _∙_, Bool, true, false, cond, List, take, eqb, ne-eqb}
 use Rattle.model.specs.declared.Answer.{Answer}
 use Rattle.model.specs.declared.Answer.the-variants.{Cost, Refused}
 use Rattle.model.specs.declared.Refusal.{Refusal}

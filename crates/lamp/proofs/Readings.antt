@@ -1,7 +1,7 @@
 -- The walks of the readings: the code scans the list of seats and calls the decision with the view, whose reply it returns.
 use Rattle.seats.proofs.Kit.{_≡_, refl, drop, some, ℕ, [], _∷_, List, URA, named, Name, Fn, Local, local, place, copy, tyInt, Body, seq, call, w16, vint, SProp, ent, emp, id⊢, fst∗, via, ftrue, fsep, flft, Memory, Routine, Heap, Tables, WpFn, Atoms, Fun, fact, fmOf, Given, ‵, _⊛_, _$_, _∵_, !, qed}
 use Rattle.seats.proofs.Kit.{move, frame, fsplit, fjoin, suffices, done, look, init, and-then, no-more, returns, enter, alloc1, alloc0, params1, pass1, pass0, owns, uint-vals, uint-tells, u16, RefT, ShrSlice, slice-vals, shr-slice-tells, plain, shrSliceOf, nothing, pureI, Lfts, Args, Triple, Meets, tripleOf, Ended, Clauses, atExit, closing, yes}
-use Rattle.lists.specs.Core.{_++_}
+use Rattle.basics.specs.Core.{_++_}
 use mir.Syntax.{Ty, tyRef, imm, valueLocal, return}
 use denote.Memory.{pointee}
 use denote.Slice.{sliceTy}

@@ -5,7 +5,7 @@ use model::Reply;
 use model::Seat;
 use model::Sitting;
 use planners::PlannerKind;
-ghost use Rattle.lists.specs.Core.{_≡_, []};
+ghost use Rattle.basics.specs.Core.{_≡_, []};
 ghost use Rattle.model.specs.Planners.{exact, coarse, listed};
 ghost use Rattle.model.specs.Calls.{NumbersOf, Gives, checkCard, runningCost, planShow, makeSheet, markSheet, roundCount, practiceCard, catalogueTable};
 ghost use Rattle.model.specs.Calls.{planAtExit, workAtExit, sheetAtExit, cardAtExit, tableAtExit, actIn, explainSheet};

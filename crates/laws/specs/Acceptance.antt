@@ -1,7 +1,7 @@
 -- The bounds of a show that is in order, `InBounds`, by `in-bounds`; and what an accepted card is known to hold: its show is in order,
 -- `accepted-in-order`, and within these bounds, `accepted-bounds`, and the card has its length, `card-size`.
-use Rattle.lists.specs.Core.{ℕ, _+_, _*_, _≤_, _<_, _≡_, true, false, not, List, arith, length, leb, eqb, leb-true, ltb-false, eqb-true, not-false}
-use Rattle.lists.specs.Tests.{every-at, and-left, and-right}
+use Rattle.basics.specs.Core.{ℕ, _+_, _*_, _≤_, _<_, _≡_, true, false, not, List, arith, length, leb, eqb, leb-true, ltb-false, eqb-true, not-false}
+use Rattle.basics.specs.Tests.{every-at, and-left, and-right}
 use Rattle.model.specs.Instance.{Instance, instanceOf, loadPlace, cardLength, rackNumber, convex, tableInRange, pricesInRange, loadsInRange}
 use Rattle.model.specs.Specs.{cardTests, ShowInOrder}
 use Rattle.model.specs.Calls.{specOf, answer, Accepted}

@@ -1,5 +1,5 @@
 -- The number of an answer tells a success from a refusal.
-use Rattle.lists.specs.Core.{_≤_, _≡_, refl, arith}
+use Rattle.basics.specs.Core.{_≤_, _≡_, refl, arith}
 use Rattle.model.specs.declared.Refusal.{Refusal}
 use Rattle.model.specs.declared.Refusal.the-variants.{NotACard, Version, RackSize, SlotCount, CardLength, PriceRange, NotConvex, LoadRange}
 use Rattle.model.specs.declared.Refusal.the-variants.{NotMonotone, BufferTooShort, WrongLength, EntryRange, LoadNotServed, ZeroStart}

@@ -1,10 +1,10 @@
 -- Cards whose table is known as bytes: what is read from it, `table-read`; when the card is accepted, `accepted-by-others`; and that a head, a
 -- table and loads make such a card, `table-behind`.
-use Rattle.lists.specs.Core.{ℕ, _+_, _*_, _^_, _≤_, _<_, _≡_, sym, _∙_, true, List, [], _∷_, _++_, append-nil, _↔_, arith, length, drop}
-use Rattle.lists.specs.Core.{List·getD-append, take-at, drop-at, le-leb}
-use Rattle.lists.specs.Tests.{and-both}
-use Rattle.lists.specs.Bytes.{little-same, little-drop, little-take}
-use Rattle.lists.specs.Rows.{little-numbers}
+use Rattle.basics.specs.Core.{ℕ, _+_, _*_, _^_, _≤_, _<_, _≡_, sym, _∙_, true, List, [], _∷_, _++_, append-nil, _↔_, arith, length, drop}
+use Rattle.basics.specs.Core.{List·getD-append, take-at, drop-at, le-leb}
+use Rattle.basics.specs.Tests.{and-both}
+use Rattle.basics.specs.Bytes.{little-same, little-drop, little-take}
+use Rattle.basics.specs.Rows.{little-numbers}
 use Rattle.model.specs.declared.Answer.{Answer}
 use Rattle.model.specs.Instance.{instanceOf, headLength, entryPlace, tableSize, tableFields, tableOf, tableInRange, convex, priceBound, pricesInRange}
 use Rattle.model.specs.Specs.{frontTests, sizeTests, loadTest, cardTests, firstOf}

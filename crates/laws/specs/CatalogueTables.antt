@@ -1,7 +1,7 @@
 -- The catalogue module's table (document 02, §5): each test of a whole table, turned into the fact at each entry, `entry-is`, `entry-convex`,
 -- `entry-rises`, and what follows for cards, `catalogue-card`.
-use Rattle.lists.specs.Core.{ℕ, zero, suc, _+_, _-_, _*_, _/_, _^_, _≤_, _<_, _≡_, refl, sym, _∙_, true, List, mul-le-mul, arith, eqb-true, le-leb}
-use Rattle.lists.specs.Tests.{every-at, every-all}
+use Rattle.basics.specs.Core.{ℕ, zero, suc, _+_, _-_, _*_, _/_, _^_, _≤_, _<_, _≡_, refl, sym, _∙_, true, List, mul-le-mul, arith, eqb-true, le-leb}
+use Rattle.basics.specs.Tests.{every-at, every-all}
 use Rattle.model.specs.Instance.{instanceOf, tableOf, tableInRange}
 use Rattle.model.specs.Catalogue.{catalogueEntry, catalogueTop, catalogueSize, entryOf, followsRule, TestedTable, catalogueBytes}
 use Rattle.model.specs.Promises.{HasCatalogueTable}

@@ -1,10 +1,10 @@
 -- Which counts are in the list of all counts and in that of the coarse ones (document 01, 'The plans'): `all-member`, `coarse-member`; and that
 -- both lists ascend: `all-in-order`, `coarse-in-order`.
-use Rattle.lists.specs.Core.{ℕ, zero, suc, _+_, _^_, _≤_, _<_, _≡_, Bool, true, false, not, or-true, List, _↔_, _⊎_, inl, inr, ⊎-map, arith, getD}
-use Rattle.lists.specs.Core.{eqb, eqb-true, eq-eqb, not-true, not-false}
-use Rattle.lists.specs.Tests.{every-fails, every-not, or-cases}
-use Rattle.lists.specs.Lists.{keep, length-tabulate, getD-tabulate}
-use Rattle.lists.specs.Members.{InOrder, member-at, place-of, to-keep, from-keep, rising-in-order, in-order-keep}
+use Rattle.basics.specs.Core.{ℕ, zero, suc, _+_, _^_, _≤_, _<_, _≡_, Bool, true, false, not, or-true, List, _↔_, _⊎_, inl, inr, ⊎-map, arith, getD}
+use Rattle.basics.specs.Core.{eqb, eqb-true, eq-eqb, not-true, not-false}
+use Rattle.basics.specs.Tests.{every-fails, every-not, or-cases}
+use Rattle.basics.specs.Lists.{keep, length-tabulate, getD-tabulate}
+use Rattle.basics.specs.Members.{InOrder, member-at, place-of, to-keep, from-keep, rising-in-order, in-order-keep}
 use Rattle.model.specs.Counts.{allCounts, powerOfTwo, isCoarse, coarseCounts}
 use Rattle.model.specs.Plans.{Member}
 

@@ -1,11 +1,11 @@
 -- The card that is written for a show, `cardBytes`: its length, `card-bytes-length`; that a show whose fields fit is read back from it,
 -- `card-bytes-show`; and that it is accepted exactly if the show is in order, `card-bytes-accepted`.
-use Rattle.lists.specs.Core.{ℕ, _+_, _*_, _^_, _≤_, _<_, _≡_, refl, sym, ap, _∙_, List, [], _++_, append-nil, _↔_, mul-le-mul, arith, leb, length}
-use Rattle.lists.specs.Core.{take, length-append, take-at, le-ltb, eq-eqb}
-use Rattle.lists.specs.Tests.{every-same}
-use Rattle.lists.specs.Lists.{sameList}
-use Rattle.lists.specs.Bytes.{littleEndian, bytesOf, little-bytes, little-after}
-use Rattle.lists.specs.Rows.{length-numbers, little-numbers}
+use Rattle.basics.specs.Core.{ℕ, _+_, _*_, _^_, _≤_, _<_, _≡_, refl, sym, ap, _∙_, List, [], _++_, append-nil, _↔_, mul-le-mul, arith, leb, length}
+use Rattle.basics.specs.Core.{take, length-append, take-at, le-ltb, eq-eqb}
+use Rattle.basics.specs.Tests.{every-same}
+use Rattle.basics.specs.Lists.{sameList}
+use Rattle.basics.specs.Bytes.{littleEndian, bytesOf, little-bytes, little-after}
+use Rattle.basics.specs.Rows.{length-numbers, little-numbers}
 use Rattle.model.specs.Instance.{Instance, instanceOf, headLength, entryPlace, loadPlace, cardMark, cardVersion, markOf, versionOf}
 use Rattle.model.specs.Instance.{cardLength, tableBytes, loadBytes, cardBytes, pricesInRange, loadsInRange}
 use Rattle.model.specs.declared.Answer.the-variants.{Cost}

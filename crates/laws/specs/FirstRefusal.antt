@@ -1,8 +1,8 @@
 -- Laws of `firstOf`, the first of some tests that applies: test by test, of two lists joined, of tests none of which applies, `NoneApplies`, and of
 -- two lists that agree as far as the first test that applies, `Alike`.
-use Rattle.lists.specs.Core.{ℕ, _≡_, refl, sym, _∙_, true, false, true≢false, List, [], _∷_, _++_, ⊎-elim}
-use Rattle.lists.specs.Numbers.{true-or-false}
-use Rattle.lists.specs.Members.{Each}
+use Rattle.basics.specs.Core.{ℕ, _≡_, refl, sym, _∙_, true, false, true≢false, List, [], _∷_, _++_, ⊎-elim}
+use Rattle.basics.specs.Numbers.{true-or-false}
+use Rattle.basics.specs.Members.{Each}
 use Rattle.model.specs.declared.Refusal.{Refusal}
 use Rattle.model.specs.declared.Answer.{Answer}
 use Rattle.model.specs.declared.Answer.the-variants.{Cost, Refused}

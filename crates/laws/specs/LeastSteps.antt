@@ -1,9 +1,9 @@
 -- G and the active step (document 02, §2). On any table: what they are, `active-least`, `active-cost`, and that G never falls, `least-never-falls`.
 -- On a convex one: the active step is the greater of the step and the lowest step, `active-greater`, and G is convex, `least-convex`.
-use Rattle.lists.specs.Core.{ℕ, _+_, _-_, _≤_, _<_, max, _≡_, sym, ap, _∙_, ⊎-elim, le-of-lt, max-eq-left, max-eq-right, arith}
-use Rattle.lists.specs.Numbers.{le-or-lt}
-use Rattle.lists.specs.Rising.{rises-to}
-use Rattle.lists.specs.Ranges.{firstOver, LeastAt, least-at-unique, least-over-below, least-index, least-index-value}
+use Rattle.basics.specs.Core.{ℕ, _+_, _-_, _≤_, _<_, max, _≡_, sym, ap, _∙_, ⊎-elim, le-of-lt, max-eq-left, max-eq-right, arith}
+use Rattle.basics.specs.Numbers.{le-or-lt}
+use Rattle.basics.specs.Rising.{rises-to}
+use Rattle.basics.specs.Ranges.{firstOver, LeastAt, least-at-unique, least-over-below, least-index, least-index-value}
 use Rattle.model.specs.Instance.{Instance}
 use Rattle.model.specs.MoreLight.{leastFrom, activeStep}
 use Rattle.laws.specs.Tables.{Convex, NeverFalls, rises-past}

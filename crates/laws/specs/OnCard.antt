@@ -1,5 +1,5 @@
 -- Calls on a card: the card's own tests come first.
-use Rattle.lists.specs.Core.{ℕ, _≡_, refl, sym, _∙_, List, _++_}
+use Rattle.basics.specs.Core.{ℕ, _≡_, refl, sym, _∙_, List, _++_}
 use Rattle.model.specs.declared.Refusal.{Refusal}
 use Rattle.model.specs.declared.Answer.{Answer}
 use Rattle.model.specs.declared.Answer.the-variants.{Cost, Refused}

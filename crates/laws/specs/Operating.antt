@@ -1,9 +1,9 @@
 -- The operating cost of a count as one formula, `operating-formula`, and a bound for it, `operating-bound`; and the row of a plan, byte by byte.
-use Rattle.lists.specs.Core.{ℕ, zero, suc, _+_, _-_, _*_, _/_, _%_, _≤_, _<_, _≡_, sym, cond, eqb, eqb·suc-zero, length, lt-ltb, le-ltb, ne-eqb}
-use Rattle.lists.specs.Core.{le-trans, zero-mul, mod-zero, div-le-of-le-mul, mul-le-mul-left, arith}
-use Rattle.lists.specs.Products.{mul-le-mul-some}
-use Rattle.lists.specs.Division.{remainder-le, quotient-lt, part-and-rest}
-use Rattle.lists.specs.Lists.{length-tabulate}
+use Rattle.basics.specs.Core.{ℕ, zero, suc, _+_, _-_, _*_, _/_, _%_, _≤_, _<_, _≡_, sym, cond, eqb, eqb·suc-zero, length, lt-ltb, le-ltb, ne-eqb}
+use Rattle.basics.specs.Core.{le-trans, zero-mul, mod-zero, div-le-of-le-mul, mul-le-mul-left, arith}
+use Rattle.basics.specs.Products.{mul-le-mul-some}
+use Rattle.basics.specs.Division.{remainder-le, quotient-lt, part-and-rest}
+use Rattle.basics.specs.Lists.{length-tabulate}
 use Rattle.model.specs.Instance.{Instance}
 use Rattle.model.specs.MoreLight.{leastFrom, activeStep}
 use Rattle.model.specs.Counts.{operatingCost}

@@ -1,8 +1,8 @@
 -- The practice show of a start (document 02, §1): the bounds of its fields, that its table never falls, `practice-never-falls`, that its card is
 -- accepted, `practice-accepted`, and how long the card is at most, `practice-length`. All of it is proved for every start, by the way the show is
 -- made.
-use Rattle.lists.specs.Core.{ℕ, zero, suc, _+_, _*_, _%_, _≤_, _<_, _≡_, true, List, mod-lt, add-one, arith, leb, length, le-leb, ne-eqb, le-ltb}
-use Rattle.lists.specs.Tests.{and-both, every-all}
+use Rattle.basics.specs.Core.{ℕ, zero, suc, _+_, _*_, _%_, _≤_, _<_, _≡_, true, List, mod-lt, add-one, arith, leb, length, le-leb, ne-eqb, le-ltb}
+use Rattle.basics.specs.Tests.{and-both, every-all}
 use Rattle.model.specs.declared.Answer.the-variants.{Cost}
 use Rattle.model.specs.Instance.{cardBytes, cardLength, rackNumber, pricesInRange, tableInRange, convex, convexAt, loadsInRange}
 use Rattle.model.specs.Practice.{drawn, practiceDifference, practiceEntry, practiceShow, longestPractice}

@@ -1,7 +1,7 @@
 -- The answer of the rounded count's call, by its tests, and that it is what the course book's list of cases gives (document 02, §6):
 -- `answered-by-cases`.
-use Rattle.lists.specs.Core.{ℕ, _≤_, _<_, _≡_, sym, ap, true, false, cond, ⊎-elim, leb, le-leb, lt-leb}
-use Rattle.lists.specs.Numbers.{le-or-lt, true-or-false}
+use Rattle.basics.specs.Core.{ℕ, _≤_, _<_, _≡_, sym, ap, true, false, cond, ⊎-elim, leb, le-leb, lt-leb}
+use Rattle.basics.specs.Numbers.{le-or-lt, true-or-false}
 use Rattle.model.specs.declared.Refusal.the-variants.{RackSize, EntryRange}
 use Rattle.model.specs.declared.Answer.the-variants.{Cost, Refused}
 use Rattle.model.specs.Instance.{rackNumber}

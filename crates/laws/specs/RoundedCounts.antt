@@ -1,11 +1,11 @@
 -- The rounded count is the smallest allowed count not below a count (document 01, 'The plans'): `rounded-least`. In a rack of at most 200 the
 -- course book's list of cases gives it too (02 §6): `rounded-by-cases`.
-use Rattle.lists.specs.Core.{ℕ, zero, suc, _+_, _^_, _≤_, _<_, min, _≡_, refl, sym, _∙_, and-false, List, [], _∷_, _⊎_, inl, inr, ⊎-elim, le-refl}
-use Rattle.lists.specs.Core.{le-of-lt, le-antisymm, eq-or-lt-of-le, one-le-pow, pow-le-pow-right, zero-min, min-eq-left, min-eq-right, arith, getD}
-use Rattle.lists.specs.Core.{leb, leb-true, le-leb, lt-leb}
-use Rattle.lists.specs.Numbers.{le-or-lt}
-use Rattle.lists.specs.Lists.{keep, head-is-first}
-use Rattle.lists.specs.Members.{in-order-le, in-order-keep}
+use Rattle.basics.specs.Core.{ℕ, zero, suc, _+_, _^_, _≤_, _<_, min, _≡_, refl, sym, _∙_, and-false, List, [], _∷_, _⊎_, inl, inr, ⊎-elim, le-refl}
+use Rattle.basics.specs.Core.{le-of-lt, le-antisymm, eq-or-lt-of-le, one-le-pow, pow-le-pow-right, zero-min, min-eq-left, min-eq-right, arith, getD}
+use Rattle.basics.specs.Core.{leb, leb-true, le-leb, lt-leb}
+use Rattle.basics.specs.Numbers.{le-or-lt}
+use Rattle.basics.specs.Lists.{keep, head-is-first}
+use Rattle.basics.specs.Members.{in-order-le, in-order-keep}
 use Rattle.model.specs.Counts.{coarseCounts, roundedCount, Case, _to_, printedCases, caseValue, roundedByCases}
 use Rattle.model.specs.Plans.{Member}
 use Rattle.laws.specs.CountMembers.{kept-member, coarse-member, coarse-in-order}

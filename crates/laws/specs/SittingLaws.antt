@@ -2,9 +2,9 @@
 -- `AgreeAt`: in the phase, and once opened in the allowance, the submissions used, the least cost, whether a seat is empty, and the seat of the one
 -- candidate that it is about: `answers-agree`, `told-agree`, `events-agree`. Also what a refused act does, `refused-does`, and how a submission on
 -- an accepted card is answered, `submission-on-card`.
-use Rattle.lists.specs.Core.{ℕ, _≡_, refl, sym, ap, _∙_, Bool, true, false, cond, not, _&&_, _||_, List, [], _++_, Option, Option·getD, Option·elim}
-use Rattle.lists.specs.Core.{leb, eqb, not-true, not-false}
-use Rattle.lists.specs.Tests.{and-left, and-right, or-left}
+use Rattle.basics.specs.Core.{ℕ, _≡_, refl, sym, ap, _∙_, Bool, true, false, cond, not, _&&_, _||_, List, [], _++_, Option, Option·getD, Option·elim}
+use Rattle.basics.specs.Core.{leb, eqb, not-true, not-false}
+use Rattle.basics.specs.Tests.{and-left, and-right, or-left}
 use Rattle.model.specs.declared.Refusal.{Refusal}
 use Rattle.model.specs.declared.Answer.{Answer}
 use Rattle.model.specs.declared.Answer.the-variants.{Cost, Refused}

@@ -1,8 +1,8 @@
 -- The records of a sitting hold its state (document 02, §4): what an event makes of the records holds what it makes of the state, `state-after`.
-use Rattle.lists.specs.Core.{ℕ, _≤_, _<_, _≡_, refl, ap, _∙_, Bool, List, [], _∷_, _++_, map, append-nil, ⊎-elim, arith, length, take, drop}
-use Rattle.lists.specs.Core.{length-take, length-map, drop-of-length-le, take-at, take-all}
-use Rattle.lists.specs.Numbers.{le-or-lt}
-use Rattle.lists.specs.FirstPlace.{changeFirst, length-change, change-map}
+use Rattle.basics.specs.Core.{ℕ, _≤_, _<_, _≡_, refl, ap, _∙_, Bool, List, [], _∷_, _++_, map, append-nil, ⊎-elim, arith, length, take, drop}
+use Rattle.basics.specs.Core.{length-take, length-map, drop-of-length-le, take-at, take-all}
+use Rattle.basics.specs.Numbers.{le-or-lt}
+use Rattle.basics.specs.FirstPlace.{changeFirst, length-change, change-map}
 use Rattle.model.specs.declared.Seat.{Seat}
 use Rattle.model.specs.declared.Sitting.{Sitting}
 use Rattle.model.specs.Acts.{opened, Event, nothingDone, openingDone, seatingDone, closingDone, submissionCounted, submissionMarked}

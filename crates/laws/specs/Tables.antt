@@ -1,9 +1,9 @@
 -- Tables: what convex and never falling mean, that tables which agree pass the same tests, what follows from a step at which a convex table no
 -- longer falls, and the line that supports it.
-use Rattle.lists.specs.Core.{ℕ, zero, suc, _+_, _-_, _*_, _≤_, _<_, _≡_, ap, true, _↔_, ⊎-elim, leb-true, le-leb, add-zero, le-dest, le-of-lt}
-use Rattle.lists.specs.Core.{mul-le-mul-left, arith, leb}
-use Rattle.lists.specs.Numbers.{le-or-lt}
-use Rattle.lists.specs.Tests.{every-at, every-all, every-same}
+use Rattle.basics.specs.Core.{ℕ, zero, suc, _+_, _-_, _*_, _≤_, _<_, _≡_, ap, true, _↔_, ⊎-elim, leb-true, le-leb, add-zero, le-dest, le-of-lt}
+use Rattle.basics.specs.Core.{mul-le-mul-left, arith, leb}
+use Rattle.basics.specs.Numbers.{le-or-lt}
+use Rattle.basics.specs.Tests.{every-at, every-all, every-same}
 use Rattle.model.specs.Instance.{convexAt, convex, neverFalls, tableInRange}
 
 -- Of a table with the entries f 0 to f q no entry lies above the middle of its neighbours.

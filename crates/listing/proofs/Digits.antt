@@ -1,7 +1,7 @@
 -- Laws of decimal numbers: what their digits are, and how many they have.
-use Rattle.lists.specs.Core.{ℕ, zero, suc, _*_, _/_, _%_, _^_, _≤_, _<_, _≡_, Bool, true, false, cond, ⊎-elim, [], _∷_, _++_, pow-suc, arith, ltb}
-use Rattle.lists.specs.Core.{length, length-append, lt-ltb, le-ltb}
-use Rattle.lists.specs.Numbers.{le-or-lt}
+use Rattle.basics.specs.Core.{ℕ, zero, suc, _*_, _/_, _%_, _^_, _≤_, _<_, _≡_, Bool, true, false, cond, ⊎-elim, [], _∷_, _++_, pow-suc, arith, ltb}
+use Rattle.basics.specs.Core.{length, length-append, lt-ltb, le-ltb}
+use Rattle.basics.specs.Numbers.{le-or-lt}
 use Rattle.model.specs.Listing.{digit, digits, decimal}
 
 -- A tenth of a number has a digit less.

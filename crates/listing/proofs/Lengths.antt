@@ -1,9 +1,9 @@
 -- How long the texts are at most.
-use Rattle.lists.specs.Core.{ℕ, _+_, _*_, _^_, _≤_, _<_, Bool, true, false, cond, List, arith, length, getD, take, drop, length-append, length-take}
-use Rattle.lists.specs.Core.{getD-take, getD-drop}
-use Rattle.lists.specs.Parts.{getD-within}
-use Rattle.lists.specs.Text.{text}
-use Rattle.lists.specs.Writing.{Room, rows-at-most}
+use Rattle.basics.specs.Core.{ℕ, _+_, _*_, _^_, _≤_, _<_, Bool, true, false, cond, List, arith, length, getD, take, drop, length-append, length-take}
+use Rattle.basics.specs.Core.{getD-take, getD-drop}
+use Rattle.basics.specs.Parts.{getD-within}
+use Rattle.basics.specs.Text.{text}
+use Rattle.basics.specs.Writing.{Room, rows-at-most}
 use Rattle.model.specs.Sheets.{off, isOff}
 use Rattle.model.specs.Listing.{decimal, costLine, planLine, stepText, slotLine, listing, refusedLine}
 use Rattle.listing.specs.Texts.{numberedLine, countText, moduleText, sheetLine, sheetLines, Printable, LineRoom}

@@ -1,6 +1,6 @@
 -- The rows of a sheet that `put_sheet` lends one by one.
-use Rattle.lists.specs.Core.{ℕ, _+_, _-_, _*_, _≤_, _<_, _≡_, List, arith, length, take, drop}
-use Rattle.lists.specs.Rows.{row-within}
+use Rattle.basics.specs.Core.{ℕ, _+_, _-_, _*_, _≤_, _<_, _≡_, List, arith, length, take, drop}
+use Rattle.basics.specs.Rows.{row-within}
 use Rattle.model.specs.Listing.{slotLine}
 use Rattle.listing.specs.Texts.{InRows, sheetLine}
 

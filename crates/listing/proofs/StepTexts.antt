@@ -1,6 +1,6 @@
 -- The text of a step, by the code's test for off, and that it is not empty.
-use Rattle.lists.specs.Core.{ℕ, _≤_, _≡_, Bool, true, false, cond, arith, length, eq-eqb, ne-eqb}
-use Rattle.lists.specs.Text.{text}
+use Rattle.basics.specs.Core.{ℕ, _≤_, _≡_, Bool, true, false, cond, arith, length, eq-eqb, ne-eqb}
+use Rattle.basics.specs.Text.{text}
 use Rattle.model.specs.Sheets.{off, isOff}
 use Rattle.model.specs.Listing.{decimal, stepText}
 use Rattle.listing.proofs.Digits.{decimal-some}

@@ -1,7 +1,7 @@
 -- The parts of the program's text that the model does not name, and what the public functions ask for.
-use Rattle.lists.specs.Core.{ℕ, _+_, _*_, _≤_, _≡_, List, _++_, length, getD, take, drop}
-use Rattle.lists.specs.Lists.{rows}
-use Rattle.lists.specs.Text.{text}
+use Rattle.basics.specs.Core.{ℕ, _+_, _*_, _≤_, _≡_, List, _++_, length, getD, take, drop}
+use Rattle.basics.specs.Lists.{rows}
+use Rattle.basics.specs.Text.{text}
 use Rattle.model.specs.Sheets.{off}
 use Rattle.model.specs.Listing.{decimal, newline, stepText, slotLine}
 

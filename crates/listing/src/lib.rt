@@ -1,7 +1,7 @@
 // The program's text: each function writes a part of it into a lent area from a place on, and returns the place after it.
-ghost use Rattle.lists.specs.Core.{_≡_, _<_, length};
-ghost use Rattle.lists.specs.Lists.{writtenOver};
-ghost use Rattle.lists.specs.Writing.{Room, Written};
+ghost use Rattle.basics.specs.Core.{_≡_, _<_, length};
+ghost use Rattle.basics.specs.Lists.{writtenOver};
+ghost use Rattle.basics.specs.Writing.{Room, Written};
 ghost use Rattle.model.specs.Listing.{decimal, planLine, slotLine, listing, refusedLine};
 ghost use Rattle.listing.specs.Texts.{numberedLine, countText, countTexts, moduleText, moduleTexts, slotNumber, sheetLines};
 ghost use Rattle.listing.specs.Texts.{InRows, Printable, LineRoom};

@@ -1,6 +1,6 @@
 -- A sitting (document 02, §4: 'A desk for the sitting'): its acts, what each may meet and what each does. The paper's doer is the caller
 -- here, and a hand-in is a submission. `actSpec` has the specification of every act.
-use Rattle.lists.specs.Core.{ℕ, Bool, true, false, cond, not, _&&_, _||_, List, [], _∷_, _++_, Option, Option·getD, Option·elim, leb, eqb}
+use Rattle.basics.specs.Core.{ℕ, Bool, true, false, cond, not, _&&_, _||_, List, [], _∷_, _++_, Option, Option·getD, Option·elim, leb, eqb}
 use Rattle.model.specs.declared.Refusal.{Refusal}
 use Rattle.model.specs.declared.Refusal.the-variants.{BufferTooShort, NotPermitted, SeatUnavailable, AllowanceSpent}
 use Rattle.model.specs.Answers.{refusalNumber}

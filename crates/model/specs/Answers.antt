@@ -1,5 +1,5 @@
 -- The number of each refusal, `refusalNumber`, and the number and the cost of an answer (document 01, 'Refused'; 02 §1, §4, §8).
-use Rattle.lists.specs.Core.{ℕ}
+use Rattle.basics.specs.Core.{ℕ}
 use Rattle.model.specs.declared.Refusal.{Refusal}
 use Rattle.model.specs.declared.Refusal.the-variants.{NotACard, Version, RackSize, SlotCount, CardLength, PriceRange, NotConvex}
 use Rattle.model.specs.declared.Refusal.the-variants.{LoadRange, NotMonotone, BufferTooShort, WrongLength, EntryRange, LoadNotServed}

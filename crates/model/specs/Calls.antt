@@ -1,6 +1,6 @@
 -- Every call with its specification, `specOf`, and what follows from it: the answer, and the bytes of each lent buffer at exit (document 01,
 -- 'Refused', 'The plans'; 02 §1, §2, §4, §5, §7, §8).
-use Rattle.lists.specs.Core.{ℕ, _≡_, List, [], _∷_, _++_, map, getD, leb, eqb}
+use Rattle.basics.specs.Core.{ℕ, _≡_, List, [], _∷_, _++_, map, getD, leb, eqb}
 use Rattle.model.specs.declared.Refusal.the-variants.{RackSize, BufferTooShort, EntryRange, LoadNotServed, ZeroStart}
 use Rattle.model.specs.declared.Answer.{Answer}
 use Rattle.model.specs.declared.Answer.the-variants.{Cost}

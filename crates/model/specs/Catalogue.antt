@@ -1,7 +1,7 @@
 -- The catalogue module's table (document 02, §5): its rule, `catalogueEntry`, the tests of a whole table, `TestedTable`, and its entries as a
 -- card's fields, `catalogueBytes`.
-use Rattle.lists.specs.Core.{ℕ, _+_, _-_, _*_, _/_, _≡_, Bool, true, List, length, getD, eqb}
-use Rattle.lists.specs.Tests.{every}
+use Rattle.basics.specs.Core.{ℕ, _+_, _-_, _*_, _/_, _≡_, Bool, true, List, length, getD, eqb}
+use Rattle.basics.specs.Tests.{every}
 use Rattle.model.specs.Instance.{tableFields, convex, neverFalls}
 
 -- The rule: 'F(k) = 400 + 3k + k(k − 1)/2'. For k = 0 the product is 0, whatever stands for k − 1, and a product of neighbours is even, so

@@ -1,9 +1,9 @@
 -- Examples of document 02, §5: the catalogue module's table, the call that writes it, and the lines of its generator. Beside them answers of wrong
 -- programs, which differ, and bytes that the call does not write, of which `WritesTable` is false.
-use Rattle.lists.specs.Core.{ℕ, _≡_, refl, Bool, cond, List, [], _∷_, _++_, arith, length, take, drop, set}
-use Rattle.lists.specs.Lists.{tabulate}
-use Rattle.lists.specs.Text.{text}
-use Rattle.lists.specs.Bytes.{littleEndian}
+use Rattle.basics.specs.Core.{ℕ, _≡_, refl, Bool, cond, List, [], _∷_, _++_, arith, length, take, drop, set}
+use Rattle.basics.specs.Lists.{tabulate}
+use Rattle.basics.specs.Text.{text}
+use Rattle.basics.specs.Bytes.{littleEndian}
 use Rattle.model.specs.Answers.{numberOf, costOf}
 use Rattle.model.specs.Instance.{instanceOf, neverFalls, tableOf}
 use Rattle.model.specs.Catalogue.{catalogueEntry, catalogueSize, entryOf, followsRule}

@@ -1,5 +1,5 @@
 -- Examples of document 02, §8: a plan limited to a list of counts with a ratio. Beside them answers of wrong programs, which differ.
-use Rattle.lists.specs.Core.{ℕ, _*_, cond, List, [], _∷_, length, take, replicate, arith}
+use Rattle.basics.specs.Core.{ℕ, _*_, cond, List, [], _∷_, length, take, replicate, arith}
 use Prim.Native.String.{String}
 use Rattle.model.specs.Counts.{allCounts, coarseCounts}
 use Rattle.model.specs.Instance.{instanceOf}

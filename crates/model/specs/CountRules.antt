@@ -1,6 +1,6 @@
 -- A list of allowed counts that a customer gives, with its ratio, and the rules for both (document 02, §8).
-use Rattle.lists.specs.Core.{ℕ, _+_, _-_, _*_, Bool, _&&_, List, length, getD, leb, ltb, eqb}
-use Rattle.lists.specs.Tests.{every}
+use Rattle.basics.specs.Core.{ℕ, _+_, _-_, _*_, Bool, _&&_, List, length, getD, leb, ltb, eqb}
+use Rattle.basics.specs.Tests.{every}
 
 -- The gap after entry j (from 0): how much higher the next entry is. Where it is not higher, the gap is 0.
 abbrev pub gapAfter : List ℕ → ℕ → ℕ

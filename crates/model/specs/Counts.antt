@@ -1,8 +1,8 @@
 -- Counts of active modules: their operating cost, which counts are allowed, and the rounded count, also by the course book's list (document
 -- 01, 'Running cost of a count', 'The plans'; 02 §2, §6).
-use Rattle.lists.specs.Core.{ℕ, _+_, _-_, _*_, _/_, _%_, _^_, min, Bool, cond, _&&_, _||_, List, [], _∷_, headD, leb, eqb}
-use Rattle.lists.specs.Tests.{any}
-use Rattle.lists.specs.Lists.{tabulate, keep}
+use Rattle.basics.specs.Core.{ℕ, _+_, _-_, _*_, _/_, _%_, _^_, min, Bool, cond, _&&_, _||_, List, [], _∷_, headD, leb, eqb}
+use Rattle.basics.specs.Tests.{any}
+use Rattle.basics.specs.Lists.{tabulate, keep}
 use Rattle.model.specs.Instance.{Instance}
 use Rattle.model.specs.MoreLight.{leastFrom}
 

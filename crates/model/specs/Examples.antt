@@ -1,14 +1,14 @@
 -- Document 01's starred examples, A to J: one table, one proof. Beside it tables of further rows by subject, and one of the answers of
 -- wrong programs, which differ.
-use Rattle.lists.specs.Core.{ℕ, _+_, _-_, _≡_, refl, ap, sym, _∙_, Bool, true, false, not, false≢true, List, [], _∷_, _++_, map, flatMap, headD}
-use Rattle.lists.specs.Core.{length, getD, take, drop, set, replicate, arith}
+use Rattle.basics.specs.Core.{ℕ, _+_, _-_, _≡_, refl, ap, sym, _∙_, Bool, true, false, not, false≢true, List, [], _∷_, _++_, map, flatMap, headD}
+use Rattle.basics.specs.Core.{length, getD, take, drop, set, replicate, arith}
 use Prim.Native.String.{String}
-use Rattle.lists.specs.Tests.{every, allOf}
-use Rattle.lists.specs.Sums.{sum}
-use Rattle.lists.specs.Ranges.{leastOver, firstOver}
-use Rattle.lists.specs.Lists.{tabulate, rows, keep, sameList, sameLists, same-selves, same-lists-equal}
-use Rattle.lists.specs.Text.{text}
-use Rattle.lists.specs.Bytes.{littleEndian, bytesOf}
+use Rattle.basics.specs.Tests.{every, allOf}
+use Rattle.basics.specs.Sums.{sum}
+use Rattle.basics.specs.Ranges.{leastOver, firstOver}
+use Rattle.basics.specs.Lists.{tabulate, rows, keep, sameList, sameLists, same-selves, same-lists-equal}
+use Rattle.basics.specs.Text.{text}
+use Rattle.basics.specs.Bytes.{littleEndian, bytesOf}
 use Rattle.model.specs.Answers.{numberOf, costOf}
 use Rattle.model.specs.Instance.{Instance, instanceOf, cardBytes, cardLength, convexAt, convex, neverFalls, tableInRange}
 use Rattle.model.specs.Instance.{pricesInRange, loadsInRange}

@@ -1,5 +1,5 @@
 -- What the explanation of a sheet returns and leaves (document 02, §7).
-use Rattle.lists.specs.Core.{ℕ, List, [], getD}
+use Rattle.basics.specs.Core.{ℕ, List, [], getD}
 use Rattle.model.specs.declared.Refusal.{Refusal}
 use Rattle.model.specs.declared.Answer.{Answer}
 use Rattle.model.specs.declared.Answer.the-variants.{Cost, Refused}

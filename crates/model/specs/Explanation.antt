@@ -1,6 +1,6 @@
 -- Where the points of a sheet went (document 02, §7): its cost above the least cost in three parts, and what each part being 0 says.
-use Rattle.lists.specs.Core.{ℕ, suc, _+_, _-_, _*_, _≤_, _<_, _≡_, true, cond, List, eqb}
-use Rattle.lists.specs.Sums.{sum}
+use Rattle.basics.specs.Core.{ℕ, suc, _+_, _-_, _*_, _≤_, _<_, _≡_, true, cond, List, eqb}
+use Rattle.basics.specs.Sums.{sum}
 use Rattle.model.specs.Instance.{Instance}
 use Rattle.model.specs.Counts.{operatingCost, allCounts}
 use Rattle.model.specs.Sheets.{isOff, stateAt, sheetLength, serves, sheetOperatingCost, sheetSwitchingCost, sheetCost, countsOf}

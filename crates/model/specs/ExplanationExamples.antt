@@ -1,8 +1,8 @@
 -- Examples of document 02, §7: where the points of a sheet went. Beside them answers of wrong programs, which differ.
-use Rattle.lists.specs.Core.{ℕ, List, [], _∷_, _++_, take, set, replicate, arith}
+use Rattle.basics.specs.Core.{ℕ, List, [], _∷_, _++_, take, set, replicate, arith}
 use Prim.Native.String.{String}
-use Rattle.lists.specs.Lists.{tabulate}
-use Rattle.lists.specs.Sums.{sum}
+use Rattle.basics.specs.Lists.{tabulate}
+use Rattle.basics.specs.Sums.{sum}
 use Rattle.model.specs.Sheets.{stateAt, activeAt, countsOf}
 use Rattle.model.specs.Thesis.{countAt}
 use Rattle.model.specs.Explanation.{countsOperatingCost, countsSwitchingCost, excessOperatingCost, excessSwitchingCost, excessOfCounts}

@@ -1,9 +1,9 @@
 -- A show, `Instance`, and its card (document 01, 'The show card'): the places of the fields, how they are read, `instanceOf`, and written,
 -- `cardBytes`, the bounds of the numbers, and when a table is convex and when it never falls ('Running cost of a count').
-use Rattle.lists.specs.Core.{ℕ, _+_, _-_, _*_, Bool, _&&_, List, [], _∷_, _++_, take, drop, leb}
-use Rattle.lists.specs.Tests.{every}
-use Rattle.lists.specs.Lists.{rows}
-use Rattle.lists.specs.Bytes.{littleEndian, bytesOf}
+use Rattle.basics.specs.Core.{ℕ, _+_, _-_, _*_, Bool, _&&_, List, [], _∷_, _++_, take, drop, leb}
+use Rattle.basics.specs.Tests.{every}
+use Rattle.basics.specs.Lists.{rows}
+use Rattle.basics.specs.Bytes.{littleEndian, bytesOf}
 
 -- A show: the rack (m modules, top step Q), T slots, the warm-up and cool-down price, the table F(0) to F(Q) and the loads.
 -- Slots are counted from 0 here, and table and loads are functions of an index; beyond Q and T their values mean nothing.

@@ -1,8 +1,8 @@
 -- The texts of the programs, as bytes of ASCII: the planner's (document 01, 'Program and listing') and the generator's (02 §5).
-use Rattle.lists.specs.Core.{ℕ, zero, suc, _+_, _*_, _/_, _%_, cond, List, [], _∷_, _++_, length, getD, take, drop, replicate, ltb}
+use Rattle.basics.specs.Core.{ℕ, zero, suc, _+_, _*_, _/_, _%_, cond, List, [], _∷_, _++_, length, getD, take, drop, replicate, ltb}
 use Prim.Native.Char.{code}
-use Rattle.lists.specs.Lists.{rows}
-use Rattle.lists.specs.Text.{text}
+use Rattle.basics.specs.Lists.{rows}
+use Rattle.basics.specs.Text.{text}
 use Rattle.model.specs.declared.Answer.{Answer}
 use Rattle.model.specs.declared.Answer.the-variants.{Cost, Refused}
 use Rattle.model.specs.Answers.{refusalNumber}

@@ -1,6 +1,6 @@
 -- More light than the load (document 02, §2): what a module costs that gives the light of a step or more, and the step it is active at.
-use Rattle.lists.specs.Core.{ℕ, _-_, eqb}
-use Rattle.lists.specs.Ranges.{leastOver, firstOver}
+use Rattle.basics.specs.Core.{ℕ, _-_, eqb}
+use Rattle.basics.specs.Ranges.{leastOver, firstOver}
 use Rattle.model.specs.Instance.{Instance}
 
 -- 'G(k), the least F(j) for j from k to Q': of F(k) and the Q − k entries after it. Beyond Q it means nothing.

@@ -1,7 +1,7 @@
 -- Plans: the sheet and the cost of one, and the least plan over a list of allowed counts (document 01, 'The plans'; 02 §2).
-use Rattle.lists.specs.Core.{ℕ, zero, suc, _+_, _/_, _%_, _≤_, _<_, _≡_, Bool, true, cond, List, [], _∷_, _++_, map, flatMap, length, getD, leb, ltb}
-use Rattle.lists.specs.Tests.{every}
-use Rattle.lists.specs.Lists.{tabulate, rows, keep}
+use Rattle.basics.specs.Core.{ℕ, zero, suc, _+_, _/_, _%_, _≤_, _<_, _≡_, Bool, true, cond, List, [], _∷_, _++_, map, flatMap, length, getD, leb, ltb}
+use Rattle.basics.specs.Tests.{every}
+use Rattle.basics.specs.Lists.{tabulate, rows, keep}
 use Rattle.model.specs.Instance.{Instance}
 use Rattle.model.specs.MoreLight.{activeStep}
 use Rattle.model.specs.Counts.{canServe}

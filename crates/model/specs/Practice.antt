@@ -1,5 +1,5 @@
 -- Practice shows from a number (document 02, §1): the generator, and the show that it draws.
-use Rattle.lists.specs.Core.{ℕ, zero, suc, _+_, _*_, _/_, _%_, _^_}
+use Rattle.basics.specs.Core.{ℕ, zero, suc, _+_, _*_, _/_, _%_, _^_}
 use lib.Bits.{bitXor}
 use Rattle.model.specs.Instance.{Instance}
 

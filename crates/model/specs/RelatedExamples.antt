@@ -1,12 +1,12 @@
 -- Examples for the definitions of RelatedShows: shows that stand in these relations, that no others do, and what the planners give a card and
 -- what they do not.
-use Rattle.lists.specs.Core.{ℕ, zero, suc, _≤_, _≡_, refl, sym, ap, ap₂, _∙_, List, [], _∷_, _++_, reverse, flatMap, length, getD, take, arith}
-use Rattle.lists.specs.Core.{le-ltb}
-use Rattle.lists.specs.Tests.{every, allOf}
-use Rattle.lists.specs.Sums.{sum}
-use Rattle.lists.specs.Ranges.{leastOver, firstOver}
-use Rattle.lists.specs.Lists.{tabulate, rows, keep, sameList, equal-tabulate}
-use Rattle.lists.specs.Bytes.{littleEndian, bytesOf}
+use Rattle.basics.specs.Core.{ℕ, zero, suc, _≤_, _≡_, refl, sym, ap, ap₂, _∙_, List, [], _∷_, _++_, reverse, flatMap, length, getD, take, arith}
+use Rattle.basics.specs.Core.{le-ltb}
+use Rattle.basics.specs.Tests.{every, allOf}
+use Rattle.basics.specs.Sums.{sum}
+use Rattle.basics.specs.Ranges.{leastOver, firstOver}
+use Rattle.basics.specs.Lists.{tabulate, rows, keep, sameList, equal-tabulate}
+use Rattle.basics.specs.Bytes.{littleEndian, bytesOf}
 use Rattle.model.specs.Instance.{Instance, instanceOf, cardBytes, cardLength, convexAt, convex, tableInRange, pricesInRange, loadsInRange}
 use Rattle.model.specs.MoreLight.{leastFrom, activeStep}
 use Rattle.model.specs.Counts.{canServe, allCounts, powerOfTwo, coarseCounts}

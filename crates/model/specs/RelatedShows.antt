@@ -1,7 +1,7 @@
 -- Shows that document 02, §3, compares: when two agree, and when one is another played backwards, another on a rack with more modules, or
 -- two others joined; and the cost and the plan that a planner gives for a card.
-use Rattle.lists.specs.Core.{ℕ, _≤_, _≡_, List, _++_, reverse, take}
-use Rattle.lists.specs.Lists.{tabulate}
+use Rattle.basics.specs.Core.{ℕ, _≤_, _≡_, List, _++_, reverse, take}
+use Rattle.basics.specs.Lists.{tabulate}
 use Rattle.model.specs.Answers.{numberOf}
 use Rattle.model.specs.Instance.{Instance, instanceOf}
 use Rattle.model.specs.Planners.{Planner}

@@ -1,8 +1,8 @@
 -- Sheets: when one serves a show, what it costs, and its counts (document 01, 'Terms'; 02 §2).
-use Rattle.lists.specs.Core.{ℕ, zero, suc, _+_, _*_, Bool, cond, _&&_, _||_, List, length, getD, leb, ltb, eqb}
-use Rattle.lists.specs.Tests.{every}
-use Rattle.lists.specs.Sums.{sum}
-use Rattle.lists.specs.Lists.{tabulate}
+use Rattle.basics.specs.Core.{ℕ, zero, suc, _+_, _*_, Bool, cond, _&&_, _||_, List, length, getD, leb, ltb, eqb}
+use Rattle.basics.specs.Tests.{every}
+use Rattle.basics.specs.Sums.{sum}
+use Rattle.basics.specs.Lists.{tabulate}
 use Rattle.model.specs.Instance.{Instance}
 
 -- The byte for a module that is off: 'the step, or 255 for off'.

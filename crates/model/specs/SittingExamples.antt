@@ -1,8 +1,8 @@
 -- Examples of the acts of a sitting (document 02, §4), most of them on card A, whose least cost is 32: tables of acts, a table of what wrong
 -- readings would answer, and a table of sequences of acts, among them a whole sitting, by the calls in turn and by its history.
-use Rattle.lists.specs.Core.{ℕ, List, [], _∷_, _++_, map, Option·elim, set, replicate, arith}
+use Rattle.basics.specs.Core.{ℕ, List, [], _∷_, _++_, map, Option·elim, set, replicate, arith}
 use Prim.Native.String.{String}
-use Rattle.lists.specs.FirstPlace.{occurs, countOf, firstPlace, changeFirst}
+use Rattle.basics.specs.FirstPlace.{occurs, countOf, firstPlace, changeFirst}
 use Rattle.model.specs.declared.Seat.{Seat}
 use Rattle.model.specs.declared.Sitting.{Sitting}
 use Rattle.model.specs.Acts.{Act, openSitting, seatCandidate, closeSitting, submitSheet, readLeast, readLowest, readUsed, isUnopened, isOpened}

@@ -1,7 +1,7 @@
 -- The state of a sitting (document 02, §4), how an event changes it, and the records that hold it: the sitting that each act gives back and
 -- the lent list of seats.
-use Rattle.lists.specs.Core.{ℕ, _+_, min, Bool, cond, not, List, _++_, map, Option, none, some, getD, take, drop, eqb}
-use Rattle.lists.specs.FirstPlace.{occurs, firstPlace, changeFirst}
+use Rattle.basics.specs.Core.{ℕ, _+_, min, Bool, cond, not, List, _++_, map, Option, none, some, getD, take, drop, eqb}
+use Rattle.basics.specs.FirstPlace.{occurs, firstPlace, changeFirst}
 use Rattle.model.specs.declared.Seat.{Seat}
 use Rattle.model.specs.declared.Sitting.{Sitting}
 use Rattle.model.specs.Acts.{Phase, unopened, opened, closed, Facts}

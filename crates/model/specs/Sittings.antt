@@ -1,10 +1,10 @@
 -- What an act of a sitting answers and does by the facts of the sitting, and what it leaves: of the state, `next`, and of the records that the
 -- calls hand on, `replyOf` and `seatsAtExit` (document 02, §4). What a list of acts is told: by the calls in turn, `toldInTurn`, and by the history
 -- alone, `toldFrom`.
-use Rattle.lists.specs.Core.{ℕ, min, _≡_, Bool, true, false, cond, List, [], _∷_, headD, flatMap, Option, none, some, length, leb, eqb}
-use Rattle.lists.specs.Lists.{keep}
-use Rattle.lists.specs.Members.{Each}
-use Rattle.lists.specs.FirstPlace.{occurs, countOf}
+use Rattle.basics.specs.Core.{ℕ, min, _≡_, Bool, true, false, cond, List, [], _∷_, headD, flatMap, Option, none, some, length, leb, eqb}
+use Rattle.basics.specs.Lists.{keep}
+use Rattle.basics.specs.Members.{Each}
+use Rattle.basics.specs.FirstPlace.{occurs, countOf}
 use Rattle.model.specs.declared.Refusal.{Refusal}
 use Rattle.model.specs.declared.Answer.{Answer}
 use Rattle.model.specs.declared.Answer.the-variants.{Cost, Refused}

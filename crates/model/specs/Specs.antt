@@ -1,7 +1,7 @@
 -- What the specification of a call is made of: tests, each with its refusal, the cost of a success, and lent buffers (document 01, 'Refused',
 -- 'The plans'). The groups of tests that several calls make have names here; Calls has the specification of each call, Acts that of each act.
-use Rattle.lists.specs.Core.{ℕ, _*_, _≡_, Bool, false, cond, not, _&&_, _||_, List, [], _∷_, _++_, length, replicate, ltb, eqb}
-use Rattle.lists.specs.Lists.{sameList, writtenOver}
+use Rattle.basics.specs.Core.{ℕ, _*_, _≡_, Bool, false, cond, not, _&&_, _||_, List, [], _∷_, _++_, length, replicate, ltb, eqb}
+use Rattle.basics.specs.Lists.{sameList, writtenOver}
 use Rattle.model.specs.declared.Refusal.{Refusal}
 use Rattle.model.specs.declared.Refusal.the-variants.{NotACard, Version, RackSize, SlotCount, CardLength, PriceRange, NotConvex}
 use Rattle.model.specs.declared.Refusal.the-variants.{LoadRange, WrongLength, EntryRange, LoadNotServed, CountList}

@@ -1,7 +1,7 @@
 -- The thesis's formulas in whole points: 2.2 and 2.3 for schedules, where 2.3 asks for the load or more, and 3.9 to 3.13 for counts, with G in
 -- place of F (02 §2).
-use Rattle.lists.specs.Core.{ℕ, zero, suc, _+_, _-_, _*_, _≤_, _<_, List, getD}
-use Rattle.lists.specs.Sums.{sum}
+use Rattle.basics.specs.Core.{ℕ, zero, suc, _+_, _-_, _*_, _≤_, _<_, List, getD}
+use Rattle.basics.specs.Sums.{sum}
 use Rattle.model.specs.Instance.{Instance}
 use Rattle.model.specs.Counts.{operatingCost}
 use Rattle.model.specs.Sheets.{stateAt, stepOf, activeOf}

@@ -1,5 +1,5 @@
 // What the planner answers: types, and the number of a refusal. What every call must answer is defined in specs/.
-ghost use Rattle.lists.specs.Core.{_≡_};
+ghost use Rattle.basics.specs.Core.{_≡_};
 ghost use Rattle.model.specs.Answers.{refusalNumber};
 
 // One variant for each number: document 01's table in section 'Refused', 1 to 13, and then the numbers of document 02.

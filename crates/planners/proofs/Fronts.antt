@@ -1,6 +1,6 @@
 -- A list at the front of a longer one, where a filling function has left it.
-use Rattle.lists.specs.Core.{ℕ, _≤_, _≡_, sym, _∙_, ap, List, arith, length, take, drop, length-append, take-at}
-use Rattle.lists.specs.Lists.{writtenOver}
+use Rattle.basics.specs.Core.{ℕ, _≤_, _≡_, sym, _∙_, ap, List, arith, length, take, drop, length-append, take-at}
+use Rattle.basics.specs.Lists.{writtenOver}
 
 module _ (l old : List ℕ) {new : List ℕ} {r : ℕ} (size : r ≡ length l) (filled : new ≡ writtenOver l old) where
   pub front-is : take r new ≡ l

@@ -1,8 +1,8 @@
 -- A planner that keeps the rules: its counts as a list that is searched, its answer by the test on its buffers, and its buffers at exit.
-use Rattle.lists.specs.Core.{ℕ, _≤_, _<_, _≡_, refl, sym, ap, _∙_, Bool, true, false, _||_, or-false, List, mul-le-mul-right, arith, length, take}
-use Rattle.lists.specs.Core.{replicate, ltb, ltb-false, lt-ltb, le-ltb}
-use Rattle.lists.specs.Lists.{writtenOver}
-use Rattle.lists.specs.Tests.{or-left, or-right}
+use Rattle.basics.specs.Core.{ℕ, _≤_, _<_, _≡_, refl, sym, ap, _∙_, Bool, true, false, _||_, or-false, List, mul-le-mul-right, arith, length, take}
+use Rattle.basics.specs.Core.{replicate, ltb, ltb-false, lt-ltb, le-ltb}
+use Rattle.basics.specs.Lists.{writtenOver}
+use Rattle.basics.specs.Tests.{or-left, or-right}
 use Rattle.model.specs.declared.Refusal.{Refusal}
 use Rattle.model.specs.declared.Refusal.the-variants.{BufferTooShort, CountList}
 use Rattle.model.specs.declared.Answer.{Answer}

@@ -1,6 +1,6 @@
 -- What the search over a list of allowed counts leaves in the buffers is the least plan over the list, and zeros.
-use Rattle.lists.specs.Core.{ℕ, _≤_, _≡_, sym, _∙_, ap, List, _++_, arith, length, take, drop, replicate, length-replicate, length-take-le}
-use Rattle.lists.specs.Lists.{writtenOver}
+use Rattle.basics.specs.Core.{ℕ, _≤_, _≡_, sym, _∙_, ap, List, _++_, arith, length, take, drop, replicate, length-replicate, length-take-le}
+use Rattle.basics.specs.Lists.{writtenOver}
 use Rattle.model.specs.Instance.{Instance, instanceOf}
 use Rattle.model.specs.Thesis.{countsCost}
 use Rattle.model.specs.Plans.{leastPlan, leastCost}

@@ -1,5 +1,5 @@
 -- The planner of a kind, and what the planners ask for.
-use Rattle.lists.specs.Core.{ℕ, _≤_, Bool, _||_, List, length, ltb}
+use Rattle.basics.specs.Core.{ℕ, _≤_, Bool, _||_, List, length, ltb}
 use Rattle.model.specs.Instance.{Instance, instanceOf}
 use Rattle.model.specs.Planners.{Planner, exact, coarse, workBytes}
 use Rattle.thresholds.specs.Places.{Ascending}

@@ -1,5 +1,5 @@
 -- The cost of a slot by counts.
-use Rattle.lists.specs.Core.{ℕ, _+_, _-_, _*_, _≤_, _≡_, refl, List, mul-le-mul, arith}
+use Rattle.basics.specs.Core.{ℕ, _+_, _-_, _*_, _≤_, _≡_, refl, List, mul-le-mul, arith}
 use Rattle.model.specs.Instance.{instanceOf}
 use Rattle.model.specs.Counts.{operatingCost}
 use Rattle.model.specs.Thesis.{slotCost}

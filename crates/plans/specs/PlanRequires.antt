@@ -1,5 +1,5 @@
 -- What the functions of this crate ask for.
-use Rattle.lists.specs.Core.{ℕ, _≤_, _<_, _≡_, true, List, length, getD}
+use Rattle.basics.specs.Core.{ℕ, _≤_, _<_, _≡_, true, List, length, getD}
 use Rattle.model.specs.Instance.{instanceOf}
 use Rattle.model.specs.Plans.{planServes}
 use Rattle.card.specs.declared.Header.{Header}

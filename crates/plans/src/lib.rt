@@ -1,6 +1,6 @@
 // A plan that is handed in: its cost by counts, and the tests of its counts against the rack and the loads.
 use card::Header;
-ghost use Rattle.lists.specs.Core.{_≡_};
+ghost use Rattle.basics.specs.Core.{_≡_};
 ghost use Rattle.model.specs.Instance.{instanceOf};
 ghost use Rattle.model.specs.Plans.{planInRack, planServes};
 ghost use Rattle.model.specs.Thesis.{slotCost, countsCost};

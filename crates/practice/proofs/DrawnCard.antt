@@ -1,7 +1,7 @@
 -- The card that the encoder writes of the table and the loads that are drawn.
-use Rattle.lists.specs.Core.{ℕ, _+_, _≡_, List, arith, length}
-use Rattle.lists.specs.Filling.{Upto}
-use Rattle.lists.specs.Writing.{Room, Written}
+use Rattle.basics.specs.Core.{ℕ, _+_, _≡_, List, arith, length}
+use Rattle.basics.specs.Filling.{Upto}
+use Rattle.basics.specs.Writing.{Room, Written}
 use Rattle.model.specs.Instance.{Instance, cardBytes}
 use Rattle.model.specs.Practice.{practiceEntry, practiceShow}
 use Rattle.laws.specs.Encoding.{SameShow}

@@ -1,5 +1,5 @@
 -- What the first draws and each next one give.
-use Rattle.lists.specs.Core.{ℕ, suc, _+_, _%_, _≡_, ap, _∙_}
+use Rattle.basics.specs.Core.{ℕ, suc, _+_, _%_, _≡_, ap, _∙_}
 use Rattle.model.specs.Practice.{draw, drawn, practiceEntry, practiceShow}
 use Rattle.practice.specs.Drawing.{OfStart}
 

@@ -1,6 +1,6 @@
 -- The loop that draws the loads of a practice show.
-use Rattle.lists.specs.Core.{ℕ, _+_, _*_, _%_, _≤_, _<_, _≡_, refl, subst, List, add-zero, mul-le-mul, arith, length, set}
-use Rattle.lists.specs.Filling.{Upto, upto-none, upto-more}
+use Rattle.basics.specs.Core.{ℕ, _+_, _*_, _%_, _≤_, _<_, _≡_, refl, subst, List, add-zero, mul-le-mul, arith, length, set}
+use Rattle.basics.specs.Filling.{Upto, upto-none, upto-more}
 use Rattle.model.specs.Practice.{draw, drawn, practiceShow}
 use Rattle.laws.specs.PracticeAccepted.{practice-sizes}
 use Rattle.practice.specs.declared.FirstDraws.{FirstDraws}

@@ -1,6 +1,6 @@
 -- The answer of the practice call, by the start and the length of its area, and the area at exit.
-use Rattle.lists.specs.Core.{ℕ, _≤_, _<_, _≡_, sym, _∙_, List, arith, length, eq-eqb, ne-eqb, lt-ltb}
-use Rattle.lists.specs.Writing.{Room, Written, written-start}
+use Rattle.basics.specs.Core.{ℕ, _≤_, _<_, _≡_, sym, _∙_, List, arith, length, eq-eqb, ne-eqb, lt-ltb}
+use Rattle.basics.specs.Writing.{Room, Written, written-start}
 use Rattle.model.specs.declared.Refusal.the-variants.{ZeroStart, BufferTooShort}
 use Rattle.model.specs.declared.Answer.{Answer}
 use Rattle.model.specs.declared.Answer.the-variants.{Cost, Refused}

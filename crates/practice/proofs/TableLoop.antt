@@ -1,6 +1,6 @@
 -- The loop that draws the table of a practice show.
-use Rattle.lists.specs.Core.{ℕ, suc, _+_, _%_, _≤_, _<_, _≡_, sym, subst, ap, List, add-one, arith, length, set}
-use Rattle.lists.specs.Filling.{Upto, upto-none, upto-more}
+use Rattle.basics.specs.Core.{ℕ, suc, _+_, _%_, _≤_, _<_, _≡_, sym, subst, ap, List, add-one, arith, length, set}
+use Rattle.basics.specs.Filling.{Upto, upto-none, upto-more}
 use Rattle.model.specs.Practice.{draw, drawn, practiceDifference, practiceEntry}
 use Rattle.laws.specs.PracticeAccepted.{practice-sizes, difference-most, entry-most}
 use Rattle.practice.specs.declared.FirstDraws.{FirstDraws}

@@ -1,5 +1,5 @@
 -- What the functions that draw a practice show ask for and give.
-use Rattle.lists.specs.Core.{_≡_}
+use Rattle.basics.specs.Core.{_≡_}
 use Rattle.model.specs.Practice.{drawn, practiceEntry, practiceShow}
 use Rattle.practice.specs.declared.FirstDraws.{FirstDraws}
 

@@ -2,9 +2,9 @@
 use encoder::Fields;
 use model::Answer;
 use model::Refusal;
-ghost use Rattle.lists.specs.Core.{_≡_, _+_, length};
-ghost use Rattle.lists.specs.Filling.{Upto};
-ghost use Rattle.lists.specs.Writing.{Room, Written};
+ghost use Rattle.basics.specs.Core.{_≡_, _+_, length};
+ghost use Rattle.basics.specs.Filling.{Upto};
+ghost use Rattle.basics.specs.Writing.{Room, Written};
 ghost use Rattle.model.specs.Instance.{cardBytes};
 ghost use Rattle.model.specs.Practice.{draw, drawn, practiceEntry, practiceShow};
 ghost use Rattle.model.specs.Calls.{answer, practiceCard, cardAtExit};

@@ -1,6 +1,6 @@
 -- Backward through the slots: the loop.
-use Rattle.lists.specs.Core.{ℕ, suc, _+_, _-_, _≤_, _<_, _≡_, sym, _∙_, List, arith, length, getD, set}
-use Rattle.lists.specs.Filling.{Downto, downto-none, downto-more, downto-all}
+use Rattle.basics.specs.Core.{ℕ, suc, _+_, _-_, _≤_, _<_, _≡_, sym, _∙_, List, arith, length, getD, set}
+use Rattle.basics.specs.Filling.{Downto, downto-none, downto-more, downto-all}
 use Rattle.thresholds.specs.Thresholds.{raisedPlace, raisedAt, inSlot, backward}
 use Rattle.thresholds.specs.ThresholdLaws.{raised-inside, raised-step, raised-end}
 use Rattle.search.specs.SearchRequires.{BackReady}

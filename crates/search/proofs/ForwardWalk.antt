@@ -1,8 +1,8 @@
 -- Forward through the slots: the loop, and what it hands to each slot.
-use Rattle.lists.specs.Core.{ℕ, _+_, _-_, _≤_, _<_, _≡_, refl, sym, ap, _∙_, List, ⊎-elim, mul-le-mul-left, le-trans, add-one, arith, length, set}
-use Rattle.lists.specs.Numbers.{le-or-lt}
-use Rattle.lists.specs.Lists.{tabulate}
-use Rattle.lists.specs.Filling.{Upto, upto-none, upto-more, upto-all}
+use Rattle.basics.specs.Core.{ℕ, _+_, _-_, _≤_, _<_, _≡_, refl, sym, ap, _∙_, List, ⊎-elim, mul-le-mul-left, le-trans, add-one, arith, length, set}
+use Rattle.basics.specs.Numbers.{le-or-lt}
+use Rattle.basics.specs.Lists.{tabulate}
+use Rattle.basics.specs.Filling.{Upto, upto-none, upto-more, upto-all}
 use Rattle.model.specs.Instance.{Instance, instanceOf}
 use Rattle.model.specs.Thesis.{switchingPrice}
 use Rattle.card.specs.declared.Header.{Header}

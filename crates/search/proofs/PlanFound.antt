@@ -1,8 +1,8 @@
 -- The places found become counts, and these are the plan by thresholds.
-use Rattle.lists.specs.Core.{ℕ, _+_, _≤_, _<_, _≡_, refl, ap, _∙_, List, _++_, arith, length-take-le, length, getD, set, take, drop, replicate}
-use Rattle.lists.specs.Core.{length-append, length-drop, length-replicate}
-use Rattle.lists.specs.Lists.{tabulate, zeros-at}
-use Rattle.lists.specs.Filling.{Upto, upto-more, upto-all}
+use Rattle.basics.specs.Core.{ℕ, _+_, _≤_, _<_, _≡_, refl, ap, _∙_, List, _++_, arith, length-take-le, length, getD, set, take, drop, replicate}
+use Rattle.basics.specs.Core.{length-append, length-drop, length-replicate}
+use Rattle.basics.specs.Lists.{tabulate, zeros-at}
+use Rattle.basics.specs.Filling.{Upto, upto-more, upto-all}
 use Rattle.model.specs.Instance.{instanceOf}
 use Rattle.card.specs.declared.Header.{Header}
 use Rattle.counts.specs.AllowedCounts.{powersUpTo}

@@ -1,5 +1,5 @@
 -- The rounds: the loop over the digits, what it hands to the two walks, and that the places stay in the list.
-use Rattle.lists.specs.Core.{ℕ, zero, suc, _+_, _-_, _^_, _≤_, _<_, _≡_, refl, ap, _∙_, List, le-of-lt, arith, length}
+use Rattle.basics.specs.Core.{ℕ, zero, suc, _+_, _-_, _^_, _≤_, _<_, _≡_, refl, ap, _∙_, List, le-of-lt, arith, length}
 use lib.Pow.{pow-mono, pow-pos}
 use Rattle.model.specs.Instance.{Instance, instanceOf}
 use Rattle.card.specs.declared.Header.{Header}

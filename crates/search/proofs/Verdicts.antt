@@ -1,5 +1,5 @@
 -- Verdicts and places as the code makes them from tests that are 0 or 1.
-use Rattle.lists.specs.Core.{ℕ, _+_, _-_, _≤_, _<_, min, _≡_, refl, le-leb, lt-leb}
+use Rattle.basics.specs.Core.{ℕ, _+_, _-_, _≤_, _<_, min, _≡_, refl, le-leb, lt-leb}
 use Rattle.thresholds.specs.Thresholds.{isLess, weighed, raisedPlace}
 
 -- A verdict by its parts: the test on each side, and the truncated difference up to the price.

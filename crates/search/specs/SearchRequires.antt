@@ -1,5 +1,5 @@
 -- What the functions of the search ask for.
-use Rattle.lists.specs.Core.{ℕ, _+_, _≤_, _<_, _≡_, List, length, getD}
+use Rattle.basics.specs.Core.{ℕ, _+_, _≤_, _<_, _≡_, List, length, getD}
 use Rattle.model.specs.Instance.{instanceOf}
 use Rattle.card.specs.declared.Header.{Header}
 use Rattle.card.specs.Checking.{Ready}

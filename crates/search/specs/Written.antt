@@ -1,6 +1,6 @@
 -- What the functions of the search return and write.
-use Rattle.lists.specs.Core.{ℕ, List, length}
-use Rattle.lists.specs.Lists.{tabulate}
+use Rattle.basics.specs.Core.{ℕ, List, length}
+use Rattle.basics.specs.Lists.{tabulate}
 use Rattle.thresholds.specs.Places.{countAtPlace}
 use Rattle.thresholds.specs.Thresholds.{Verdict, inSlot}
 use Rattle.search.specs.declared.Verdict.{Verdict as Returned}

@@ -1,7 +1,7 @@
 // The search over a list of allowed counts (thesis 4.2, 5.1), by thresholds: a round forward and backward through the slots for each binary
 // digit of the places. A place is an index of the list, and level j lies between place j and place j + 1.
 use card::Header;
-ghost use Rattle.lists.specs.Core.{_-_, min, _≡_, length, replicate};
+ghost use Rattle.basics.specs.Core.{_-_, min, _≡_, length, replicate};
 ghost use Rattle.model.specs.Instance.{instanceOf};
 ghost use Rattle.counts.specs.AllowedCounts.{powersUpTo};
 ghost use Rattle.thresholds.specs.Places.{lastPlace};

@@ -7,7 +7,7 @@ use Rattle.seats.proofs.Kit.{lft-new, lft-end, lent-back, arr-parts, Re
 use Rattle.seats.proofs.Kit.{Room, sliceVal, slice-vals, at-slice, heres, codedHoleys, MutSlice, ShrSlice, Held, lends-shr-slice, others, place-is, elem-out, elem-back, elem-put, looks-slice, shuts-slice, opens-slice, closes-slice, only, nothing, heard, peeks, owned, Declared, fields, row, Plains, typeAt, typesAt}
 use Rattle.seats.proofs.Kit.{Bound, Triple, Contract, Args, Res, alive, onEntry, Meets, tripleOf, Ended, Clauses, Lasts, lasts, atExit, closing, calls-at, calls-at-last, Stays, AllGo, Fit, Ending, walkOf, walked, walk-meets, ends-at}
 use denote.Struct.Laws as LL
-use Rattle.lists.specs.Numbers.{le-or-lt}
+use Rattle.basics.specs.Numbers.{le-or-lt}
 use Rattle.model.specs.declared.Seat.{Seat}
 use Rattle.model.specs.SittingState.{emptySeat}
 use Rattle.model.proofs.Seat as S

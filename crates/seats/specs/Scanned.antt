@@ -1,6 +1,6 @@
 -- What a scan of the list of seats tells, and the list whose first records are emptied.
-use Rattle.lists.specs.Core.{ℕ, List, _++_, length, getD, take, drop, replicate}
-use Rattle.lists.specs.FirstPlace.{firstPlace}
+use Rattle.basics.specs.Core.{ℕ, List, _++_, length, getD, take, drop, replicate}
+use Rattle.basics.specs.FirstPlace.{firstPlace}
 use Rattle.model.specs.declared.Seat.{Seat}
 use Rattle.model.specs.SittingState.{seatsOf, isOf, emptySeat}
 use Rattle.seats.specs.declared.View.{View}

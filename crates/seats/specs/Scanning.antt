@@ -1,9 +1,9 @@
 -- One step of a scan and one of emptying, with the laws that take the loops from their start to their end.
-use Rattle.lists.specs.Core.{ℕ, zero, suc, _+_, _≤_, _<_, min, _≡_, refl, sym, ap, _∙_, ⊎-elim, Bool, true, false, cond, true≢false, List, [], _∷_}
-use Rattle.lists.specs.Core.{length, getD, take, set, replicate, length-take, length-replicate, List·getD-eq-default, length-front, getD-take}
-use Rattle.lists.specs.Core.{zero-min, min-zero, suc-min-suc, min-le-left, min-le-right, le-refl, not-suc-le-zero, le-of-suc-le-suc, add-one, arith}
-use Rattle.lists.specs.Numbers.{true-or-false}
-use Rattle.lists.specs.FirstPlace.{occurs, firstPlace, place-inside, place-beyond}
+use Rattle.basics.specs.Core.{ℕ, zero, suc, _+_, _≤_, _<_, min, _≡_, refl, sym, ap, _∙_, ⊎-elim, Bool, true, false, cond, true≢false, List, [], _∷_}
+use Rattle.basics.specs.Core.{length, getD, take, set, replicate, length-take, length-replicate, List·getD-eq-default, length-front, getD-take}
+use Rattle.basics.specs.Core.{zero-min, min-zero, suc-min-suc, min-le-left, min-le-right, le-refl, not-suc-le-zero, le-of-suc-le-suc, add-one, arith}
+use Rattle.basics.specs.Numbers.{true-or-false}
+use Rattle.basics.specs.FirstPlace.{occurs, firstPlace, place-inside, place-beyond}
 use Rattle.model.specs.declared.Seat.{Seat}
 use Rattle.model.specs.SittingState.{seatLimit, seatsOf, isOf, emptySeat}
 use Rattle.seats.specs.declared.View.{View}

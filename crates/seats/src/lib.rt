@@ -1,6 +1,6 @@
 // The list of seats of a sitting (document 02, §4), as it is lent: found in, changed at one place, and emptied.
 use model::Seat;
-ghost use Rattle.lists.specs.Core.{_≡_, _<_, min, set};
+ghost use Rattle.basics.specs.Core.{_≡_, _<_, min, set};
 ghost use Rattle.model.specs.SittingState.{emptySeat};
 ghost use Rattle.seats.specs.Scanned.{scanned, emptied};
 ghost use Rattle.seats.specs.Scanning.{startOf, lookOf};

@@ -1,9 +1,9 @@
 -- A sheet buffer of which the first t slots are filled.
-use Rattle.lists.specs.Core.{ℕ, _+_, _-_, _*_, _≤_, _<_, _≡_, ap, _∙_, List, _++_, mul-le-mul-left, zero-mul, arith, length, getD, drop}
+use Rattle.basics.specs.Core.{ℕ, _+_, _-_, _*_, _≤_, _<_, _≡_, ap, _∙_, List, _++_, mul-le-mul-left, zero-mul, arith, length, getD, drop}
 use borrow.Rule.Slice.PartMut.{midOf, putMid}
-use Rattle.lists.specs.Lists.{tabulate, rows, writtenOver, length-rows}
-use Rattle.lists.specs.Parts.{part-length}
-use Rattle.lists.specs.Rows.{row-within, rows-size, next-row}
+use Rattle.basics.specs.Lists.{tabulate, rows, writtenOver, length-rows}
+use Rattle.basics.specs.Parts.{part-length}
+use Rattle.basics.specs.Rows.{row-within, rows-size, next-row}
 use Rattle.model.specs.Instance.{Instance}
 use Rattle.model.specs.Specs.{sheetBytes}
 use Rattle.model.specs.Plans.{moduleByte, slotRow, sheetOf}

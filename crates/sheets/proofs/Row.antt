@@ -1,12 +1,12 @@
 -- A slot's row, filled in three parts.
-use Rattle.lists.specs.Core.{ℕ, _-_, _+_, _/_, _%_, _≤_, _<_, _≡_, refl, sym, ap, _∙_, Bool, true, false, cond, List, _++_, arith, length, take, drop}
-use Rattle.lists.specs.Core.{replicate, ltb, lt-ltb, le-ltb}
+use Rattle.basics.specs.Core.{ℕ, _-_, _+_, _/_, _%_, _≤_, _<_, _≡_, refl, sym, ap, _∙_, Bool, true, false, cond, List, _++_, arith, length, take, drop}
+use Rattle.basics.specs.Core.{replicate, ltb, lt-ltb, le-ltb}
 use mir.Syntax.{w8}
 use mir.Val.{Fits}
 use borrow.Rule.Slice.PartMut.{midOf, putMid}
-use Rattle.lists.specs.Lists.{tabulate, tabulate-same, tabulate-constant}
-use Rattle.lists.specs.Filling.{Upto, upto-all}
-use Rattle.lists.specs.Parts.{upto-front, upto-part}
+use Rattle.basics.specs.Lists.{tabulate, tabulate-same, tabulate-constant}
+use Rattle.basics.specs.Filling.{Upto, upto-all}
+use Rattle.basics.specs.Parts.{upto-front, upto-part}
 use Rattle.model.specs.Instance.{Instance, instanceOf}
 use Rattle.model.specs.MoreLight.{activeStep}
 use Rattle.model.specs.Plans.{moduleByte}

@@ -1,8 +1,8 @@
 -- Where the row of a slot lies in a sheet, and that it has room for the slot's count.
-use Rattle.lists.specs.Core.{ℕ, _+_, _-_, _*_, _≤_, _<_, _≡_, List, arith, length, getD}
+use Rattle.basics.specs.Core.{ℕ, _+_, _-_, _*_, _≤_, _<_, _≡_, List, arith, length, getD}
 use borrow.Rule.Slice.PartMut.{midOf}
-use Rattle.lists.specs.Parts.{part-length}
-use Rattle.lists.specs.Rows.{row-within}
+use Rattle.basics.specs.Parts.{part-length}
+use Rattle.basics.specs.Rows.{row-within}
 use Rattle.model.specs.Instance.{instanceOf}
 use Rattle.model.specs.Specs.{sheetBytes}
 use Rattle.laws.specs.Acceptance.{accepted-bounds}

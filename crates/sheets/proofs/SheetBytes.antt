@@ -1,12 +1,12 @@
 -- A sheet's byte: whether it is an entry, its step and its cost.
-use Rattle.lists.specs.Core.{ℕ, _+_, _*_, _≤_, _<_, _≡_, _∙_, Bool, true, false, cond, not, or-true, or-false, List, ⊎-elim, mul-le-mul, arith}
-use Rattle.lists.specs.Core.{length, getD, leb, leb-true, eq-eqb, ne-eqb, eqb-false}
+use Rattle.basics.specs.Core.{ℕ, _+_, _*_, _≤_, _<_, _≡_, _∙_, Bool, true, false, cond, not, or-true, or-false, List, ⊎-elim, mul-le-mul, arith}
+use Rattle.basics.specs.Core.{length, getD, leb, leb-true, eq-eqb, ne-eqb, eqb-false}
 use mir.Syntax.{w8}
 use mir.Val.{Fits}
-use Rattle.lists.specs.Numbers.{true-or-false}
-use Rattle.lists.specs.Tests.{every-at, test-failed, test-passed}
-use Rattle.lists.specs.Sums.{sum-at-most}
-use Rattle.lists.specs.Parts.{getD-within}
+use Rattle.basics.specs.Numbers.{true-or-false}
+use Rattle.basics.specs.Tests.{every-at, test-failed, test-passed}
+use Rattle.basics.specs.Sums.{sum-at-most}
+use Rattle.basics.specs.Parts.{getD-within}
 use Rattle.model.specs.Instance.{Instance, instanceOf}
 use Rattle.model.specs.Sheets.{isEntry, off, isOff, stepOf, sheetEntries, stepCost, changeCost}
 use Rattle.model.specs.Specs.{sheetBytes}

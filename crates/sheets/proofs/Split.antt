@@ -1,9 +1,9 @@
 -- A sheet's bytes in rows of m: the first row, and the rows but the first beside the rows but the last.
-use Rattle.lists.specs.Core.{ℕ, _+_, _-_, _<_, _≡_, ap, _∙_, List, le-refl, add-sub-cancel-left, arith, length, getD, take, length-take-le, getD-take}
-use Rattle.lists.specs.Core.{lt-ltb, le-ltb}
+use Rattle.basics.specs.Core.{ℕ, _+_, _-_, _<_, _≡_, ap, _∙_, List, le-refl, add-sub-cancel-left, arith, length, getD, take, length-take-le, getD-take}
+use Rattle.basics.specs.Core.{lt-ltb, le-ltb}
 use borrow.Rule.Slice.PartMut.{midOf, mid-len}
-use Rattle.lists.specs.Sums.{sum, sum-ext, sum-join}
-use Rattle.lists.specs.Parts.{part-at}
+use Rattle.basics.specs.Sums.{sum, sum-ext, sum-join}
+use Rattle.basics.specs.Parts.{part-at}
 use Rattle.model.specs.Instance.{Instance}
 use Rattle.sheets.specs.Marks.{byteCost, bytesCost, allOff, byteAt}
 use Rattle.sheets.proofs.States.{stateBefore}

@@ -1,11 +1,11 @@
 -- The bytes of a sheet of m × T bytes are its states, slot by slot and module by module.
-use Rattle.lists.specs.Core.{ℕ, zero, suc, _+_, _-_, _*_, _≤_, _<_, _≡_, ap, sym, _∙_, true, false, cond, List, arith, length, getD, leb, ltb, lt-ltb}
-use Rattle.lists.specs.Core.{le-ltb, le-leb, lt-leb}
+use Rattle.basics.specs.Core.{ℕ, zero, suc, _+_, _-_, _*_, _≤_, _<_, _≡_, ap, sym, _∙_, true, false, cond, List, arith, length, getD, leb, ltb, lt-ltb}
+use Rattle.basics.specs.Core.{le-ltb, le-leb, lt-leb}
 use lib.Arith.{digits-lt}
 use borrow.Rule.Slice.PartMut.{midOf}
-use Rattle.lists.specs.Sums.{sum-ext}
-use Rattle.lists.specs.Parts.{getD-within, part-length, part-at}
-use Rattle.lists.specs.Rows.{row-within}
+use Rattle.basics.specs.Sums.{sum-ext}
+use Rattle.basics.specs.Parts.{getD-within, part-length, part-at}
+use Rattle.basics.specs.Rows.{row-within}
 use Rattle.model.specs.Instance.{Instance, instanceOf}
 use Rattle.model.specs.Sheets.{off, stepOf, stateAt, lightAt}
 use Rattle.card.specs.declared.Header.{Header}

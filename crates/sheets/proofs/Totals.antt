@@ -1,9 +1,9 @@
 -- The cost of a sheet is that of its bytes and of the changes to off after its last slot.
-use Rattle.lists.specs.Core.{ℕ, suc, _+_, _-_, _*_, _≤_, _<_, _≡_, refl, ap, ap₂, sym, _∙_, List, le-refl, zero-add, mul-comm, mul-zero, add-one}
-use Rattle.lists.specs.Core.{arith, length, getD, take, getD-take, le-ltb}
+use Rattle.basics.specs.Core.{ℕ, suc, _+_, _-_, _*_, _≤_, _<_, _≡_, refl, ap, ap₂, sym, _∙_, List, le-refl, zero-add, mul-comm, mul-zero, add-one}
+use Rattle.basics.specs.Core.{arith, length, getD, take, getD-take, le-ltb}
 use mir.Syntax.{w64}
 use mir.Val.{Fits}
-use Rattle.lists.specs.Sums.{sum, sum-ext, sum-add, sum-const, sum-at-most, sum-blocks}
+use Rattle.basics.specs.Sums.{sum, sum-ext, sum-add, sum-const, sum-at-most, sum-blocks}
 use Rattle.model.specs.Instance.{Instance, instanceOf}
 use Rattle.model.specs.Sheets.{stateAt, stepCost, changeCost, sheetOperatingCost, sheetSwitchingCost, sheetCost}
 use Rattle.card.specs.declared.Header.{Header}

@@ -1,6 +1,6 @@
 -- What the functions of this crate give where the model's definitions take a whole card or sheet.
-use Rattle.lists.specs.Core.{ℕ, _+_, cond, List, length, getD, ltb}
-use Rattle.lists.specs.Sums.{sum}
+use Rattle.basics.specs.Core.{ℕ, _+_, cond, List, length, getD, ltb}
+use Rattle.basics.specs.Sums.{sum}
 use Rattle.model.specs.Instance.{Instance}
 use Rattle.model.specs.Sheets.{off, isOff, stepOf, stepCost, changeCost}
 

@@ -1,7 +1,7 @@
 // The sheet of a plan, and the marking of a sheet that is handed in.
 use card::Header;
-ghost use Rattle.lists.specs.Core.{_≤_, _≡_, length};
-ghost use Rattle.lists.specs.Lists.{tabulate, writtenOver};
+ghost use Rattle.basics.specs.Core.{_≤_, _≡_, length};
+ghost use Rattle.basics.specs.Lists.{tabulate, writtenOver};
 ghost use Rattle.model.specs.Instance.{instanceOf};
 ghost use Rattle.model.specs.Sheets.{isEntry, stepOf, sheetEntries, sheetLight, sheetCost};
 ghost use Rattle.model.specs.Plans.{moduleByte, sheetOf};

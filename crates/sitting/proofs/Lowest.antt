@@ -1,5 +1,5 @@
 -- The lowest cost of a seat: marking a sheet, and reading it.
-use Rattle.lists.specs.Core.{ℕ, _≤_, _<_, min, _≡_, _∙_, Option·getD, Option·elim, arith, eq-eqb, ne-eqb}
+use Rattle.basics.specs.Core.{ℕ, _≤_, _<_, min, _≡_, _∙_, Option·getD, Option·elim, arith, eq-eqb, ne-eqb}
 use Rattle.model.specs.declared.Refusal.{Refusal}
 use Rattle.model.specs.declared.Answer.the-variants.{Cost, Refused}
 use Rattle.model.specs.declared.Seat.{Seat}

@@ -1,5 +1,5 @@
 -- Opening: its answer, by its tests, its buffers at exit, and its reply.
-use Rattle.lists.specs.Core.{ℕ, _≡_, refl, sym, ap, _∙_, Bool, true, false, List, [], length, eq-eqb, ne-eqb}
+use Rattle.basics.specs.Core.{ℕ, _≡_, refl, sym, ap, _∙_, Bool, true, false, List, [], length, eq-eqb, ne-eqb}
 use Rattle.model.specs.declared.Refusal.{Refusal}
 use Rattle.model.specs.declared.Refusal.the-variants.{BufferTooShort, NotPermitted, AllowanceSpent}
 use Rattle.model.specs.declared.Answer.{Answer}

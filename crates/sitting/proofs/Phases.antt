@@ -1,6 +1,6 @@
 -- The tests on the number that stands for a sitting's phase, and on its allowance.
-use Rattle.lists.specs.Core.{ℕ, _<_, _≤_, _≡_, refl, Bool, true, false, cond, not, ⊎-elim, eqb, leb, eqb-true, ne-eqb, le-leb, lt-leb}
-use Rattle.lists.specs.Numbers.{true-or-false}
+use Rattle.basics.specs.Core.{ℕ, _<_, _≤_, _≡_, refl, Bool, true, false, cond, not, ⊎-elim, eqb, leb, eqb-true, ne-eqb, le-leb, lt-leb}
+use Rattle.basics.specs.Numbers.{true-or-false}
 use Rattle.model.specs.Acts.{opened, closed, unopened, isOpened, isClosed, isUnopened, allowanceInRange}
 use Rattle.model.specs.SittingState.{phaseOf}
 

@@ -1,5 +1,5 @@
 -- What an act that is on no card replies and does, by its answer.
-use Rattle.lists.specs.Core.{ℕ, _≡_, sym, _∙_, []}
+use Rattle.basics.specs.Core.{ℕ, _≡_, sym, _∙_, []}
 use Rattle.model.specs.declared.Refusal.{Refusal}
 use Rattle.model.specs.declared.Answer.{Answer}
 use Rattle.model.specs.declared.Answer.the-variants.{Cost, Refused}

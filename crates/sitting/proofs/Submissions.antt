@@ -1,5 +1,5 @@
 -- The answer to a submission, by its tests, and what a submission does, by its answer.
-use Rattle.lists.specs.Core.{ℕ, _+_, _≡_, refl, sym, ap, _∙_, true, false, List, [], _∷_, ⊎-elim}
+use Rattle.basics.specs.Core.{ℕ, _+_, _≡_, refl, sym, ap, _∙_, true, false, List, [], _∷_, ⊎-elim}
 use Rattle.model.specs.declared.Refusal.{Refusal}
 use Rattle.model.specs.declared.Answer.{Answer}
 use Rattle.model.specs.declared.Answer.the-variants.{Cost, Refused}
@@ -12,8 +12,8 @@ use Rattle.model.specs.SittingState.{emptySeat, markedRecord, sittingAfter}
 use Rattle.model.specs.Specs.{Test, cardTests, sheetTests, firstOf}
 use Rattle.model.specs.Calls.{checkCard, markSheet, specOf, answer, Accepted}
 use Rattle.model.specs.Sittings.{answerTo, markedWith, eventWith, eventOf, told, replyWith}
-use Rattle.lists.specs.Numbers.{true-or-false}
-use Rattle.lists.specs.Members.{Each}
+use Rattle.basics.specs.Numbers.{true-or-false}
+use Rattle.basics.specs.Members.{Each}
 use Rattle.laws.specs.OnCard.{on-card-refused, on-card-passed}
 use Rattle.laws.specs.SittingLaws.{refused-does}
 use Rattle.card.specs.declared.Checked.{Checked}

@@ -1,8 +1,8 @@
 -- What an act makes of a view of the list is what it makes of the list.
-use Rattle.lists.specs.Core.{ℕ, _≡_, refl, sym, ap, _∙_, Bool, true, not, List, _++_, map, length, getD, set, take-append-drop, List·getD-map}
-use Rattle.lists.specs.Core.{le-refl, set-append-left, set-out, eqb, not-false}
-use Rattle.lists.specs.Tests.{or-right}
-use Rattle.lists.specs.FirstPlace.{occurs, firstPlace, changeFirst, occurs-place, place-inside, change-sets, occurs-map, place-map}
+use Rattle.basics.specs.Core.{ℕ, _≡_, refl, sym, ap, _∙_, Bool, true, not, List, _++_, map, length, getD, set, take-append-drop, List·getD-map}
+use Rattle.basics.specs.Core.{le-refl, set-append-left, set-out, eqb, not-false}
+use Rattle.basics.specs.Tests.{or-right}
+use Rattle.basics.specs.FirstPlace.{occurs, firstPlace, changeFirst, occurs-place, place-inside, change-sets, occurs-map, place-map}
 use Rattle.model.specs.declared.Answer.{Answer}
 use Rattle.model.specs.declared.Answer.the-variants.{Cost, Refused}
 use Rattle.model.specs.declared.Seat.{Seat}

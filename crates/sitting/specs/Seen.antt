@@ -1,5 +1,5 @@
 -- What an act makes of a view of the list of seats.
-use Rattle.lists.specs.Core.{ℕ, _≡_, Bool, not, _||_, [], ltb, eqb}
+use Rattle.basics.specs.Core.{ℕ, _≡_, Bool, not, _||_, [], ltb, eqb}
 use Rattle.model.specs.declared.Refusal.{Refusal}
 use Rattle.model.specs.declared.Answer.{Answer}
 use Rattle.model.specs.declared.Answer.the-variants.{Cost, Refused}

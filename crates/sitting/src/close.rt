@@ -4,7 +4,7 @@ use model::Answer;
 use model::Refusal;
 use model::Reply;
 use model::Sitting;
-ghost use Rattle.lists.specs.Core.{_≡_, []};
+ghost use Rattle.basics.specs.Core.{_≡_, []};
 ghost use Rattle.model.specs.Acts.{closeSitting};
 ghost use Rattle.model.specs.SittingState.{factsOf, stateOf};
 ghost use Rattle.model.specs.Sittings.{answerTo, replyOf};

@@ -6,7 +6,7 @@ use model::Refusal;
 use model::Reply;
 use model::Seat;
 use model::Sitting;
-ghost use Rattle.lists.specs.Core.{_≡_};
+ghost use Rattle.basics.specs.Core.{_≡_};
 ghost use Rattle.model.specs.Acts.{isUnopened};
 ghost use Rattle.model.specs.SittingState.{phaseOf};
 ghost use Rattle.sitting.specs.Seen.{replyGiving, unchangedOf};

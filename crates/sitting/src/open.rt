@@ -7,7 +7,7 @@ use model::Answer;
 use model::Refusal;
 use model::Sitting;
 use planners::PlannerKind;
-ghost use Rattle.lists.specs.Core.{_≡_, []};
+ghost use Rattle.basics.specs.Core.{_≡_, []};
 ghost use Rattle.model.specs.Acts.{openSitting, allowanceInRange};
 ghost use Rattle.model.specs.Calls.{actIn, answer, planAtExit, workAtExit};
 ghost use Rattle.card.specs.Checking.{Ready};

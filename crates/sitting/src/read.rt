@@ -6,7 +6,7 @@ use model::Refusal;
 use model::Reply;
 use model::Sitting;
 use seats::View;
-ghost use Rattle.lists.specs.Core.{_≡_, []};
+ghost use Rattle.basics.specs.Core.{_≡_, []};
 ghost use Rattle.model.specs.Acts.{readLeast, readLowest, readUsed, readsLowest};
 ghost use Rattle.model.specs.SittingState.{factsOf, stateOf};
 ghost use Rattle.model.specs.Sittings.{answerTo, replyOf};

@@ -7,7 +7,7 @@ use model::Refusal;
 use model::Seat;
 use model::Sitting;
 use seats::View;
-ghost use Rattle.lists.specs.Core.{_≡_};
+ghost use Rattle.basics.specs.Core.{_≡_};
 ghost use Rattle.model.specs.Acts.{seatCandidate};
 ghost use Rattle.model.specs.Sittings.{answerTo};
 ghost use Rattle.sitting.specs.Seen.{seen, outcomeOf};

@@ -9,7 +9,7 @@ use model::Refusal;
 use model::Seat;
 use model::Sitting;
 use seats::View;
-ghost use Rattle.lists.specs.Core.{_≡_};
+ghost use Rattle.basics.specs.Core.{_≡_};
 ghost use Rattle.model.specs.Acts.{submitSheet};
 ghost use Rattle.model.specs.SittingState.{markedRecord};
 ghost use Rattle.card.specs.Checking.{Ready};

@@ -1,13 +1,13 @@
 -- Shows that agree in table and prices (document 02, §3): a slot with the same count and load costs the same in both. So a plan costs the
 -- same on a larger rack, and a plan of one show followed by a plan of another costs at most as much as the two.
-use Rattle.lists.specs.Core.{ℕ, zero, suc, _+_, _-_, _*_, _/_, _%_, _≤_, _<_, _≡_, refl, sym, ap, ap₂, _∙_, true, ⊎-elim, List, _++_, add-suc}
-use Rattle.lists.specs.Core.{le-trans, le-dest, mul-le-mul-left, mul-le-mul-right, div-le-of-le-mul, eq-zero-or-pos, arith, length, getD}
-use Rattle.lists.specs.Core.{length-append, List·getD-append, getD-append-add, leb-true}
-use Rattle.lists.specs.Numbers.{le-or-lt}
-use Rattle.lists.specs.Division.{quotient-lt}
-use Rattle.lists.specs.Ranges.{least-over-same}
-use Rattle.lists.specs.Sums.{sum-ext, sum-mono, sum-join}
-use Rattle.lists.specs.Lists.{tabulate, length-tabulate, getD-tabulate, tabulate-same}
+use Rattle.basics.specs.Core.{ℕ, zero, suc, _+_, _-_, _*_, _/_, _%_, _≤_, _<_, _≡_, refl, sym, ap, ap₂, _∙_, true, ⊎-elim, List, _++_, add-suc}
+use Rattle.basics.specs.Core.{le-trans, le-dest, mul-le-mul-left, mul-le-mul-right, div-le-of-le-mul, eq-zero-or-pos, arith, length, getD}
+use Rattle.basics.specs.Core.{length-append, List·getD-append, getD-append-add, leb-true}
+use Rattle.basics.specs.Numbers.{le-or-lt}
+use Rattle.basics.specs.Division.{quotient-lt}
+use Rattle.basics.specs.Ranges.{least-over-same}
+use Rattle.basics.specs.Sums.{sum-ext, sum-mono, sum-join}
+use Rattle.basics.specs.Lists.{tabulate, length-tabulate, getD-tabulate, tabulate-same}
 use Rattle.model.specs.Instance.{Instance}
 use Rattle.model.specs.MoreLight.{leastFrom}
 use Rattle.model.specs.Counts.{canServe, operatingCost}

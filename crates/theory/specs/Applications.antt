@@ -1,11 +1,11 @@
 -- The hypotheses of the theorems can be met: they hold of document 01's example E, of a show whose table falls, of an accepted card, of the
 -- whole sitting of the examples, and of card A with the catalogue module's table.
-use Rattle.lists.specs.Core.{ℕ, _*_, _≤_, _≡_, refl, true, false, List, [], _∷_, _++_, Option·elim, arith, leb, lit<, getD, take, drop, replicate}
-use Rattle.lists.specs.Core.{leb-true}
-use Rattle.lists.specs.Tests.{every, every-at}
-use Rattle.lists.specs.Lists.{tabulate}
-use Rattle.lists.specs.Members.{Each}
-use Rattle.lists.specs.FirstPlace.{occurs, firstPlace, changeFirst}
+use Rattle.basics.specs.Core.{ℕ, _*_, _≤_, _≡_, refl, true, false, List, [], _∷_, _++_, Option·elim, arith, leb, lit<, getD, take, drop, replicate}
+use Rattle.basics.specs.Core.{leb-true}
+use Rattle.basics.specs.Tests.{every, every-at}
+use Rattle.basics.specs.Lists.{tabulate}
+use Rattle.basics.specs.Members.{Each}
+use Rattle.basics.specs.FirstPlace.{occurs, firstPlace, changeFirst}
 use Rattle.model.specs.Instance.{Instance, instanceOf, headLength, loadPlace, tableSize, tableOf}
 use Rattle.model.specs.Counts.{allCounts, coarseCounts}
 use Rattle.model.specs.Sheets.{off, serves, sheetCost, activeAt, countsOf}

@@ -1,11 +1,11 @@
 -- The operating cost never falls with more light, since G never falls: `more-light`, `lighter`. Its average over the modules never rises with their
 -- number: `average-falls`.
-use Rattle.lists.specs.Core.{ℕ, zero, suc, _+_, _-_, _*_, _/_, _%_, _≤_, _<_, _≡_, ap, ⊎-elim, mul-le-mul, mul-le-mul-left, mul-le-mul-right}
-use Rattle.lists.specs.Core.{lt-of-mul-lt-mul-left, le-of-mul-le-mul-left, add-zero, sub-zero, mod-lt, div-add-mod, mul-add-div, div-eq-of-lt}
-use Rattle.lists.specs.Core.{mul-add-mod-self-left, mod-eq-of-lt, arith}
-use Rattle.lists.specs.Numbers.{le-or-lt}
-use Rattle.lists.specs.Products.{exchange, mul-le-mul-some}
-use Rattle.lists.specs.Rising.{rises-to}
+use Rattle.basics.specs.Core.{ℕ, zero, suc, _+_, _-_, _*_, _/_, _%_, _≤_, _<_, _≡_, ap, ⊎-elim, mul-le-mul, mul-le-mul-left, mul-le-mul-right}
+use Rattle.basics.specs.Core.{lt-of-mul-lt-mul-left, le-of-mul-le-mul-left, add-zero, sub-zero, mod-lt, div-add-mod, mul-add-div, div-eq-of-lt}
+use Rattle.basics.specs.Core.{mul-add-mod-self-left, mod-eq-of-lt, arith}
+use Rattle.basics.specs.Numbers.{le-or-lt}
+use Rattle.basics.specs.Products.{exchange, mul-le-mul-some}
+use Rattle.basics.specs.Rising.{rises-to}
 use Rattle.model.specs.Instance.{Instance}
 use Rattle.model.specs.MoreLight.{leastFrom}
 use Rattle.model.specs.Counts.{operatingCost}

@@ -1,9 +1,9 @@
 -- The balanced sheet on a sheet's own active modules (document 02, §7): it serves, with the same modules active in the same slots, and costs
 -- just as much to operate as the sheet's counts.
-use Rattle.lists.specs.Core.{ℕ, zero, suc, _+_, _*_, _≤_, _<_, _≡_, refl, ap, _∙_, Bool, true, false, cond, or-true, List, ⊎-elim, leb, add-zero}
-use Rattle.lists.specs.Core.{le-refl, le-dest, add-one, arith}
-use Rattle.lists.specs.Numbers.{true-or-false}
-use Rattle.lists.specs.Sums.{sum, sum-ext, sum-join}
+use Rattle.basics.specs.Core.{ℕ, zero, suc, _+_, _*_, _≤_, _<_, _≡_, refl, ap, _∙_, Bool, true, false, cond, or-true, List, ⊎-elim, leb, add-zero}
+use Rattle.basics.specs.Core.{le-refl, le-dest, add-one, arith}
+use Rattle.basics.specs.Numbers.{true-or-false}
+use Rattle.basics.specs.Sums.{sum, sum-ext, sum-join}
 use Rattle.model.specs.Instance.{Instance}
 use Rattle.model.specs.Sheets.{off, isOff, stepOf, stateAt, serves, stepCost, sheetOperatingCost, activeOf, countsOf}
 use Rattle.model.specs.Plans.{moduleByte}

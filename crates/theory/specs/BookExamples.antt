@@ -1,11 +1,11 @@
 -- The worked examples of facts 1 to 5 of docs/COURSE-BOOK.md, on cards that meet the hypotheses of these facts: `book-examples`; and that sharper
 -- forms of the facts fail, as `coarse-sometimes-dearer`.
-use Rattle.lists.specs.Core.{ℕ, _≤_, _≡_, refl, sym, ap, ap₂, _∙_, true, List, [], _∷_, _++_, flatMap, reverse, arith}
-use Rattle.lists.specs.Tests.{every}
-use Rattle.lists.specs.Sums.{sum}
-use Rattle.lists.specs.Ranges.{leastOver, firstOver}
-use Rattle.lists.specs.Lists.{tabulate, equal-tabulate, rows, keep}
-use Rattle.lists.specs.Bytes.{littleEndian, bytesOf}
+use Rattle.basics.specs.Core.{ℕ, _≤_, _≡_, refl, sym, ap, ap₂, _∙_, true, List, [], _∷_, _++_, flatMap, reverse, arith}
+use Rattle.basics.specs.Tests.{every}
+use Rattle.basics.specs.Sums.{sum}
+use Rattle.basics.specs.Ranges.{leastOver, firstOver}
+use Rattle.basics.specs.Lists.{tabulate, equal-tabulate, rows, keep}
+use Rattle.basics.specs.Bytes.{littleEndian, bytesOf}
 use Rattle.model.specs.Instance.{Instance, instanceOf, cardBytes, convexAt, convex, tableInRange, pricesInRange, loadsInRange}
 use Rattle.model.specs.MoreLight.{leastFrom, activeStep}
 use Rattle.model.specs.Counts.{canServe, allCounts, powerOfTwo, coarseCounts}

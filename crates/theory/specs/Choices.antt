@@ -1,6 +1,6 @@
 -- The best of several places, a place at a time from the last one down.
-use Rattle.lists.specs.Core.{ℕ, _≤_, _<_, _≡_, refl, ap, Bool, true, false, cond, ⊎-elim, arith, leb, leb-true, leb-false}
-use Rattle.lists.specs.Numbers.{le-or-lt}
+use Rattle.basics.specs.Core.{ℕ, _≤_, _<_, _≡_, refl, ap, Bool, true, false, cond, ⊎-elim, arith, leb, leb-true, leb-false}
+use Rattle.basics.specs.Numbers.{le-or-lt}
 use Rattle.theory.specs.Columns.{Choice, cheaper}
 
 -- A choice that is the least of a value over some places, at the smallest place that attains it.

@@ -1,8 +1,8 @@
 -- The dynamic program over a list of allowed counts (thesis 4.2, 5.1), slot by slot. A place is an index of the list; a column gives each place j
 -- the least cost of serving the slots so far and then holding the count at j. The proofs of this crate use columns. No code computes them, and no
 -- definition of `model` and no contract cites them.
-use Rattle.lists.specs.Core.{ℕ, zero, suc, _+_, _-_, _*_, cond, List, [], _∷_, _++_, leb}
-use Rattle.lists.specs.Backwards.{backTo}
+use Rattle.basics.specs.Core.{ℕ, zero, suc, _+_, _-_, _*_, cond, List, [], _∷_, _++_, leb}
+use Rattle.basics.specs.Backwards.{backTo}
 use Rattle.model.specs.Instance.{Instance}
 use Rattle.model.specs.Counts.{canServe, operatingCost}
 use Rattle.model.specs.Thesis.{switchingPrice}

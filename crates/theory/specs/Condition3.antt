@@ -3,7 +3,7 @@
 -- rules it is `planner-bound`. The sheets are those with enough light (02 §2). The sheet of the least plan serves at the plan's cost,
 -- `least-sheet`; the plan found digit by digit is the least plan, `threshold-plan`; and an accepted card meets the hypotheses,
 -- `accepted-plannable`.
-use Rattle.lists.specs.Core.{ℕ, _*_, _^_, _≤_, _<_, _≡_, refl, sym, ap, _∙_, true, List, mul-le-mul-left, arith}
+use Rattle.basics.specs.Core.{ℕ, _*_, _^_, _≤_, _<_, _≡_, refl, sym, ap, _∙_, true, List, mul-le-mul-left, arith}
 use Rattle.model.specs.Instance.{Instance, instanceOf}
 use Rattle.model.specs.Counts.{allCounts, coarseCounts}
 use Rattle.model.specs.Sheets.{serves, sheetCost, countsOf}

@@ -1,8 +1,8 @@
 -- Columns are convex, `column-bends`. So the verdict of a slot on a level, with the column's difference there for the right lead, is right about
 -- the searched plan: `judged-at`, `next-slope`.
-use Rattle.lists.specs.Core.{ℕ, zero, suc, _+_, _-_, _*_, _≤_, _<_, min, _≡_, ⊎-elim, List, le-of-lt, mul-le-mul-left, arith, length}
-use Rattle.lists.specs.Numbers.{le-or-lt}
-use Rattle.lists.specs.Backwards.{back-step, back-all}
+use Rattle.basics.specs.Core.{ℕ, zero, suc, _+_, _-_, _*_, _≤_, _<_, min, _≡_, ⊎-elim, List, le-of-lt, mul-le-mul-left, arith, length}
+use Rattle.basics.specs.Numbers.{le-or-lt}
+use Rattle.basics.specs.Backwards.{back-step, back-all}
 use Rattle.model.specs.Instance.{Instance}
 use Rattle.model.specs.Thesis.{switchingPrice}
 use Rattle.thresholds.specs.Places.{countAtPlace, Ascending}

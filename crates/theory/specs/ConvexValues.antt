@@ -1,7 +1,7 @@
 -- Three values in convex position, numbers only: the middle one is at most the straight line between its neighbours.
-use Rattle.lists.specs.Core.{ℕ, _+_, _-_, _*_, _≤_, _<_, min, _≡_, ap, ⊎-elim, eq-zero-or-pos, le-of-lt, lt-of-not-le, mul-le-mul-left, min-eq-left}
-use Rattle.lists.specs.Core.{min-eq-right, min-le-left, min-le-right, arith}
-use Rattle.lists.specs.Numbers.{le-or-lt}
+use Rattle.basics.specs.Core.{ℕ, _+_, _-_, _*_, _≤_, _<_, min, _≡_, ap, ⊎-elim, eq-zero-or-pos, le-of-lt, lt-of-not-le, mul-le-mul-left, min-eq-left}
+use Rattle.basics.specs.Core.{min-eq-right, min-le-left, min-le-right, arith}
+use Rattle.basics.specs.Numbers.{le-or-lt}
 
 -- Of the values a, b, c at three points, the second u after the first and v before the third, the middle one is at most the straight line
 -- between its neighbours. It is stated without division.

@@ -1,7 +1,7 @@
 -- What the counts of a plan cost (thesis 3.9 to 3.13): their operating cost, and both prices for each rise. From 0 before the first slot to 0
 -- after the last the counts rise as much as they fall.
-use Rattle.lists.specs.Core.{ℕ, suc, _+_, _-_, _*_, _≡_, refl, sym, ap, _∙_, List, add-one, arith, length, List·getD-eq-default}
-use Rattle.lists.specs.Sums.{sum, sum-add, sum-scale, sum-balance}
+use Rattle.basics.specs.Core.{ℕ, suc, _+_, _-_, _*_, _≡_, refl, sym, ap, _∙_, List, add-one, arith, length, List·getD-eq-default}
+use Rattle.basics.specs.Sums.{sum, sum-add, sum-scale, sum-balance}
 use Rattle.model.specs.Instance.{Instance}
 use Rattle.model.specs.Counts.{operatingCost}
 use Rattle.model.specs.Thesis.{switchingPrice, countAt, slotCost, countsCost}

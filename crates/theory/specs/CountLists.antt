@@ -1,12 +1,12 @@
 -- The rules for a list of allowed counts and its ratio (document 02, §8) as propositions, `InRules`: that the test `keepsRules` decides them within
 -- its bounds, `rules-hold`, `rules-kept`; what they say of every list, `rules-grow`; and that the counts allowed a planner keep them with its
 -- ratio, if a list that it is handed passes the test, `planner-rules`.
-use Rattle.lists.specs.Core.{ℕ, zero, suc, _+_, _-_, _*_, _^_, _≤_, _<_, _≡_, refl, ap, true, List, _⊎_, inl, inr, ⊎-elim, le-refl, le-trans}
-use Rattle.lists.specs.Core.{mul-le-mul-right, add-one, arith, length, getD, ltb, leb-true, le-leb, ltb-true, lt-ltb, eqb-true, eq-eqb}
-use Rattle.lists.specs.Numbers.{le-or-lt}
-use Rattle.lists.specs.Tests.{every-at, every-all, and-left, and-right}
-use Rattle.lists.specs.Lists.{length-tabulate, getD-tabulate}
-use Rattle.lists.specs.Members.{InOrder, in-order-at, in-order-le}
+use Rattle.basics.specs.Core.{ℕ, zero, suc, _+_, _-_, _*_, _^_, _≤_, _<_, _≡_, refl, ap, true, List, _⊎_, inl, inr, ⊎-elim, le-refl, le-trans}
+use Rattle.basics.specs.Core.{mul-le-mul-right, add-one, arith, length, getD, ltb, leb-true, le-leb, ltb-true, lt-ltb, eqb-true, eq-eqb}
+use Rattle.basics.specs.Numbers.{le-or-lt}
+use Rattle.basics.specs.Tests.{every-at, every-all, and-left, and-right}
+use Rattle.basics.specs.Lists.{length-tabulate, getD-tabulate}
+use Rattle.basics.specs.Members.{InOrder, in-order-at, in-order-le}
 use Rattle.model.specs.Instance.{Instance}
 use Rattle.model.specs.Counts.{allCounts, coarseCounts}
 use Rattle.model.specs.CountRules.{gapAfter, strictlyAscends, gapsGrowBy, endsAt, ratioInRange, keepsRules}

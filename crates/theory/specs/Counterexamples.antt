@@ -1,12 +1,12 @@
 -- Shows and cards on which the conclusion of a theorem or of a clause fails without one of its hypotheses, or with a stronger conclusion.
-use Rattle.lists.specs.Core.{ℕ, zero, suc, _+_, _*_, _^_, _≤_, _<_, max, _≡_, refl, true, false, List, [], _∷_, _++_, arith, length, getD, take, set}
-use Rattle.lists.specs.Core.{leb, lit<, leb-true}
-use Rattle.lists.specs.Tests.{every, every-at}
-use Rattle.lists.specs.Sums.{sum}
-use Rattle.lists.specs.Ranges.{leastOver, firstOver}
-use Rattle.lists.specs.Backwards.{fromEnd, backTo}
-use Rattle.lists.specs.Lists.{tabulate, rows}
-use Rattle.lists.specs.Bytes.{littleEndian, bytesOf}
+use Rattle.basics.specs.Core.{ℕ, zero, suc, _+_, _*_, _^_, _≤_, _<_, max, _≡_, refl, true, false, List, [], _∷_, _++_, arith, length, getD, take, set}
+use Rattle.basics.specs.Core.{leb, lit<, leb-true}
+use Rattle.basics.specs.Tests.{every, every-at}
+use Rattle.basics.specs.Sums.{sum}
+use Rattle.basics.specs.Ranges.{leastOver, firstOver}
+use Rattle.basics.specs.Backwards.{fromEnd, backTo}
+use Rattle.basics.specs.Lists.{tabulate, rows}
+use Rattle.basics.specs.Bytes.{littleEndian, bytesOf}
 use Rattle.model.specs.Instance.{Instance, instanceOf, topStepPlace, headLength, tableOf}
 use Rattle.model.specs.MoreLight.{leastFrom, activeStep}
 use Rattle.model.specs.Counts.{canServe, operatingCost, allCounts, coarseCounts, roundedCount, roundedByCases}

@@ -2,8 +2,8 @@
 -- joined; and two facts more, that the plan of least cost is the smallest in every slot, and that backwards it is the plan in reverse. What holds
 -- for every list of allowed counts is stated so; on cards it holds for every planner that keeps the rules for the card's rack, as the exact and
 -- the coarse one always do.
-use Rattle.lists.specs.Core.{ℕ, suc, _+_, _≤_, _<_, _≡_, refl, sym, ap, _∙_, true, List, reverse, le-trans, arith, length, getD, replicate}
-use Rattle.lists.specs.Core.{length-replicate}
+use Rattle.basics.specs.Core.{ℕ, suc, _+_, _≤_, _<_, _≡_, refl, sym, ap, _∙_, true, List, reverse, le-trans, arith, length, getD, replicate}
+use Rattle.basics.specs.Core.{length-replicate}
 use Rattle.model.specs.Answers.{numberOf, costOf}
 use Rattle.model.specs.Instance.{Instance, instanceOf}
 use Rattle.model.specs.Sheets.{serves, sheetCost, activeAt}

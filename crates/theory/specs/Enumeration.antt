@@ -1,13 +1,13 @@
 -- The function `leastPlan`, which gives the first of the cheapest plans in an enumeration of all plans in tie order, gives the least plan,
 -- `least-plan`, and there is only one least plan, `least-plan-unique`.
-use Rattle.lists.specs.Core.{ℕ, zero, suc, _+_, _≤_, _<_, _≡_, refl, sym, ap, _∙_, Bool, true, false, cond, ⊎-elim, List, [], _∷_, _++_, map}
-use Rattle.lists.specs.Core.{List·Memᴰ, List·Memᴰ·head, List·Memᴰ·tail, List·Memᴰ·not-nil, List·Memᴰ·cases-cons, List·Memᴰ·eq-of-singleton, Memᴰ·cast}
-use Rattle.lists.specs.Core.{Memᴰ·map, not-suc-le-zero, arith, length, getD, take, replicate, length-replicate, getD-replicate, getD-at, take-all}
-use Rattle.lists.specs.Core.{take-suc, length-take-le, getD-take, ltb, ltb-true, ltb-false}
-use Rattle.lists.specs.Numbers.{le-or-lt}
-use Rattle.lists.specs.Lists.{keep}
-use Rattle.lists.specs.Members.{InOrder, none, next, member-at, place-of, snoc-before, snoc-length, rising-in-order}
-use Rattle.lists.specs.Members.{to-keep, from-keep, in-order-keep, from-map, in-order-map, to-flatMap, from-flatMap, in-order-flatMap}
+use Rattle.basics.specs.Core.{ℕ, zero, suc, _+_, _≤_, _<_, _≡_, refl, sym, ap, _∙_, Bool, true, false, cond, ⊎-elim, List, [], _∷_, _++_, map}
+use Rattle.basics.specs.Core.{List·Memᴰ, List·Memᴰ·head, List·Memᴰ·tail, List·Memᴰ·not-nil, List·Memᴰ·cases-cons, List·Memᴰ·eq-of-singleton, Memᴰ·cast}
+use Rattle.basics.specs.Core.{Memᴰ·map, not-suc-le-zero, arith, length, getD, take, replicate, length-replicate, getD-replicate, getD-at, take-all}
+use Rattle.basics.specs.Core.{take-suc, length-take-le, getD-take, ltb, ltb-true, ltb-false}
+use Rattle.basics.specs.Numbers.{le-or-lt}
+use Rattle.basics.specs.Lists.{keep}
+use Rattle.basics.specs.Members.{InOrder, none, next, member-at, place-of, snoc-before, snoc-length, rising-in-order}
+use Rattle.basics.specs.Members.{to-keep, from-keep, in-order-keep, from-map, in-order-map, to-flatMap, from-flatMap, in-order-flatMap}
 use Rattle.model.specs.Instance.{Instance}
 use Rattle.model.specs.Plans.{Allowed, Member, LeastPlan, planCost, planServes, plansInOrder, cheapest, cheapestOf, leastPlan}
 use Rattle.thresholds.specs.Places.{lastPlace, Ascending, last-inside, last-serves}

@@ -1,8 +1,8 @@
 -- The explanation of a sheet as a call (document 02, §7): its answer by that of marking, `explains-marked`; what its three numbers promise,
 -- `none-negative`, `above-least`, `zero-exactly`; and what it says of the sheets of plans, `made-explained`, `planner-explained`,
 -- `exact-planner-explained`.
-use Rattle.lists.specs.Core.{ℕ, _≤_, _<_, _≡_, refl, sym, ap, _∙_, true, List, arith, length, take, lt-ltb, le-ltb, ltb-false}
-use Rattle.lists.specs.Tests.{or-left}
+use Rattle.basics.specs.Core.{ℕ, _≤_, _<_, _≡_, refl, sym, ap, _∙_, true, List, arith, length, take, lt-ltb, le-ltb, ltb-false}
+use Rattle.basics.specs.Tests.{or-left}
 use Rattle.model.specs.declared.Refusal.{Refusal}
 use Rattle.model.specs.declared.Refusal.the-variants.{BufferTooShort}
 use Rattle.model.specs.declared.Answer.{Answer}

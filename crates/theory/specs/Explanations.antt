@@ -2,10 +2,10 @@
 -- `switching-at-least` in SheetLaws), together the sheet's cost above the least, `points-together`, and each is 0 exactly if changing that one
 -- thing alone saves nothing, `spread-zero`, `swaps-zero`, `counts-zero`. All three are 0 exactly if no sheet that serves costs less, `all-zero`.
 -- The sheets of plans have spread 0 and swaps 0, `plan-points`, and the exact plan's sheet has counts 0 too, `exact-points`.
-use Rattle.lists.specs.Core.{ℕ, zero, suc, _+_, _≤_, _<_, _≡_, refl, true, List, _↔_, ⊎-elim, eq-eqb, le-ltb, arith}
-use Rattle.lists.specs.Numbers.{le-or-lt}
-use Rattle.lists.specs.Sums.{sum-ext}
-use Rattle.lists.specs.Lists.{tabulate-same}
+use Rattle.basics.specs.Core.{ℕ, zero, suc, _+_, _≤_, _<_, _≡_, refl, true, List, _↔_, ⊎-elim, eq-eqb, le-ltb, arith}
+use Rattle.basics.specs.Numbers.{le-or-lt}
+use Rattle.basics.specs.Sums.{sum-ext}
+use Rattle.basics.specs.Lists.{tabulate-same}
 use Rattle.model.specs.Instance.{Instance}
 use Rattle.model.specs.Sheets.{isOff, stateAt, sheetLength, serves, changeCost, sheetOperatingCost, sheetSwitchingCost, sheetCost, activeAt, countsOf}
 use Rattle.model.specs.Plans.{sheetOf, planCost}

@@ -1,9 +1,9 @@
 -- The generator of practice shows (document 02, §1): no start of 32 bits but 0 ever draws 0, `never-zero`, start 0 draws nothing else,
 -- `zero-repeats`, and different starts never draw the same number at the same place, `starts-apart`.
-use Rattle.lists.specs.Core.{ℕ, zero, suc, _+_, _*_, _/_, _%_, _^_, _≤_, _<_, _≡_, refl, sym, ap, _∙_, ⊎-elim, mod-lt, mod-eq-of-lt}
-use Rattle.lists.specs.Core.{mul-add-mod-self-left, mul-mod-right, div-add-mod', eq-zero-or-pos, arith}
+use Rattle.basics.specs.Core.{ℕ, zero, suc, _+_, _*_, _/_, _%_, _^_, _≤_, _<_, _≡_, refl, sym, ap, _∙_, ⊎-elim, mod-lt, mod-eq-of-lt}
+use Rattle.basics.specs.Core.{mul-add-mod-self-left, mul-mod-right, div-add-mod', eq-zero-or-pos, arith}
 use lib.Bits.{xor-lt}
-use Rattle.lists.specs.ExclusiveOr.{xor-none, xor-left-linear, xor-right-linear, linear-injective}
+use Rattle.basics.specs.ExclusiveOr.{xor-none, xor-left-linear, xor-right-linear, linear-injective}
 use Rattle.model.specs.Practice.{states, low32, xorLeft, xorRight, draw, drawn}
 
 -- The three steps of a draw keep to 32 bits.

@@ -1,7 +1,7 @@
 -- One round of a search digit by digit, for two neighbouring slots. Numbers only: the plan so far says that a slot's place is one of the
 -- 2 b places from `here` on, and the round finds which half it is in.
-use Rattle.lists.specs.Core.{ℕ, _+_, _-_, _≤_, _<_, _≡_, refl, ⊎-elim, arith, le-leb, lt-leb}
-use Rattle.lists.specs.Numbers.{le-or-lt}
+use Rattle.basics.specs.Core.{ℕ, _+_, _-_, _≤_, _<_, _≡_, refl, ⊎-elim, arith, le-leb, lt-leb}
+use Rattle.basics.specs.Numbers.{le-or-lt}
 use Rattle.thresholds.specs.Thresholds.{isLess, raisedPlace}
 use Rattle.thresholds.specs.ThresholdLaws.{less-one, less-zero, less-most}
 use Rattle.theory.specs.NearLeads.{Tells}

@@ -1,8 +1,8 @@
 -- The hypotheses that the theorems share, as propositions: shows that can be planned, `Plannable`, plans whose sheet can be written, `PlanFits`,
 -- one slot's best places, `SlotBest`, and the least plan by counts, `LeastByCounts`; and the active modules, the light and the operating cost of a
 -- row of bytes.
-use Rattle.lists.specs.Core.{ℕ, suc, _*_, _≤_, _<_, _≡_, true, List, length, getD}
-use Rattle.lists.specs.Sums.{sum}
+use Rattle.basics.specs.Core.{ℕ, suc, _*_, _≤_, _<_, _≡_, true, List, length, getD}
+use Rattle.basics.specs.Sums.{sum}
 use Rattle.model.specs.Instance.{Instance}
 use Rattle.model.specs.Counts.{canServe}
 use Rattle.model.specs.Sheets.{off, isEntry, stepOf, stepCost, activeOf}

@@ -1,9 +1,9 @@
 -- The dynamic program over a list of allowed counts gives the least plan by counts from a start count, first in tie order: `searched-least`, and
 -- its cost: `searched-cost`.
-use Rattle.lists.specs.Core.{ℕ, zero, suc, _+_, _-_, _*_, _≤_, _<_, _≡_, refl, sym, _∙_, List, [], _∷_, _++_, not-suc-le-zero, zero-sub, mul-zero}
-use Rattle.lists.specs.Core.{arith, length, getD, getD-at}
-use Rattle.lists.specs.Sums.{sum}
-use Rattle.lists.specs.Members.{snoc-before, snoc-length}
+use Rattle.basics.specs.Core.{ℕ, zero, suc, _+_, _-_, _*_, _≤_, _<_, _≡_, refl, sym, _∙_, List, [], _∷_, _++_, not-suc-le-zero, zero-sub, mul-zero}
+use Rattle.basics.specs.Core.{arith, length, getD, getD-at}
+use Rattle.basics.specs.Sums.{sum}
+use Rattle.basics.specs.Members.{snoc-before, snoc-length}
 use Rattle.model.specs.Instance.{Instance}
 use Rattle.model.specs.Plans.{Allowed}
 use Rattle.model.specs.Thesis.{switchingPrice, countAt, slotCost, countsCost}

@@ -1,8 +1,8 @@
 -- One slot after a convex column: what it chooses by levels, `judged`, how much the column after it rises over each level, `slope-after`, and that
 -- this column is convex too, `after-convex`. Level k lies between the places k and k + 1.
-use Rattle.lists.specs.Core.{ℕ, zero, suc, _+_, _-_, _*_, _≤_, _<_, min, _≡_, sym, fun-ext, _∙_, true, false, false≢true, _⊎_, ⊎-elim, List, length}
-use Rattle.lists.specs.Core.{leb-true, le-leb, add-zero, le-dest, eq-or-lt-of-le, lt-of-not-le, mul-le-mul-left, mul-le-mul-right, arith}
-use Rattle.lists.specs.Numbers.{le-or-lt, true-or-false}
+use Rattle.basics.specs.Core.{ℕ, zero, suc, _+_, _-_, _*_, _≤_, _<_, min, _≡_, sym, fun-ext, _∙_, true, false, false≢true, _⊎_, ⊎-elim, List, length}
+use Rattle.basics.specs.Core.{leb-true, le-leb, add-zero, le-dest, eq-or-lt-of-le, lt-of-not-le, mul-le-mul-left, mul-le-mul-right, arith}
+use Rattle.basics.specs.Numbers.{le-or-lt, true-or-false}
 use Rattle.model.specs.Instance.{Instance}
 use Rattle.model.specs.Counts.{canServe, operatingCost}
 use Rattle.model.specs.Thesis.{switchingPrice}

@@ -1,7 +1,7 @@
 -- Racks that switch in groups, on cards (document 02, §8): the planners of document 01 are two of these lists, `coarse-listed`, `exact-listed`; the
 -- list of all counts is the only one with ratio 1, `ratio-one-list`; and no sheet that keeps to a list costs less than its plan, `within-least`.
-use Rattle.lists.specs.Core.{ℕ, zero, suc, _+_, _≤_, _<_, _≡_, refl, true, List, add-one, arith, length}
-use Rattle.lists.specs.Lists.{equal-tabulate}
+use Rattle.basics.specs.Core.{ℕ, zero, suc, _+_, _≤_, _<_, _≡_, refl, true, List, add-one, arith, length}
+use Rattle.basics.specs.Lists.{equal-tabulate}
 use Rattle.model.specs.Instance.{Instance, instanceOf}
 use Rattle.model.specs.Counts.{allCounts, coarseCounts}
 use Rattle.model.specs.CountRules.{keepsRules}

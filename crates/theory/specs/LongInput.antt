@@ -1,10 +1,10 @@
 -- What is read of a long input (document 01, 'Program and listing'): no accepted card is longer than 2,869 bytes, so what follows the first 2,870
 -- bytes is without effect on what the program prints: `long-printed`.
-use Rattle.lists.specs.Core.{ℕ, _+_, _≤_, _≡_, _∙_, ap, Bool, true, false, not, _&&_, List, _∷_, ⊎-elim, arith, leb, ltb, eqb, length, take}
-use Rattle.lists.specs.Core.{replicate, length-take-le, take-take, le-ltb, leb-true, ltb-false, ne-eqb, not-false}
-use Rattle.lists.specs.Numbers.{true-or-false}
-use Rattle.lists.specs.Tests.{and-right}
-use Rattle.lists.specs.Bytes.{little-take}
+use Rattle.basics.specs.Core.{ℕ, _+_, _≤_, _≡_, _∙_, ap, Bool, true, false, not, _&&_, List, _∷_, ⊎-elim, arith, leb, ltb, eqb, length, take}
+use Rattle.basics.specs.Core.{replicate, length-take-le, take-take, le-ltb, leb-true, ltb-false, ne-eqb, not-false}
+use Rattle.basics.specs.Numbers.{true-or-false}
+use Rattle.basics.specs.Tests.{and-right}
+use Rattle.basics.specs.Bytes.{little-take}
 use Rattle.model.specs.declared.Refusal.{Refusal}
 use Rattle.model.specs.declared.Answer.the-variants.{Cost, Refused}
 use Rattle.model.specs.Instance.{instanceOf, cardLength, rackNumber, headLength, versionPlace, modulesPlace, topStepPlace, slotsPlace, loadPlace}

@@ -1,7 +1,7 @@
 -- What a verdict says of a level when its lead is only near the right one. Numbers only: x is the least plan's place in a slot, next its
 -- place in the slot after, and the level is between the places j and j + 1.
-use Rattle.lists.specs.Core.{ℕ, _+_, _≤_, _<_, ⊎-elim, arith}
-use Rattle.lists.specs.Numbers.{le-or-lt}
+use Rattle.basics.specs.Core.{ℕ, _+_, _≤_, _<_, ⊎-elim, arith}
+use Rattle.basics.specs.Numbers.{le-or-lt}
 use Rattle.thresholds.specs.Thresholds.{Verdict, weighed}
 use Rattle.thresholds.specs.ThresholdLaws.{less-one, less-zero, less-most}
 

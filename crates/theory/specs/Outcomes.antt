@@ -1,9 +1,9 @@
 -- What marking, the sheet call and the planners answer, by the card, the list and the buffers. Marking accepts a sheet exactly if it serves,
 -- `mark-accepts`, `mark-number`; an accepted card with buffers long enough is planned by every planner that keeps the rules, `always-planned`; and
 -- the three agree (condition 2): a plan makes a sheet that is marked at the cost named, `made-marked`, `planner-marked`.
-use Rattle.lists.specs.Core.{ℕ, _≤_, _≡_, refl, sym, ap, _∙_, true, false, not, _↔_, List, _∷_, _++_, length, getD, take, leb, take-at, leb-true}
-use Rattle.lists.specs.Core.{le-leb, le-ltb, ltb-false, eqb-true, eq-eqb, not-false}
-use Rattle.lists.specs.Tests.{every-at, every-all, or-left}
+use Rattle.basics.specs.Core.{ℕ, _≤_, _≡_, refl, sym, ap, _∙_, true, false, not, _↔_, List, _∷_, _++_, length, getD, take, leb, take-at, leb-true}
+use Rattle.basics.specs.Core.{le-leb, le-ltb, ltb-false, eqb-true, eq-eqb, not-false}
+use Rattle.basics.specs.Tests.{every-at, every-all, or-left}
 use Rattle.model.specs.declared.Refusal.{Refusal}
 use Rattle.model.specs.declared.Refusal.the-variants.{BufferTooShort, CountList}
 use Rattle.model.specs.declared.Answer.{Answer}

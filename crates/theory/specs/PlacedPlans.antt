@@ -1,8 +1,8 @@
 -- Plans whose counts stand at places of a list of allowed counts.
-use Rattle.lists.specs.Core.{ℕ, suc, _≤_, _<_, _≡_, sym, _∙_, true, ⊎-elim, List, [], _∷_, _++_, arith, length, getD, getD-at}
-use Rattle.lists.specs.Numbers.{le-or-lt}
-use Rattle.lists.specs.Tests.{every-at, every-all}
-use Rattle.lists.specs.Members.{snoc-before}
+use Rattle.basics.specs.Core.{ℕ, suc, _≤_, _<_, _≡_, sym, _∙_, true, ⊎-elim, List, [], _∷_, _++_, arith, length, getD, getD-at}
+use Rattle.basics.specs.Numbers.{le-or-lt}
+use Rattle.basics.specs.Tests.{every-at, every-all}
+use Rattle.basics.specs.Members.{snoc-before}
 use Rattle.model.specs.Instance.{Instance}
 use Rattle.model.specs.Counts.{canServe}
 use Rattle.model.specs.Plans.{Member, Allowed, planServes}

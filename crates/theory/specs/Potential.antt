@@ -1,9 +1,9 @@
 -- A column between its places: the straight lines through its values at neighbouring counts.
-use Rattle.lists.specs.Core.{ℕ, _+_, _-_, _*_, _≤_, _<_, _≡_, ap, List, ⊎-elim, le-dest, le-of-lt, mul-le-mul-left, le-of-mul-le-mul-left, arith}
-use Rattle.lists.specs.Core.{length}
-use Rattle.lists.specs.Numbers.{le-or-lt}
-use Rattle.lists.specs.Products.{line-moved}
-use Rattle.lists.specs.Rising.{between}
+use Rattle.basics.specs.Core.{ℕ, _+_, _-_, _*_, _≤_, _<_, _≡_, ap, List, ⊎-elim, le-dest, le-of-lt, mul-le-mul-left, le-of-mul-le-mul-left, arith}
+use Rattle.basics.specs.Core.{length}
+use Rattle.basics.specs.Numbers.{le-or-lt}
+use Rattle.basics.specs.Products.{line-moved}
+use Rattle.basics.specs.Rising.{between}
 use Rattle.thresholds.specs.Places.{countAtPlace, lastPlace, Ascending, count-rises}
 
 -- A column that rises with the places, by at most the price a module.

@@ -1,6 +1,6 @@
 -- The cards of practice shows (document 02, §1): every one that is written is accepted, and planned by every planner that keeps the rules for its
 -- rack, `practice-writes`, `practice-planned`; and an area as long as the longest one is enough for every start from 1 on, `practice-enough`.
-use Rattle.lists.specs.Core.{ℕ, _≤_, _≡_, ap, List, arith, length}
+use Rattle.basics.specs.Core.{ℕ, _≤_, _≡_, ap, List, arith, length}
 use Rattle.model.specs.Answers.{numberOf}
 use Rattle.model.specs.Instance.{instanceOf, cardBytes}
 use Rattle.model.specs.Planners.{Planner}

@@ -1,10 +1,10 @@
 -- The swaps by sheets (document 02, §7): they are 0 exactly if no sheet that serves, with the same steps in each slot, costs less:
 -- `swaps-zero-sheets`.
-use Rattle.lists.specs.Core.{ℕ, zero, suc, _-_, _*_, _≤_, _<_, _≡_, refl, sym, ap, _∙_, true, false, cond, List, _↔_, Iff·trans, ⊎-elim, eqb, eq-eqb}
-use Rattle.lists.specs.Core.{ne-eqb, eqb-true, not-suc-le-zero, le-of-suc-le-suc, eq-or-lt-of-le, add-sub-of-le, mul-zero, arith}
-use Rattle.lists.specs.Numbers.{le-or-lt, true-or-false}
-use Rattle.lists.specs.Lists.{tabulate-same}
-use Rattle.lists.specs.Sums.{sum, sum-ext, sum-add, sum-scale, sum-const, sum-from}
+use Rattle.basics.specs.Core.{ℕ, zero, suc, _-_, _*_, _≤_, _<_, _≡_, refl, sym, ap, _∙_, true, false, cond, List, _↔_, Iff·trans, ⊎-elim, eqb, eq-eqb}
+use Rattle.basics.specs.Core.{ne-eqb, eqb-true, not-suc-le-zero, le-of-suc-le-suc, eq-or-lt-of-le, add-sub-of-le, mul-zero, arith}
+use Rattle.basics.specs.Numbers.{le-or-lt, true-or-false}
+use Rattle.basics.specs.Lists.{tabulate-same}
+use Rattle.basics.specs.Sums.{sum, sum-ext, sum-add, sum-scale, sum-const, sum-from}
 use Rattle.model.specs.Instance.{Instance}
 use Rattle.model.specs.Sheets.{off, isOff, stepOf, stateAt, serves, stepCost, sheetOperatingCost, sheetCost, activeOf, activeAt, countsOf}
 use Rattle.model.specs.Explanation.{excessSwitchingCost, howOften, SameActive, SameSteps, NoBetterChoice, NoBetterOrder}

@@ -1,11 +1,11 @@
 -- The cards of document 02, §3, are there: each accepted card has an accepted card that is the show backwards, `reversed-card`, one for every
 -- larger rack of up to 200 modules, `larger-card`, and one that is the show and then another with equal rack, table and prices, where both together
 -- have at most 1,024 slots, `concatenated-card`.
-use Rattle.lists.specs.Core.{ℕ, _+_, _*_, _≤_, _<_, _≡_, refl, sym, _∙_, true, ⊎-elim, List, _++_, reverse, le-trans, le-dest, mul-le-mul-right}
-use Rattle.lists.specs.Core.{arith, leb, length, getD, length-append, length-reverse, List·getD-append, getD-append-add, le-leb, le-ltb, not-false}
-use Rattle.lists.specs.Numbers.{le-or-lt}
-use Rattle.lists.specs.Tests.{every-all, and-right, and-both}
-use Rattle.lists.specs.Lists.{equal-tabulate, from-back, getD-reverse}
+use Rattle.basics.specs.Core.{ℕ, _+_, _*_, _≤_, _<_, _≡_, refl, sym, _∙_, true, ⊎-elim, List, _++_, reverse, le-trans, le-dest, mul-le-mul-right}
+use Rattle.basics.specs.Core.{arith, leb, length, getD, length-append, length-reverse, List·getD-append, getD-append-add, le-leb, le-ltb, not-false}
+use Rattle.basics.specs.Numbers.{le-or-lt}
+use Rattle.basics.specs.Tests.{every-all, and-right, and-both}
+use Rattle.basics.specs.Lists.{equal-tabulate, from-back, getD-reverse}
 use Rattle.model.specs.Instance.{Instance, instanceOf, cardBytes, rackNumber, pricesInRange, loadsInRange}
 use Rattle.model.specs.Specs.{ShowInOrder}
 use Rattle.model.specs.Calls.{Accepted}

@@ -1,9 +1,9 @@
 -- A show played backwards (document 02, §3): a plan in reverse costs the same there, since its counts, from 0 back to 0, rise as much as they
 -- fall. So the least plan in reverse is the least plan, and, being the smallest in every slot, the one of the tie rule.
-use Rattle.lists.specs.Core.{ℕ, zero, suc, _+_, _-_, _*_, _≤_, _≡_, refl, sym, ap, _∙_, List, reverse, reverse-reverse, arith, length, getD}
-use Rattle.lists.specs.Core.{length-reverse, List·getD-eq-default}
-use Rattle.lists.specs.Sums.{sum, sum-reverse}
-use Rattle.lists.specs.Lists.{from-back, getD-reverse}
+use Rattle.basics.specs.Core.{ℕ, zero, suc, _+_, _-_, _*_, _≤_, _≡_, refl, sym, ap, _∙_, List, reverse, reverse-reverse, arith, length, getD}
+use Rattle.basics.specs.Core.{length-reverse, List·getD-eq-default}
+use Rattle.basics.specs.Sums.{sum, sum-reverse}
+use Rattle.basics.specs.Lists.{from-back, getD-reverse}
 use Rattle.model.specs.Instance.{Instance}
 use Rattle.model.specs.Counts.{operatingCost}
 use Rattle.model.specs.Thesis.{countAt, countsCost}

@@ -1,10 +1,10 @@
 -- Each round of the search digit by digit halves the places in which the searched plan is known to be, until one is left in each slot:
 -- `rounds-found`.
-use Rattle.lists.specs.Core.{ℕ, zero, suc, _+_, _-_, _^_, _≤_, _<_, _≡_, sym, ap, _∙_, ⊎-elim, List, pow-zero, two-pow-succ, arith, length, replicate}
+use Rattle.basics.specs.Core.{ℕ, zero, suc, _+_, _-_, _^_, _≤_, _<_, _≡_, sym, ap, _∙_, ⊎-elim, List, pow-zero, two-pow-succ, arith, length, replicate}
 use lib.Pow.{pow-pos}
-use Rattle.lists.specs.Numbers.{le-or-lt}
-use Rattle.lists.specs.Backwards.{back-end}
-use Rattle.lists.specs.Lists.{zeros-at}
+use Rattle.basics.specs.Numbers.{le-or-lt}
+use Rattle.basics.specs.Backwards.{back-end}
+use Rattle.basics.specs.Lists.{zeros-at}
 use Rattle.model.specs.Instance.{Instance}
 use Rattle.thresholds.specs.Places.{lastPlace, Ascending}
 use Rattle.thresholds.specs.Thresholds.{levelPrice, judge, carried, levelAt, leadBefore, sideAt, raisedAt, inSlot, forward, round, rounds}

@@ -1,11 +1,11 @@
 -- On a convex table the operating cost of a count is the least cost of a row of bytes with enough light, `row-at-least`, and the row of a plan
 -- attains it, `plan-row-cost`. It is the thesis's n·f(L/n) with straight lines between table entries, with G for F: `straight-line`.
-use Rattle.lists.specs.Core.{ℕ, zero, suc, _+_, _-_, _*_, _/_, _%_, _≤_, _<_, _≡_, refl, ap, sym, _∙_, Bool, true, false, cond, or-true, or-false}
-use Rattle.lists.specs.Core.{_⊎_, inl, inr, ⊎-elim, leb, leb-true, le-leb, eqb-true, ne-eqb, add-sub-of-le, mod-lt, div-add-mod, div-le-of-le-mul}
-use Rattle.lists.specs.Core.{le-trans, le-of-lt, eq-or-lt-of-le, eq-zero-or-pos, mul-le-mul-left, mul-le-mul-right, arith}
-use Rattle.lists.specs.Numbers.{le-or-lt, true-or-false}
-use Rattle.lists.specs.Division.{remainder-le, quotient-lt, part-and-rest}
-use Rattle.lists.specs.Sums.{sum, sum-const, sum-from, sum-at-most}
+use Rattle.basics.specs.Core.{ℕ, zero, suc, _+_, _-_, _*_, _/_, _%_, _≤_, _<_, _≡_, refl, ap, sym, _∙_, Bool, true, false, cond, or-true, or-false}
+use Rattle.basics.specs.Core.{_⊎_, inl, inr, ⊎-elim, leb, leb-true, le-leb, eqb-true, ne-eqb, add-sub-of-le, mod-lt, div-add-mod, div-le-of-le-mul}
+use Rattle.basics.specs.Core.{le-trans, le-of-lt, eq-or-lt-of-le, eq-zero-or-pos, mul-le-mul-left, mul-le-mul-right, arith}
+use Rattle.basics.specs.Numbers.{le-or-lt, true-or-false}
+use Rattle.basics.specs.Division.{remainder-le, quotient-lt, part-and-rest}
+use Rattle.basics.specs.Sums.{sum, sum-const, sum-from, sum-at-most}
 use Rattle.model.specs.Instance.{Instance}
 use Rattle.model.specs.MoreLight.{leastFrom, activeStep}
 use Rattle.model.specs.Counts.{operatingCost}

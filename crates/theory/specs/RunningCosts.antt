@@ -1,9 +1,9 @@
 -- On a convex table the operating cost of a load is convex in the count, over the counts that serve the load: `running-convex`.
-use Rattle.lists.specs.Core.{ℕ, _+_, _-_, _*_, _/_, _%_, _≤_, _<_, _≡_, ap, ⊎-elim, add-zero, eq-zero-or-pos, div-add-mod, div-le-of-le-mul}
-use Rattle.lists.specs.Core.{sub-add-cancel, mul-le-mul-left, mul-le-mul-right, arith}
-use Rattle.lists.specs.Numbers.{le-or-lt}
-use Rattle.lists.specs.Products.{mul-le-mul-some}
-use Rattle.lists.specs.Division.{remainder-le, quotient-lt}
+use Rattle.basics.specs.Core.{ℕ, _+_, _-_, _*_, _/_, _%_, _≤_, _<_, _≡_, ap, ⊎-elim, add-zero, eq-zero-or-pos, div-add-mod, div-le-of-le-mul}
+use Rattle.basics.specs.Core.{sub-add-cancel, mul-le-mul-left, mul-le-mul-right, arith}
+use Rattle.basics.specs.Numbers.{le-or-lt}
+use Rattle.basics.specs.Products.{mul-le-mul-some}
+use Rattle.basics.specs.Division.{remainder-le, quotient-lt}
 use Rattle.model.specs.Instance.{Instance}
 use Rattle.model.specs.MoreLight.{leastFrom}
 use Rattle.model.specs.Counts.{operatingCost}

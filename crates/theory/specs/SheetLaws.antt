@@ -1,13 +1,13 @@
 -- Sheets: their cost by the modules that go on, `sheet-cost-starts`; the thesis's 2.2 and 2.3, `thesis-cost`, `serves-feasible`; that on a convex
 -- table a sheet that serves costs at least what its counts cost, `sheet-at-least`; and that the sheet of a plan serves and costs just that,
 -- `plan-sheet-serves`, `plan-cost-counts`; operating cost and switching cost also apart (02 §7).
-use Rattle.lists.specs.Core.{ℕ, zero, suc, _+_, _-_, _*_, _/_, _%_, _≤_, _<_, _≡_, refl, ap, ap₂, sym, _∙_, subst, Bool, true, false, cond, _↔_}
-use Rattle.lists.specs.Core.{⊎-elim, List, length, getD, eqb-true, eq-eqb, leb-true, le-leb, lt-ltb, le-ltb, le-refl, le-trans, le-of-lt, add-le-add}
-use Rattle.lists.specs.Core.{mul-le-mul-left, mul-zero, mul-comm, eq-zero-or-pos, mod-lt, div-lt-iff-lt-mul, div-add-mod', add-one, arith}
+use Rattle.basics.specs.Core.{ℕ, zero, suc, _+_, _-_, _*_, _/_, _%_, _≤_, _<_, _≡_, refl, ap, ap₂, sym, _∙_, subst, Bool, true, false, cond, _↔_}
+use Rattle.basics.specs.Core.{⊎-elim, List, length, getD, eqb-true, eq-eqb, leb-true, le-leb, lt-ltb, le-ltb, le-refl, le-trans, le-of-lt, add-le-add}
+use Rattle.basics.specs.Core.{mul-le-mul-left, mul-zero, mul-comm, eq-zero-or-pos, mod-lt, div-lt-iff-lt-mul, div-add-mod', add-one, arith}
 use lib.Arith.{digits-lt}
-use Rattle.lists.specs.Tests.{every-at, every-all, and-left, and-right, and-both}
-use Rattle.lists.specs.Sums.{sum, sum-ext, sum-mono, sum-const}
-use Rattle.lists.specs.Lists.{tabulate, length-tabulate, getD-tabulate, equal-tabulate, rows, length-rows, getD-rows}
+use Rattle.basics.specs.Tests.{every-at, every-all, and-left, and-right, and-both}
+use Rattle.basics.specs.Sums.{sum, sum-ext, sum-mono, sum-const}
+use Rattle.basics.specs.Lists.{tabulate, length-tabulate, getD-tabulate, equal-tabulate, rows, length-rows, getD-rows}
 use Rattle.model.specs.Instance.{Instance}
 use Rattle.model.specs.Counts.{canServe, operatingCost}
 use Rattle.model.specs.Sheets.{off, isOff, stepOf, stateAt, sheetLength, sheetEntries, lightAt, sheetLight, serves}

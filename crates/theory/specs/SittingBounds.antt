@@ -1,12 +1,12 @@
 -- What a sitting never tells (document 02, §4): a candidate the least cost before closing, `least-hidden`; where all acts are lent one card, a
 -- lowest cost below the least, `lowest-at-least`; more submissions used than the allowance, `submissions-within`. An accepted opening is answered
 -- as the exact planner, `opened-planned`, and a submission that 1 to 8 and 15 to 17 let pass as marking, `submission-as-marking`.
-use Rattle.lists.specs.Core.{ℕ, zero, suc, _≤_, _≡_, refl, sym, ap, _∙_, subst, Bool, true, false, cond, not, _&&_, true≢false, List, [], _∷_, map}
-use Rattle.lists.specs.Core.{Option, none, some, Option·getD, Option·elim, Option·none-ne-some, Option·some-injective, ⊎-elim, arith, getD, eqb}
-use Rattle.lists.specs.Core.{eq-eqb}
-use Rattle.lists.specs.Numbers.{true-or-false}
-use Rattle.lists.specs.Members.{Each, each-all}
-use Rattle.lists.specs.FirstPlace.{firstPlace, changeFirst}
+use Rattle.basics.specs.Core.{ℕ, zero, suc, _≤_, _≡_, refl, sym, ap, _∙_, subst, Bool, true, false, cond, not, _&&_, true≢false, List, [], _∷_, map}
+use Rattle.basics.specs.Core.{Option, none, some, Option·getD, Option·elim, Option·none-ne-some, Option·some-injective, ⊎-elim, arith, getD, eqb}
+use Rattle.basics.specs.Core.{eq-eqb}
+use Rattle.basics.specs.Numbers.{true-or-false}
+use Rattle.basics.specs.Members.{Each, each-all}
+use Rattle.basics.specs.FirstPlace.{firstPlace, changeFirst}
 use Rattle.model.specs.declared.Refusal.the-variants.{NotPermitted}
 use Rattle.model.specs.declared.Answer.{Answer}
 use Rattle.model.specs.declared.Answer.the-variants.{Cost, Refused}

@@ -1,8 +1,8 @@
 -- The calls of a sitting, beside the theorems on all calls and those on sequences of acts (document 02, §4): the number and the cost of a reply are
 -- those of the answer, `reply-gives`; after a refusal the list of seats at exit is the lent one, `refused-seats`; which acts leave the list, and
 -- which have the same reply with every list; and when a sitting counts as open or closed, `phase-opened`, `phase-closed`.
-use Rattle.lists.specs.Core.{ℕ, _≡_, refl, ap, Bool, true, false, cond, false≢true, _↔_, ⊎-elim, List, [], arith, eqb, eqb-true, eq-eqb, ne-eqb}
-use Rattle.lists.specs.Numbers.{true-or-false}
+use Rattle.basics.specs.Core.{ℕ, _≡_, refl, ap, Bool, true, false, cond, false≢true, _↔_, ⊎-elim, List, [], arith, eqb, eqb-true, eq-eqb, ne-eqb}
+use Rattle.basics.specs.Numbers.{true-or-false}
 use Rattle.model.specs.declared.Refusal.{Refusal}
 use Rattle.model.specs.declared.Answer.{Answer}
 use Rattle.model.specs.declared.Answer.the-variants.{Cost, Refused}

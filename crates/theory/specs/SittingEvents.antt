@@ -1,10 +1,10 @@
 -- What an act of a sitting can do, by the rules that its answer has passed (document 02, §4): `Possible` says which events can happen in a state,
 -- and what an act does is one of them, `acts-possible`.
-use Rattle.lists.specs.Core.{ℕ, _<_, _≡_, refl, sym, ap, _∙_, Bool, true, false, not, _&&_, true≢false, List, [], _∷_, _++_, map, ⊎-elim, leb, eqb}
-use Rattle.lists.specs.Core.{not-false, leb-false}
-use Rattle.lists.specs.Numbers.{true-or-false}
-use Rattle.lists.specs.Tests.{or-left, or-right, and-left, and-right, allOf}
-use Rattle.lists.specs.FirstPlace.{occurs}
+use Rattle.basics.specs.Core.{ℕ, _<_, _≡_, refl, sym, ap, _∙_, Bool, true, false, not, _&&_, true≢false, List, [], _∷_, _++_, map, ⊎-elim, leb, eqb}
+use Rattle.basics.specs.Core.{not-false, leb-false}
+use Rattle.basics.specs.Numbers.{true-or-false}
+use Rattle.basics.specs.Tests.{or-left, or-right, and-left, and-right, allOf}
+use Rattle.basics.specs.FirstPlace.{occurs}
 use Rattle.model.specs.declared.Refusal.{Refusal}
 use Rattle.model.specs.declared.Answer.{Answer}
 use Rattle.model.specs.declared.Answer.the-variants.{Cost, Refused}

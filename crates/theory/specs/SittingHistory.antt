@@ -1,13 +1,13 @@
 -- When the state of a sitting is that of a history, a list of events (document 02, §4): `Joined`, and of its seats `SeatsTold`. Then both give the
 -- same facts, `joined-agrees`. The state after an opening is that of every history that ends with it, `opening-joined`, and it stays so with
 -- everything that can happen, `event-joined`.
-use Rattle.lists.specs.Core.{ℕ, _+_, _≤_, _<_, _≡_, refl, sym, ap, _∙_, true, false, not, true≢false, List, [], _∷_, map, headD, flatMap, Option}
-use Rattle.lists.specs.Core.{none, some, ⊎-elim, le-refl, arith, length, getD, length-map, List·getD-eq-default, leb, eqb, lt-ltb, le-ltb, le-leb}
-use Rattle.lists.specs.Core.{lt-leb, eqb-true, eqb-false, ne-eqb}
-use Rattle.lists.specs.Numbers.{true-or-false, le-or-lt}
-use Rattle.lists.specs.Lists.{keep}
-use Rattle.lists.specs.FirstPlace.{occurs, countOf, firstPlace, changeFirst, occurs-count, place-beyond, length-change, count-taken}
-use Rattle.lists.specs.FirstPlace.{change-found, change-occurs, change-counts, change-adds, change-apart, change-first}
+use Rattle.basics.specs.Core.{ℕ, _+_, _≤_, _<_, _≡_, refl, sym, ap, _∙_, true, false, not, true≢false, List, [], _∷_, map, headD, flatMap, Option}
+use Rattle.basics.specs.Core.{none, some, ⊎-elim, le-refl, arith, length, getD, length-map, List·getD-eq-default, leb, eqb, lt-ltb, le-ltb, le-leb}
+use Rattle.basics.specs.Core.{lt-leb, eqb-true, eqb-false, ne-eqb}
+use Rattle.basics.specs.Numbers.{true-or-false, le-or-lt}
+use Rattle.basics.specs.Lists.{keep}
+use Rattle.basics.specs.FirstPlace.{occurs, countOf, firstPlace, changeFirst, occurs-count, place-beyond, length-change, count-taken}
+use Rattle.basics.specs.FirstPlace.{change-found, change-occurs, change-counts, change-adds, change-apart, change-first}
 use Rattle.model.specs.Acts.{isUnopened, Event, nothingDone, openingDone, seatingDone, closingDone, submissionCounted, submissionMarked}
 use Rattle.model.specs.SittingState.{Place, State, isFor, emptyPlace, seatedPlace, markedPlace, factsOf, lowerOf, after}
 use Rattle.model.specs.Sittings.{effectOf, isOpening, isSubmission, seatedBy, costsOf, sinceOpening, lastOpening}

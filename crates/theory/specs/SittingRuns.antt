@@ -1,7 +1,7 @@
 -- Any sequence of acts of a sitting that starts afresh is told what the rules tell from the history alone (document 02, §4): `any-sequence`. What a
 -- call leaves holds the state that the transition makes of the one handed to it: `transition`.
-use Rattle.lists.specs.Core.{ℕ, _≡_, refl, sym, ap, _∙_, subst, false, true≢false, List, [], _∷_, length, length-map}
-use Rattle.lists.specs.FirstPlace.{occurs}
+use Rattle.basics.specs.Core.{ℕ, _≡_, refl, sym, ap, _∙_, subst, false, true≢false, List, [], _∷_, length, length-map}
+use Rattle.basics.specs.FirstPlace.{occurs}
 use Rattle.model.specs.declared.Answer.{Answer}
 use Rattle.model.specs.declared.Seat.{Seat}
 use Rattle.model.specs.declared.Sitting.{Sitting}

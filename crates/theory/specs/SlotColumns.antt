@@ -1,7 +1,7 @@
 -- One slot's choice is the least over all places that serve, and the smallest place that attains it: `slot-best`, `column-best`. So a column rises
 -- with the place, by at most the switching price a module: `column-rises`, `column-slope`.
-use Rattle.lists.specs.Core.{ℕ, zero, suc, _+_, _-_, _*_, _≤_, _<_, _≡_, refl, sym, ap, _∙_, Bool, true, false, cond, false≢true, List}
-use Rattle.lists.specs.Core.{mul-le-mul-left, arith, length}
+use Rattle.basics.specs.Core.{ℕ, zero, suc, _+_, _-_, _*_, _≤_, _<_, _≡_, refl, sym, ap, _∙_, Bool, true, false, cond, false≢true, List}
+use Rattle.basics.specs.Core.{mul-le-mul-left, arith, length}
 use Rattle.model.specs.Instance.{Instance}
 use Rattle.model.specs.Counts.{canServe}
 use Rattle.model.specs.Thesis.{switchingPrice}

@@ -1,11 +1,11 @@
 -- Of all plans of least cost the one that the tie rule chooses is the smallest in every slot, `least-plan-smallest`, and no sheet that serves at
 -- the least cost has fewer modules active in a slot, `least-sheet-smallest`. The reason: of two plans the slot-wise smaller one and the slot-wise
 -- larger one together cost no more than the two, since the price of a rise is convex in the difference of two counts.
-use Rattle.lists.specs.Core.{ℕ, zero, suc, _+_, _-_, _≤_, _<_, min, max, _≡_, sym, _∙_, true, ⊎-elim, List, le-of-lt, min-le-left, min-le-right}
-use Rattle.lists.specs.Core.{min-eq-left, min-eq-right, max-eq-left, max-eq-right, mul-le-mul-left, arith, getD}
-use Rattle.lists.specs.Numbers.{le-or-lt}
-use Rattle.lists.specs.Sums.{sum, sum-mono, sum-add}
-use Rattle.lists.specs.Lists.{tabulate, length-tabulate, getD-tabulate}
+use Rattle.basics.specs.Core.{ℕ, zero, suc, _+_, _-_, _≤_, _<_, min, max, _≡_, sym, _∙_, true, ⊎-elim, List, le-of-lt, min-le-left, min-le-right}
+use Rattle.basics.specs.Core.{min-eq-left, min-eq-right, max-eq-left, max-eq-right, mul-le-mul-left, arith, getD}
+use Rattle.basics.specs.Numbers.{le-or-lt}
+use Rattle.basics.specs.Sums.{sum, sum-mono, sum-add}
+use Rattle.basics.specs.Lists.{tabulate, length-tabulate, getD-tabulate}
 use Rattle.model.specs.Instance.{Instance}
 use Rattle.model.specs.Counts.{canServe, operatingCost, allCounts}
 use Rattle.model.specs.Sheets.{serves, sheetCost, activeAt, countsOf}

@@ -1,9 +1,9 @@
 -- Switching between two rows of bytes: how many modules go on, at least as many as the count rises by, `started-at-least`, and between rows of
 -- plans just as many, `plan-started`; and what the changes cost, `change-cost`.
-use Rattle.lists.specs.Core.{ℕ, zero, suc, _+_, _-_, _*_, _≤_, _<_, _≡_, refl, ap, _∙_, Bool, true, false, cond, ⊎-elim, le-refl, le-of-lt, mul-zero}
-use Rattle.lists.specs.Core.{arith}
-use Rattle.lists.specs.Numbers.{le-or-lt}
-use Rattle.lists.specs.Sums.{sum, sum-mono, sum-add, sum-scale, sum-const, sum-balance}
+use Rattle.basics.specs.Core.{ℕ, zero, suc, _+_, _-_, _*_, _≤_, _<_, _≡_, refl, ap, _∙_, Bool, true, false, cond, ⊎-elim, le-refl, le-of-lt, mul-zero}
+use Rattle.basics.specs.Core.{arith}
+use Rattle.basics.specs.Numbers.{le-or-lt}
+use Rattle.basics.specs.Sums.{sum, sum-mono, sum-add, sum-scale, sum-const, sum-balance}
 use Rattle.model.specs.Instance.{Instance}
 use Rattle.model.specs.Sheets.{off, isOff, changeCost}
 use Rattle.model.specs.Plans.{moduleByte}

@@ -1,9 +1,9 @@
 -- The plan that is found digit by digit is the searched plan, `threshold-searched`, so it is the least plan by counts, `threshold-least`.
-use Rattle.lists.specs.Core.{ℕ, zero, suc, _^_, _≤_, _<_, _≡_, sym, ap, _∙_, ⊎-elim, List, [], le-of-lt, not-suc-le-zero, arith, getD, getD-at}
-use Rattle.lists.specs.Numbers.{le-or-lt}
-use Rattle.lists.specs.Backwards.{back-end, back-step}
-use Rattle.lists.specs.Lists.{equal-tabulate}
-use Rattle.lists.specs.Members.{snoc-before}
+use Rattle.basics.specs.Core.{ℕ, zero, suc, _^_, _≤_, _<_, _≡_, sym, ap, _∙_, ⊎-elim, List, [], le-of-lt, not-suc-le-zero, arith, getD, getD-at}
+use Rattle.basics.specs.Numbers.{le-or-lt}
+use Rattle.basics.specs.Backwards.{back-end, back-step}
+use Rattle.basics.specs.Lists.{equal-tabulate}
+use Rattle.basics.specs.Members.{snoc-before}
 use Rattle.model.specs.Instance.{Instance}
 use Rattle.thresholds.specs.Places.{countAtPlace, lastPlace, Ascending}
 use Rattle.thresholds.specs.Thresholds.{thresholdPlan}

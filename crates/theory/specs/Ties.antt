@@ -1,8 +1,8 @@
 -- The tie order of plans: the last slot in which two plans differ decides.
-use Rattle.lists.specs.Core.{ℕ, zero, suc, _≤_, _<_, _≡_, sym, _∙_, ⊎-elim, List, [], _∷_, _++_, not-suc-le-zero, le-antisymm, arith, length, getD}
-use Rattle.lists.specs.Core.{ext-getD, getD-at}
-use Rattle.lists.specs.Numbers.{le-or-lt}
-use Rattle.lists.specs.Members.{snoc-before}
+use Rattle.basics.specs.Core.{ℕ, zero, suc, _≤_, _<_, _≡_, sym, _∙_, ⊎-elim, List, [], _∷_, _++_, not-suc-le-zero, le-antisymm, arith, length, getD}
+use Rattle.basics.specs.Core.{ext-getD, getD-at}
+use Rattle.basics.specs.Numbers.{le-or-lt}
+use Rattle.basics.specs.Members.{snoc-before}
 
 -- The order `NotAfter` over the first t slots.
 abbrev pub NotAfterIn : ℕ → List ℕ → List ℕ → Type 0

@@ -1,8 +1,8 @@
 -- Lists of allowed counts that ascend from 0 to m, `Ascending`, how fast they grow, `GrowsBy`, and laws of their places. A place is an index of the
 -- list.
-use Rattle.lists.specs.Core.{ℕ, zero, suc, _+_, _-_, _*_, _≤_, _<_, _≡_, true, ⊎-elim, List, add-one, arith, length, getD, le-leb}
-use Rattle.lists.specs.Numbers.{le-or-lt}
-use Rattle.lists.specs.Members.{InOrder, rising-in-order, in-order-at, in-order-le}
+use Rattle.basics.specs.Core.{ℕ, zero, suc, _+_, _-_, _*_, _≤_, _<_, _≡_, true, ⊎-elim, List, add-one, arith, length, getD, le-leb}
+use Rattle.basics.specs.Numbers.{le-or-lt}
+use Rattle.basics.specs.Members.{InOrder, rising-in-order, in-order-at, in-order-le}
 use Rattle.model.specs.Instance.{Instance}
 use Rattle.model.specs.Counts.{canServe}
 

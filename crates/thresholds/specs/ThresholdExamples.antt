@@ -1,9 +1,9 @@
 -- Plans found digit by digit, beside the least plans by a dynamic program over columns, which were worked out apart from these
 -- definitions.
-use Rattle.lists.specs.Core.{ℕ, _-_, _≡_, refl, Bool, true, _&&_, List, [], _∷_, length, getD}
-use Rattle.lists.specs.Backwards.{fromEnd, backTo}
-use Rattle.lists.specs.Lists.{tabulate, sameList}
-use Rattle.lists.specs.Ranges.{leastOver}
+use Rattle.basics.specs.Core.{ℕ, _-_, _≡_, refl, Bool, true, _&&_, List, [], _∷_, length, getD}
+use Rattle.basics.specs.Backwards.{fromEnd, backTo}
+use Rattle.basics.specs.Lists.{tabulate, sameList}
+use Rattle.basics.specs.Ranges.{leastOver}
 use Rattle.model.specs.Instance.{Instance}
 use Rattle.model.specs.MoreLight.{leastFrom}
 use Rattle.model.specs.Counts.{canServe, operatingCost}

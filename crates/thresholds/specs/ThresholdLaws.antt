@@ -1,10 +1,10 @@
 -- Laws of what the search digit by digit computes: the verdict of a slot by cases, the bounds of sides and leads, `side-most`, `lead-most`,
 -- `carried-most`, and a round slot by slot.
-use Rattle.lists.specs.Core.{ℕ, suc, _+_, _-_, _≤_, _<_, _≡_, refl, sym, ap, _∙_, Bool, true, false, cond, List, ⊎-elim, le-of-lt, eq-or-lt-of-le}
-use Rattle.lists.specs.Core.{arith, leb, length, List·getD-eq-default, le-leb, lt-leb, eq-eqb, ne-eqb}
-use Rattle.lists.specs.Numbers.{le-or-lt, true-or-false}
-use Rattle.lists.specs.Lists.{tabulate, length-tabulate, getD-tabulate}
-use Rattle.lists.specs.Backwards.{back-end, back-step}
+use Rattle.basics.specs.Core.{ℕ, suc, _+_, _-_, _≤_, _<_, _≡_, refl, sym, ap, _∙_, Bool, true, false, cond, List, ⊎-elim, le-of-lt, eq-or-lt-of-le}
+use Rattle.basics.specs.Core.{arith, leb, length, List·getD-eq-default, le-leb, lt-leb, eq-eqb, ne-eqb}
+use Rattle.basics.specs.Numbers.{le-or-lt, true-or-false}
+use Rattle.basics.specs.Lists.{tabulate, length-tabulate, getD-tabulate}
+use Rattle.basics.specs.Backwards.{back-end, back-step}
 use Rattle.model.specs.Instance.{Instance}
 use Rattle.model.specs.Counts.{canServe, operatingCost}
 use Rattle.thresholds.specs.Places.{countAtPlace, lastPlace}

@@ -2,9 +2,9 @@
 -- plan is `threshold-plan` in theory. Level j lies between place j and place j + 1 of the list; a plan is above it in a slot if its place there is
 -- above j. A round with the width b knows of each slot's place that it is in the 2 b places from `plan t` on, and finds which half it is in:
 -- forward through the slots a side of one level for each, then backward the places.
-use Rattle.lists.specs.Core.{ℕ, zero, suc, _+_, _-_, _*_, _^_, min, cond, List, getD, replicate, leb, eqb}
-use Rattle.lists.specs.Lists.{tabulate}
-use Rattle.lists.specs.Backwards.{backTo}
+use Rattle.basics.specs.Core.{ℕ, zero, suc, _+_, _-_, _*_, _^_, min, cond, List, getD, replicate, leb, eqb}
+use Rattle.basics.specs.Lists.{tabulate}
+use Rattle.basics.specs.Backwards.{backTo}
 use Rattle.model.specs.Instance.{Instance}
 use Rattle.model.specs.Counts.{canServe, operatingCost}
 use Rattle.model.specs.Thesis.{switchingPrice}

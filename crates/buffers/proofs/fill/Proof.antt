@@ -1,6 +1,6 @@
-use Rattle.lists.specs.Core.{_-_, refl, _∙_, arith, length}
-use Rattle.lists.specs.Lists.{tabulate-constant}
-use Rattle.lists.specs.Filling.{Upto, upto-none, upto-more, upto-all}
+use Rattle.basics.specs.Core.{_-_, refl, _∙_, arith, length}
+use Rattle.basics.specs.Lists.{tabulate-constant}
+use Rattle.basics.specs.Filling.{Upto, upto-none, upto-more, upto-all}
 use Rattle.buffers.proofs.fill.Statement.{statement}
 use Rattle.buffers.proofs.fill.Tie as tie
 

@@ -1,5 +1,5 @@
-use Rattle.lists.specs.Core.{arith, needs}
-use Rattle.lists.specs.Writing.{written-one}
+use Rattle.basics.specs.Core.{arith, needs}
+use Rattle.basics.specs.Writing.{written-one}
 use Rattle.buffers.proofs.put.Statement.{statement}
 use Rattle.buffers.proofs.put.Tie as tie
 

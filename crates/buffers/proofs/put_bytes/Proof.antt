@@ -1,5 +1,5 @@
-use Rattle.lists.specs.Core.{_-_, arith, length}
-use Rattle.lists.specs.Writing.{RowsWritten, elementText, whole-room, whole-written, rows-none, rows-room, rows-more, rows-all}
+use Rattle.basics.specs.Core.{_-_, arith, length}
+use Rattle.basics.specs.Writing.{RowsWritten, elementText, whole-room, whole-written, rows-none, rows-room, rows-more, rows-all}
 use Rattle.buffers.proofs.put_bytes.Statement.{statement}
 use Rattle.buffers.proofs.put_bytes.Tie as tie
 

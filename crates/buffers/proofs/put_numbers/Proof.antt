@@ -1,6 +1,6 @@
-use Rattle.lists.specs.Core.{_-_, arith, length, getD, needs}
-use Rattle.lists.specs.Writing.{RowsWritten, rows-none, rows-room, rows-more, rows-all}
-use Rattle.lists.specs.Bytes.{bytesOf}
+use Rattle.basics.specs.Core.{_-_, arith, length, getD, needs}
+use Rattle.basics.specs.Writing.{RowsWritten, rows-none, rows-room, rows-more, rows-all}
+use Rattle.basics.specs.Bytes.{bytesOf}
 use Rattle.buffers.proofs.put_numbers.Statement.{statement}
 use Rattle.buffers.proofs.put_numbers.Tie as tie
 

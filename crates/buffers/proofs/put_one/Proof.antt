@@ -1,5 +1,5 @@
-use Rattle.lists.specs.Core.{needs}
-use Rattle.lists.specs.Bytes.{bytesOf}
+use Rattle.basics.specs.Core.{needs}
+use Rattle.basics.specs.Bytes.{bytesOf}
 use Rattle.buffers.proofs.put_one.Statement.{statement}
 use Rattle.buffers.proofs.put_one.Tie as tie
 

@@ -1,4 +1,4 @@
-use Rattle.lists.specs.Core.{needs}
+use Rattle.basics.specs.Core.{needs}
 use Rattle.buffers.proofs.Joined.{low-room, high-room, both-written}
 use Rattle.buffers.proofs.put_two.Statement.{statement}
 use Rattle.buffers.proofs.put_two.Tie as tie

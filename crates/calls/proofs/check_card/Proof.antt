@@ -1,4 +1,4 @@
-use Rattle.lists.specs.Core.{sym, needs}
+use Rattle.basics.specs.Core.{sym, needs}
 use Rattle.card.proofs.Groups.{accepted-answer, refused-answer}
 use Rattle.calls.proofs.check_card.Statement.{statement}
 use Rattle.calls.proofs.check_card.Tie as tie

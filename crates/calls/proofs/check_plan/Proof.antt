@@ -1,7 +1,7 @@
-use Rattle.lists.specs.Tests.{test-failed, test-passed}
+use Rattle.basics.specs.Tests.{test-failed, test-passed}
 use Rattle.card.proofs.Sizes.{sheet-size-fits}
 use Rattle.calls.proofs.Making.{make-short, make-length, make-entries, make-load, plan-ready, make-cost}
-use Rattle.lists.specs.Core.{needs}
+use Rattle.basics.specs.Core.{needs}
 use Rattle.calls.proofs.check_plan.Statement.{statement}
 use Rattle.calls.proofs.check_plan.Tie as tie
 

@@ -1,5 +1,5 @@
 use Rattle.calls.proofs.Making.{made-ready, made-written, made-kept}
-use Rattle.lists.specs.Core.{needs}
+use Rattle.basics.specs.Core.{needs}
 use Rattle.calls.proofs.make_sheet_on.Statement.{statement}
 use Rattle.calls.proofs.make_sheet_on.Tie as tie
 

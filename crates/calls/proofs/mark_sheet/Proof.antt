@@ -1,6 +1,6 @@
 use Rattle.card.proofs.Groups.{ready}
 use Rattle.calls.proofs.Marking.{mark-refused}
-use Rattle.lists.specs.Core.{needs}
+use Rattle.basics.specs.Core.{needs}
 use Rattle.calls.proofs.mark_sheet.Statement.{statement}
 use Rattle.calls.proofs.mark_sheet.Tie as tie
 

@@ -1,7 +1,7 @@
-use Rattle.lists.specs.Tests.{test-failed, test-passed}
+use Rattle.basics.specs.Tests.{test-failed, test-passed}
 use Rattle.card.proofs.Sizes.{sheet-size-fits}
 use Rattle.calls.proofs.Marking.{mark-length, sized, mark-entries, sheet-ready, mark-light, mark-cost}
-use Rattle.lists.specs.Core.{needs}
+use Rattle.basics.specs.Core.{needs}
 use Rattle.calls.proofs.mark_sheet_on.Statement.{statement}
 use Rattle.calls.proofs.mark_sheet_on.Tie as tie
 

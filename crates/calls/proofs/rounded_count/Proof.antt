@@ -1,5 +1,5 @@
-use Rattle.lists.specs.Core.{ℕ, _≤_, _≡_, true, needs}
-use Rattle.lists.specs.Tests.{test-failed, test-passed}
+use Rattle.basics.specs.Core.{ℕ, _≤_, _≡_, true, needs}
+use Rattle.basics.specs.Tests.{test-failed, test-passed}
 use Rattle.model.specs.Instance.{rackNumber}
 use Rattle.laws.specs.Acceptance.{rack-range}
 use Rattle.laws.specs.RoundedAnswers.{round-rack, round-entry, round-cost}

@@ -1,6 +1,6 @@
 use Rattle.card.proofs.Groups.{ready}
 use Rattle.calls.proofs.RunningCost.{pair-refused}
-use Rattle.lists.specs.Core.{needs}
+use Rattle.basics.specs.Core.{needs}
 use Rattle.calls.proofs.running_cost.Statement.{statement}
 use Rattle.calls.proofs.running_cost.Tie as tie
 

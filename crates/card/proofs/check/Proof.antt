@@ -1,7 +1,7 @@
 use Rattle.card.specs.Fields.{Sized}
 use Rattle.card.proofs.CardTests.{front-length, size-of}
 use Rattle.card.proofs.Groups.{front-refused, size-refused, body-refused, passed-convex, all-passed}
-use Rattle.lists.specs.Core.{needs}
+use Rattle.basics.specs.Core.{needs}
 use Rattle.card.proofs.check.Statement.{statement}
 use Rattle.card.proofs.check.Tie as tie
 

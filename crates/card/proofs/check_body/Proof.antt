@@ -1,6 +1,6 @@
-use Rattle.lists.specs.Tests.{test-failed, test-passed}
+use Rattle.basics.specs.Tests.{test-failed, test-passed}
 use Rattle.card.proofs.CardTests.{body-up, body-down, body-table, body-not-convex, body-load, body-passed}
-use Rattle.lists.specs.Core.{needs}
+use Rattle.basics.specs.Core.{needs}
 use Rattle.card.proofs.check_body.Statement.{statement}
 use Rattle.card.proofs.check_body.Tie as tie
 

@@ -1,5 +1,5 @@
-use Rattle.lists.specs.Core.{needs}
-use Rattle.lists.specs.Tests.{test-failed, test-passed}
+use Rattle.basics.specs.Core.{needs}
+use Rattle.basics.specs.Tests.{test-failed, test-passed}
 use Rattle.card.proofs.CardTests.{front-short, front-unmarked, front-version, front-passed}
 use Rattle.card.proofs.check_front.Statement.{statement}
 use Rattle.card.proofs.check_front.Tie as tie

@@ -1,6 +1,6 @@
-use Rattle.lists.specs.Tests.{test-failed, test-passed}
+use Rattle.basics.specs.Tests.{test-failed, test-passed}
 use Rattle.card.proofs.CardTests.{size-rack, size-slots, size-length, size-passed}
-use Rattle.lists.specs.Core.{needs}
+use Rattle.basics.specs.Core.{needs}
 use Rattle.card.proofs.check_size.Statement.{statement}
 use Rattle.card.proofs.check_size.Tie as tie
 

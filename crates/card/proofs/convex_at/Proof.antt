@@ -1,5 +1,5 @@
 use Rattle.model.specs.Instance.{convexAt}
-use Rattle.lists.specs.Core.{needs}
+use Rattle.basics.specs.Core.{needs}
 use Rattle.card.proofs.convex_at.Statement.{statement}
 use Rattle.card.proofs.convex_at.Tie as tie
 

@@ -1,5 +1,5 @@
 use Rattle.model.specs.Instance.{instanceOf}
-use Rattle.lists.specs.Core.{needs}
+use Rattle.basics.specs.Core.{needs}
 use Rattle.card.proofs.entry.Statement.{statement}
 use Rattle.card.proofs.entry.Tie as tie
 

@@ -1,4 +1,4 @@
-use Rattle.lists.specs.Core.{needs}
+use Rattle.basics.specs.Core.{needs}
 use Rattle.card.proofs.Mark.{mark-first, mark-second, mark-third}
 use Rattle.card.proofs.has_mark.Statement.{statement}
 use Rattle.card.proofs.has_mark.Tie as tie

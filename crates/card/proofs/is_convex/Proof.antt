@@ -1,5 +1,5 @@
-use Rattle.lists.specs.Core.{_-_, arith}
-use Rattle.lists.specs.Tests.{Passed, passed-none, passed-more, passed-all, passed-not, test-failed, test-passed}
+use Rattle.basics.specs.Core.{_-_, arith}
+use Rattle.basics.specs.Tests.{Passed, passed-none, passed-more, passed-all, passed-not, test-failed, test-passed}
 use Rattle.model.specs.Instance.{instanceOf, convexAt, convex}
 use Rattle.card.proofs.is_convex.Statement.{statement}
 use Rattle.card.proofs.is_convex.Tie as tie

@@ -1,4 +1,4 @@
-use Rattle.lists.specs.Core.{arith, needs}
+use Rattle.basics.specs.Core.{arith, needs}
 use Rattle.card.proofs.FieldsRead.{read-at}
 use Rattle.model.specs.Instance.{instanceOf}
 use Rattle.card.proofs.load.Statement.{statement}

@@ -1,4 +1,4 @@
-use Rattle.lists.specs.Core.{_-_, arith}
+use Rattle.basics.specs.Core.{_-_, arith}
 use Rattle.model.specs.Instance.{instanceOf}
 use Rattle.card.proofs.Lowest.{Fallen, fallen-none, fallen-more, fallen-found}
 use Rattle.card.proofs.lowest_step.Statement.{statement}

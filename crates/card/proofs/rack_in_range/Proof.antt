@@ -1,5 +1,5 @@
-use Rattle.lists.specs.Tests.{test-failed, test-passed}
-use Rattle.lists.specs.Core.{needs}
+use Rattle.basics.specs.Tests.{test-failed, test-passed}
+use Rattle.basics.specs.Core.{needs}
 use Rattle.card.proofs.rack_in_range.Statement.{statement}
 use Rattle.card.proofs.rack_in_range.Tie as tie
 

@@ -1,4 +1,4 @@
-use Rattle.lists.specs.Core.{le-leb, lt-leb}
+use Rattle.basics.specs.Core.{le-leb, lt-leb}
 use Rattle.card.proofs.rack_number.Statement.{statement}
 use Rattle.card.proofs.rack_number.Tie as tie
 

@@ -1,4 +1,4 @@
-use Rattle.lists.specs.Core.{needs, refl, arith}
+use Rattle.basics.specs.Core.{needs, refl, arith}
 use Rattle.model.specs.Instance.{instanceOf}
 use Rattle.card.proofs.FieldsRead.{read-at}
 use Rattle.card.proofs.read_header.Statement.{statement}

@@ -1,5 +1,5 @@
-use Rattle.lists.specs.Core.{_+_, _-_, arith, leb, le-leb, lt-leb}
-use Rattle.lists.specs.Tests.{Passed, passed-none, passed-more, passed-all, passed-not}
+use Rattle.basics.specs.Core.{_+_, _-_, arith, leb, le-leb, lt-leb}
+use Rattle.basics.specs.Tests.{Passed, passed-none, passed-more, passed-all, passed-not}
 use Rattle.model.specs.Instance.{instanceOf, tableInRange}
 use Rattle.card.proofs.table_in_range.Statement.{statement}
 use Rattle.card.proofs.table_in_range.Tie as tie

@@ -1,5 +1,5 @@
-use Rattle.lists.specs.Core.{arith, needs}
-use Rattle.lists.specs.Tests.{test-failed, test-passed}
+use Rattle.basics.specs.Core.{arith, needs}
+use Rattle.basics.specs.Tests.{test-failed, test-passed}
 use Rattle.laws.specs.Acceptance.{rack-range}
 use Rattle.catalogue.proofs.CatalogueAnswers.{top-refused, short-refused, table-given}
 use Rattle.catalogue.proofs.catalogue_table.Statement.{statement}

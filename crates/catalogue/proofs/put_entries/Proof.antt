@@ -1,5 +1,5 @@
-use Rattle.lists.specs.Core.{sym, length-take-le, needs}
-use Rattle.lists.specs.Writing.{written-start}
+use Rattle.basics.specs.Core.{sym, length-take-le, needs}
+use Rattle.basics.specs.Writing.{written-start}
 use Rattle.catalogue.proofs.CatalogueAnswers.{entries-room}
 use Rattle.catalogue.proofs.put_entries.Statement.{statement}
 use Rattle.catalogue.proofs.put_entries.Tie as tie

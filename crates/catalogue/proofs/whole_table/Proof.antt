@@ -1,5 +1,5 @@
-use Rattle.lists.specs.Core.{refl}
-use Rattle.lists.specs.Tests.{every}
+use Rattle.basics.specs.Core.{refl}
+use Rattle.basics.specs.Tests.{every}
 use Rattle.model.specs.Instance.{convex, convexAt, neverFalls}
 use Rattle.model.specs.Catalogue.{catalogueEntry, followsRule}
 use Rattle.catalogue.proofs.whole_table.Statement.{statement}

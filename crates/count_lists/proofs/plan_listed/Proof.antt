@@ -1,6 +1,6 @@
 use Rattle.card.proofs.Groups.{ready}
 use Rattle.planners.proofs.Planning.{plan-refused}
-use Rattle.lists.specs.Core.{needs}
+use Rattle.basics.specs.Core.{needs}
 use Rattle.count_lists.proofs.plan_listed.Statement.{statement}
 use Rattle.count_lists.proofs.plan_listed.Tie as tie
 

@@ -1,5 +1,5 @@
 use Rattle.count_lists.proofs.Listed.{broken, asked-fits, too-short, over-list, done}
-use Rattle.lists.specs.Core.{needs}
+use Rattle.basics.specs.Core.{needs}
 use Rattle.count_lists.proofs.plan_listed_on.Statement.{statement}
 use Rattle.count_lists.proofs.plan_listed_on.Tie as tie
 

@@ -1,4 +1,4 @@
-use Rattle.lists.specs.Core.{sym, length-take-le, needs}
+use Rattle.basics.specs.Core.{sym, length-take-le, needs}
 use Rattle.planners.proofs.Searched.{few-counts}
 use Rattle.count_lists.proofs.Widened.{copy-is, copy-within, copy-length}
 use Rattle.count_lists.proofs.plan_over_list.Statement.{statement}

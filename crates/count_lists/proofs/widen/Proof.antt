@@ -1,5 +1,5 @@
-use Rattle.lists.specs.Core.{_-_, refl, arith, length, getD, needs}
-use Rattle.lists.specs.Filling.{Upto, upto-none, upto-more}
+use Rattle.basics.specs.Core.{_-_, refl, arith, length, getD, needs}
+use Rattle.basics.specs.Filling.{Upto, upto-none, upto-more}
 use Rattle.count_lists.proofs.Widened.{copied}
 use Rattle.count_lists.proofs.widen.Statement.{statement}
 use Rattle.count_lists.proofs.widen.Tie as tie

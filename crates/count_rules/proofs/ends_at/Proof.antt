@@ -1,4 +1,4 @@
-use Rattle.lists.specs.Core.{_-_, arith, length, needs, lt-leb}
+use Rattle.basics.specs.Core.{_-_, arith, length, needs, lt-leb}
 use Rattle.model.specs.CountRules.{endsAt}
 use Rattle.count_rules.proofs.Rules.{too-many, not-from-zero, from-zero}
 use Rattle.count_rules.proofs.ends_at.Statement.{statement}

@@ -1,4 +1,4 @@
-use Rattle.lists.specs.Core.{arith, needs}
+use Rattle.basics.specs.Core.{arith, needs}
 use Rattle.count_rules.proofs.Rules.{product-small}
 use Rattle.count_rules.proofs.gap_grows.Statement.{statement}
 use Rattle.count_rules.proofs.gap_grows.Tie as tie

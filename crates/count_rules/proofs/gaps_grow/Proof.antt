@@ -1,5 +1,5 @@
-use Rattle.lists.specs.Core.{_+_, _-_, _*_, arith, length, leb, needs}
-use Rattle.lists.specs.Tests.{Passed, passed-none, passed-more, passed-all, passed-not, test-failed, test-passed}
+use Rattle.basics.specs.Core.{_+_, _-_, _*_, arith, length, leb, needs}
+use Rattle.basics.specs.Tests.{Passed, passed-none, passed-more, passed-all, passed-not, test-failed, test-passed}
 use Rattle.model.specs.CountRules.{gapAfter, gapsGrowBy}
 use Rattle.count_rules.proofs.Rules.{rising}
 use Rattle.count_rules.proofs.gaps_grow.Statement.{statement}

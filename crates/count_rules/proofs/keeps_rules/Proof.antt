@@ -1,5 +1,5 @@
-use Rattle.lists.specs.Core.{_∙_, arith, needs}
-use Rattle.lists.specs.Tests.{test-failed, test-passed}
+use Rattle.basics.specs.Core.{_∙_, arith, needs}
+use Rattle.basics.specs.Tests.{test-failed, test-passed}
 use Rattle.count_rules.proofs.Rules.{ends-two, ratio-most, wrong-ends, not-ascending, wrong-ratio, first-high, gaps-decide}
 use Rattle.count_rules.proofs.keeps_rules.Statement.{statement}
 use Rattle.count_rules.proofs.keeps_rules.Tie as tie

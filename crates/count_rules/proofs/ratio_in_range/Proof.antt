@@ -1,4 +1,4 @@
-use Rattle.lists.specs.Core.{lt-leb, le-leb}
+use Rattle.basics.specs.Core.{lt-leb, le-leb}
 use Rattle.model.specs.CountRules.{ratioInRange}
 use Rattle.count_rules.proofs.ratio_in_range.Statement.{statement}
 use Rattle.count_rules.proofs.ratio_in_range.Tie as tie

@@ -1,5 +1,5 @@
-use Rattle.lists.specs.Core.{_+_, _-_, arith, length, getD, ltb, needs, le-ltb, lt-ltb}
-use Rattle.lists.specs.Tests.{Passed, passed-none, passed-more, passed-all, passed-not}
+use Rattle.basics.specs.Core.{_+_, _-_, arith, length, getD, ltb, needs, le-ltb, lt-ltb}
+use Rattle.basics.specs.Tests.{Passed, passed-none, passed-more, passed-all, passed-not}
 use Rattle.model.specs.CountRules.{strictlyAscends}
 use Rattle.count_rules.proofs.strictly_ascends.Statement.{statement}
 use Rattle.count_rules.proofs.strictly_ascends.Tie as tie

@@ -1,4 +1,4 @@
-use Rattle.lists.specs.Core.{arith}
+use Rattle.basics.specs.Core.{arith}
 use Rattle.laws.specs.RoundedCounts.{printed-zero, printed-one, printed-value, above-printed}
 use Rattle.counts.proofs.case_value.Statement.{statement}
 use Rattle.counts.proofs.case_value.Tie as tie

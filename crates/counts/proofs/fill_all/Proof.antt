@@ -1,4 +1,4 @@
-use Rattle.lists.specs.Core.{sym, length-take-le, needs}
+use Rattle.basics.specs.Core.{sym, length-take-le, needs}
 use Rattle.counts.proofs.CountsWritten.{all-written}
 use Rattle.counts.proofs.fill_all.Statement.{statement}
 use Rattle.counts.proofs.fill_all.Tie as tie

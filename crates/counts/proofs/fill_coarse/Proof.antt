@@ -1,4 +1,4 @@
-use Rattle.lists.specs.Core.{arith, length-append, length-take, length-drop, length-set, needs}
+use Rattle.basics.specs.Core.{arith, length-append, length-take, length-drop, length-set, needs}
 use Rattle.counts.proofs.Powers.{Coarse, coarse-known}
 use Rattle.counts.proofs.CountsWritten.{power-done, other-done}
 use Rattle.counts.proofs.fill_coarse.Statement.{statement}

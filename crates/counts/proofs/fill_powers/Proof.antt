@@ -1,5 +1,5 @@
-use Rattle.lists.specs.Core.{_-_, _^_, arith, length}
-use Rattle.lists.specs.Filling.{Upto, upto-none, upto-more, upto-all}
+use Rattle.basics.specs.Core.{_-_, _^_, arith, length}
+use Rattle.basics.specs.Filling.{Upto, upto-none, upto-more, upto-all}
 use Rattle.counts.specs.AllowedCounts.{firstPowers}
 use Rattle.counts.proofs.fill_powers.Statement.{statement}
 use Rattle.counts.proofs.fill_powers.Tie as tie

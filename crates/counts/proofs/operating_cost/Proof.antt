@@ -1,4 +1,4 @@
-use Rattle.lists.specs.Core.{le-of-lt, arith, needs}
+use Rattle.basics.specs.Core.{le-of-lt, arith, needs}
 use Rattle.model.specs.Instance.{instanceOf}
 use Rattle.card.proofs.FieldsThere.{entry-there}
 use Rattle.card.proofs.Lowest.{lowest-in-table}

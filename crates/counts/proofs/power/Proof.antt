@@ -1,4 +1,4 @@
-use Rattle.lists.specs.Core.{arith, needs}
+use Rattle.basics.specs.Core.{arith, needs}
 use lib.Pow.{pow-mono}
 use Rattle.counts.proofs.Powers.{table-entry}
 use Rattle.counts.proofs.power.Statement.{statement}

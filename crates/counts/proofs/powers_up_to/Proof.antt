@@ -1,5 +1,5 @@
 use lib.Count.{leading-le}
-use Rattle.lists.specs.Core.{needs}
+use Rattle.basics.specs.Core.{needs}
 use Rattle.counts.proofs.powers_up_to.Statement.{statement}
 use Rattle.counts.proofs.powers_up_to.Tie as tie
 

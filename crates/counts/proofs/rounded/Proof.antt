@@ -1,4 +1,4 @@
-use Rattle.lists.specs.Core.{ℕ, min, _≡_, arith, needs}
+use Rattle.basics.specs.Core.{ℕ, min, _≡_, arith, needs}
 use Rattle.model.specs.Counts.{roundedCount, printedCases, caseValue, roundedByCases}
 use Rattle.laws.specs.RoundedCounts.{rounded-by-cases}
 use Rattle.counts.specs.AllowedCounts.{RackCount}

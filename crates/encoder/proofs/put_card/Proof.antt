@@ -1,4 +1,4 @@
-use Rattle.lists.specs.Core.{needs}
+use Rattle.basics.specs.Core.{needs}
 use Rattle.encoder.proofs.CardParts.{front-room, sizes-room, prices-room, table-room, loads-room, card-written}
 use Rattle.encoder.proofs.put_card.Statement.{statement}
 use Rattle.encoder.proofs.put_card.Tie as tie

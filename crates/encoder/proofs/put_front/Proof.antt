@@ -1,6 +1,6 @@
-use Rattle.lists.specs.Core.{needs}
-use Rattle.lists.specs.Bytes.{bytesOf}
-use Rattle.lists.specs.Writing.{written-more}
+use Rattle.basics.specs.Core.{needs}
+use Rattle.basics.specs.Bytes.{bytesOf}
+use Rattle.basics.specs.Writing.{written-more}
 use Rattle.encoder.proofs.put_front.Statement.{statement}
 use Rattle.encoder.proofs.put_front.Tie as tie
 

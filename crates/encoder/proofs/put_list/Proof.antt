@@ -1,6 +1,6 @@
-use Rattle.lists.specs.Core.{_-_, arith, getD, needs}
-use Rattle.lists.specs.Bytes.{bytesOf}
-use Rattle.lists.specs.Writing.{RowsWritten, rows-none, rows-room, rows-more, rows-all}
+use Rattle.basics.specs.Core.{_-_, arith, getD, needs}
+use Rattle.basics.specs.Bytes.{bytesOf}
+use Rattle.basics.specs.Writing.{RowsWritten, rows-none, rows-room, rows-more, rows-all}
 use Rattle.encoder.specs.Shows.{bytesIn}
 use Rattle.encoder.proofs.put_list.Statement.{statement}
 use Rattle.encoder.proofs.put_list.Tie as tie

@@ -1,4 +1,4 @@
-use Rattle.lists.specs.Core.{needs}
+use Rattle.basics.specs.Core.{needs}
 use Rattle.encoder.proofs.put_number.Statement.{statement}
 use Rattle.encoder.proofs.put_number.Tie as tie
 

@@ -1,5 +1,5 @@
-use Rattle.lists.specs.Core.{needs}
-use Rattle.lists.specs.Writing.{room-first, room-rest, written-more}
+use Rattle.basics.specs.Core.{needs}
+use Rattle.basics.specs.Writing.{room-first, room-rest, written-more}
 use Rattle.encoder.proofs.put_sizes.Statement.{statement}
 use Rattle.encoder.proofs.put_sizes.Tie as tie
 

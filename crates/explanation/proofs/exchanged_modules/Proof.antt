@@ -1,5 +1,5 @@
-use Rattle.lists.specs.Core.{_-_, arith, length}
-use Rattle.lists.specs.Summing.{summed-none}
+use Rattle.basics.specs.Core.{_-_, arith, length}
+use Rattle.basics.specs.Summing.{summed-none}
 use Rattle.explanation.proofs.Exchanging.{Counted, next-fits, start-fits, row-fits, end-fits, row-end, next-end}
 use Rattle.explanation.proofs.Exchanging.{next-short, rows-paired, rise-there, total-fits, change-counted, all-counted}
 use Rattle.explanation.proofs.exchanged_modules.Statement.{statement}

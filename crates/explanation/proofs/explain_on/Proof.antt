@@ -1,5 +1,5 @@
 use Rattle.explanation.proofs.Explaining.{refused-short, refused-sheet, sheet-marked, work-lent, explained}
-use Rattle.lists.specs.Core.{needs}
+use Rattle.basics.specs.Core.{needs}
 use Rattle.explanation.proofs.explain_on.Statement.{statement}
 use Rattle.explanation.proofs.explain_on.Tie as tie
 

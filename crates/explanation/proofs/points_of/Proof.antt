@@ -1,4 +1,4 @@
-use Rattle.lists.specs.Core.{sym, _∙_, length-take-le, needs}
+use Rattle.basics.specs.Core.{sym, _∙_, length-take-le, needs}
 use Rattle.explanation.proofs.Explaining.{slots-most}
 use Rattle.explanation.proofs.points_of.Statement.{statement}
 use Rattle.explanation.proofs.points_of.Tie as tie

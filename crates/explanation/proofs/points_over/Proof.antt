@@ -1,6 +1,6 @@
 use Rattle.explanation.proofs.ThreeNumbers.{counts-room, counts-known, price-fits, swaps-fits, plan-ready, planned-below, swaps-below}
 use Rattle.explanation.proofs.ThreeNumbers.{buffers-ready, least-below, three-numbers}
-use Rattle.lists.specs.Core.{needs}
+use Rattle.basics.specs.Core.{needs}
 use Rattle.explanation.proofs.points_over.Statement.{statement}
 use Rattle.explanation.proofs.points_over.Tie as tie
 

@@ -1,4 +1,4 @@
-use Rattle.lists.specs.Core.{needs}
+use Rattle.basics.specs.Core.{needs}
 use Rattle.explanation.proofs.refused.Statement.{statement}
 use Rattle.explanation.proofs.refused.Tie as tie
 

@@ -1,5 +1,5 @@
-use Rattle.lists.specs.Core.{_-_, arith, length, getD, needs}
-use Rattle.lists.specs.Summing.{Summed, summed-none, summed-more, summed-all, summed-room}
+use Rattle.basics.specs.Core.{_-_, arith, length, getD, needs}
+use Rattle.basics.specs.Summing.{Summed, summed-none, summed-more, summed-all, summed-room}
 use Rattle.explanation.specs.Exchanges.{startOf, rowStarts}
 use Rattle.explanation.proofs.RowCounts.{start-each}
 use Rattle.explanation.proofs.row_starts.Statement.{statement}

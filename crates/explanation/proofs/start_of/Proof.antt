@@ -1,5 +1,5 @@
 use Rattle.explanation.proofs.RowCounts.{start-off, start-none}
-use Rattle.lists.specs.Core.{needs}
+use Rattle.basics.specs.Core.{needs}
 use Rattle.explanation.proofs.start_of.Statement.{statement}
 use Rattle.explanation.proofs.start_of.Tie as tie
 

@@ -1,5 +1,5 @@
-use Rattle.lists.specs.Core.{_-_, arith, length}
-use Rattle.lists.specs.Filling.{upto-none}
+use Rattle.basics.specs.Core.{_-_, arith, length}
+use Rattle.basics.specs.Filling.{upto-none}
 use Rattle.explanation.proofs.WritingCounts.{Written, row-end, row-fits, start-fits, short, count-written, counts-written}
 use Rattle.explanation.proofs.write_counts.Statement.{statement}
 use Rattle.explanation.proofs.write_counts.Tie as tie

@@ -1,5 +1,5 @@
 use Rattle.lamp.proofs.Promised.{catalogued}
-use Rattle.lists.specs.Core.{needs}
+use Rattle.basics.specs.Core.{needs}
 use Rattle.lamp.proofs.lamp_catalogue_table.Statement.{statement}
 use Rattle.lamp.proofs.lamp_catalogue_table.Tie as tie
 

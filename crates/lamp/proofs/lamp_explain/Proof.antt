@@ -1,5 +1,5 @@
 use Rattle.lamp.proofs.Promised.{explains}
-use Rattle.lists.specs.Core.{needs}
+use Rattle.basics.specs.Core.{needs}
 use Rattle.lamp.proofs.lamp_explain.Statement.{statement}
 use Rattle.lamp.proofs.lamp_explain.Tie as tie
 

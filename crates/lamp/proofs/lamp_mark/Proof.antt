@@ -1,5 +1,5 @@
 use Rattle.lamp.proofs.Promised.{marks}
-use Rattle.lists.specs.Core.{needs}
+use Rattle.basics.specs.Core.{needs}
 use Rattle.lamp.proofs.lamp_mark.Statement.{statement}
 use Rattle.lamp.proofs.lamp_mark.Tie as tie
 

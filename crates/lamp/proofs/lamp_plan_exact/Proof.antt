@@ -1,6 +1,6 @@
 use Rattle.model.specs.Planners.{exact}
 use Rattle.lamp.proofs.Promised.{plans}
-use Rattle.lists.specs.Core.{needs}
+use Rattle.basics.specs.Core.{needs}
 use Rattle.lamp.proofs.lamp_plan_exact.Statement.{statement}
 use Rattle.lamp.proofs.lamp_plan_exact.Tie as tie
 

@@ -1,5 +1,5 @@
 use Rattle.lamp.proofs.Promised.{plans-listed}
-use Rattle.lists.specs.Core.{needs}
+use Rattle.basics.specs.Core.{needs}
 use Rattle.lamp.proofs.lamp_plan_groups.Statement.{statement}
 use Rattle.lamp.proofs.lamp_plan_groups.Tie as tie
 

@@ -1,5 +1,5 @@
 use Rattle.lamp.proofs.Promised.{practises}
-use Rattle.lists.specs.Core.{needs}
+use Rattle.basics.specs.Core.{needs}
 use Rattle.lamp.proofs.lamp_practice_card.Statement.{statement}
 use Rattle.lamp.proofs.lamp_practice_card.Tie as tie
 

@@ -1,5 +1,5 @@
 use Rattle.lamp.proofs.Promised.{gives-as}
-use Rattle.lists.specs.Core.{needs}
+use Rattle.basics.specs.Core.{needs}
 use Rattle.lamp.proofs.lamp_rounded_count.Statement.{statement}
 use Rattle.lamp.proofs.lamp_rounded_count.Tie as tie
 

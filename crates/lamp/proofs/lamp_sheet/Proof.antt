@@ -1,5 +1,5 @@
 use Rattle.lamp.proofs.Promised.{makes}
-use Rattle.lists.specs.Core.{needs}
+use Rattle.basics.specs.Core.{needs}
 use Rattle.lamp.proofs.lamp_sheet.Statement.{statement}
 use Rattle.lamp.proofs.lamp_sheet.Tie as tie
 

@@ -1,5 +1,5 @@
 use Rattle.lamp.proofs.Promised.{refused-numbers}
-use Rattle.lists.specs.Core.{needs}
+use Rattle.basics.specs.Core.{needs}
 use Rattle.lamp.proofs.to_c.Statement.{statement}
 use Rattle.lamp.proofs.to_c.Tie as tie
 

@@ -1,5 +1,5 @@
-use Rattle.lists.specs.Core.{[], _∷_, arith, ℕ, _%_, _<_, needs}
-use Rattle.lists.specs.Writing.{room-less, room-first, room-rest, written-more}
+use Rattle.basics.specs.Core.{[], _∷_, arith, ℕ, _%_, _<_, needs}
+use Rattle.basics.specs.Writing.{room-less, room-first, room-rest, written-more}
 use Rattle.model.specs.Listing.{digit}
 use Rattle.listing.proofs.Digits.{decimal-one, decimal-more}
 use borrow.Fn.Kinds.{In}

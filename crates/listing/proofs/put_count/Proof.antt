@@ -1,5 +1,5 @@
-use Rattle.lists.specs.Writing.{written-more}
-use Rattle.lists.specs.Core.{needs}
+use Rattle.basics.specs.Writing.{written-more}
+use Rattle.basics.specs.Core.{needs}
 use Rattle.listing.proofs.put_count.Statement.{statement}
 use Rattle.listing.proofs.put_count.Tie as tie
 

@@ -1,5 +1,5 @@
-use Rattle.lists.specs.Core.{_-_, arith, length, getD}
-use Rattle.lists.specs.Writing.{RowsWritten, rows-none, rows-room, rows-more, rows-all}
+use Rattle.basics.specs.Core.{_-_, arith, length, getD}
+use Rattle.basics.specs.Writing.{RowsWritten, rows-none, rows-room, rows-more, rows-all}
 use Rattle.listing.specs.Texts.{countText}
 use Rattle.listing.proofs.put_counts.Statement.{statement}
 use Rattle.listing.proofs.put_counts.Tie as tie

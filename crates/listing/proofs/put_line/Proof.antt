@@ -1,5 +1,5 @@
-use Rattle.lists.specs.Writing.{room-first, room-rest, written-more}
-use Rattle.lists.specs.Core.{needs}
+use Rattle.basics.specs.Writing.{room-first, room-rest, written-more}
+use Rattle.basics.specs.Core.{needs}
 use Rattle.listing.proofs.put_line.Statement.{statement}
 use Rattle.listing.proofs.put_line.Tie as tie
 

@@ -1,6 +1,6 @@
-use Rattle.lists.specs.Writing.{room-first, room-rest, written-more}
+use Rattle.basics.specs.Writing.{room-first, room-rest, written-more}
 use Rattle.model.specs.Listing.{planLine}
-use Rattle.lists.specs.Core.{needs}
+use Rattle.basics.specs.Core.{needs}
 use Rattle.listing.proofs.put_plan.Statement.{statement}
 use Rattle.listing.proofs.put_plan.Tie as tie
 

@@ -1,5 +1,5 @@
-use Rattle.lists.specs.Core.{_-_, arith}
-use Rattle.lists.specs.Writing.{RowsWritten, rows-none, rows-room, rows-more, rows-all}
+use Rattle.basics.specs.Core.{_-_, arith}
+use Rattle.basics.specs.Writing.{RowsWritten, rows-none, rows-room, rows-more, rows-all}
 use Rattle.listing.specs.Texts.{sheetLine}
 use Rattle.listing.proofs.SheetRows.{row-in-sheet, row-line}
 use Rattle.listing.proofs.put_sheet.Statement.{statement}

@@ -1,5 +1,5 @@
-use Rattle.lists.specs.Core.{arith, needs}
-use Rattle.lists.specs.Writing.{room-less, room-first, room-rest, written-more}
+use Rattle.basics.specs.Core.{arith, needs}
+use Rattle.basics.specs.Writing.{room-less, room-first, room-rest, written-more}
 use Rattle.model.specs.Listing.{newline, slotLine}
 use Rattle.listing.proofs.put_slot.Statement.{statement}
 use Rattle.listing.proofs.put_slot.Tie as tie

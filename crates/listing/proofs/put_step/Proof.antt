@@ -1,5 +1,5 @@
-use Rattle.lists.specs.Core.{arith, needs}
-use Rattle.lists.specs.Writing.{room-less}
+use Rattle.basics.specs.Core.{arith, needs}
+use Rattle.basics.specs.Writing.{room-less}
 use Rattle.listing.proofs.StepTexts.{step-off, step-on, step-some}
 use Rattle.listing.proofs.put_step.Statement.{statement}
 use Rattle.listing.proofs.put_step.Tie as tie

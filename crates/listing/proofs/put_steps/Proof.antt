@@ -1,6 +1,6 @@
-use Rattle.lists.specs.Core.{_-_, arith, length, getD}
-use Rattle.lists.specs.Parts.{getD-within}
-use Rattle.lists.specs.Writing.{RowsWritten, rows-none, rows-room, rows-more, rows-all}
+use Rattle.basics.specs.Core.{_-_, arith, length, getD}
+use Rattle.basics.specs.Parts.{getD-within}
+use Rattle.basics.specs.Writing.{RowsWritten, rows-none, rows-room, rows-more, rows-all}
 use Rattle.model.specs.Sheets.{off}
 use Rattle.listing.specs.Texts.{moduleText}
 use Rattle.listing.proofs.put_steps.Statement.{statement}

@@ -1,7 +1,7 @@
-use Rattle.lists.specs.Writing.{Room, room-first, room-rest, written-more, written-start}
+use Rattle.basics.specs.Writing.{Room, room-first, room-rest, written-more, written-start}
 use Rattle.model.specs.Listing.{costLine, listing}
 use Rattle.listing.proofs.Lengths.{listing-room}
-use Rattle.lists.specs.Core.{needs}
+use Rattle.basics.specs.Core.{needs}
 use Rattle.listing.proofs.write_listing.Statement.{statement}
 use Rattle.listing.proofs.write_listing.Tie as tie
 

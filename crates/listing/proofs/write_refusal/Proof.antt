@@ -1,7 +1,7 @@
-use Rattle.lists.specs.Writing.{written-start}
+use Rattle.basics.specs.Writing.{written-start}
 use Rattle.model.specs.Listing.{refusedLine}
 use Rattle.listing.proofs.Lengths.{refusal-room}
-use Rattle.lists.specs.Core.{needs}
+use Rattle.basics.specs.Core.{needs}
 use Rattle.listing.proofs.write_refusal.Statement.{statement}
 use Rattle.listing.proofs.write_refusal.Tie as tie
 

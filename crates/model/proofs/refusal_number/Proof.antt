@@ -1,4 +1,4 @@
-use Rattle.lists.specs.Core.{needs}
+use Rattle.basics.specs.Core.{needs}
 use Rattle.model.proofs.refusal_number.Statement.{statement}
 use Rattle.model.proofs.refusal_number.Tie as tie
 

@@ -1,5 +1,5 @@
 use Rattle.model.specs.Planners.{allowedCounts}
-use Rattle.lists.specs.Core.{needs}
+use Rattle.basics.specs.Core.{needs}
 use Rattle.planners.proofs.fill_counts.Statement.{statement}
 use Rattle.planners.proofs.fill_counts.Tie as tie
 

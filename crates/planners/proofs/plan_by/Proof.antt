@@ -1,4 +1,4 @@
-use Rattle.lists.specs.Core.{arith, needs}
+use Rattle.basics.specs.Core.{arith, needs}
 use Rattle.model.specs.Planners.{allowedCounts}
 use Rattle.planners.proofs.Fronts.{front-within, front-length}
 use Rattle.planners.proofs.Planning.{rack-fits, kind-ready, kind-written}

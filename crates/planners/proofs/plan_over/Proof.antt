@@ -1,4 +1,4 @@
-use Rattle.lists.specs.Core.{sym, length-take-le, needs}
+use Rattle.basics.specs.Core.{sym, length-take-le, needs}
 use Rattle.planners.proofs.Searched.{plan-long, work-long, searchable, made-within, made-length, made-ready, least-written}
 use Rattle.planners.proofs.plan_over.Statement.{statement}
 use Rattle.planners.proofs.plan_over.Tie as tie

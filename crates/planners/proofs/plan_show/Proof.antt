@@ -1,6 +1,6 @@
 use Rattle.card.proofs.Groups.{ready}
 use Rattle.planners.proofs.Planning.{plan-refused}
-use Rattle.lists.specs.Core.{needs}
+use Rattle.basics.specs.Core.{needs}
 use Rattle.planners.proofs.plan_show.Statement.{statement}
 use Rattle.planners.proofs.plan_show.Tie as tie
 

@@ -1,4 +1,4 @@
-use Rattle.lists.specs.Core.{needs}
+use Rattle.basics.specs.Core.{needs}
 use Rattle.planners.proofs.short_for.Statement.{statement}
 use Rattle.planners.proofs.short_for.Tie as tie
 

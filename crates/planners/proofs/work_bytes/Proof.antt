@@ -1,6 +1,6 @@
 use Rattle.model.specs.Planners.{workBytes}
 use Rattle.card.proofs.Sizes.{work-size-fits, exact-size, coarse-size}
-use Rattle.lists.specs.Core.{needs}
+use Rattle.basics.specs.Core.{needs}
 use Rattle.planners.proofs.work_bytes.Statement.{statement}
 use Rattle.planners.proofs.work_bytes.Tie as tie
 

@@ -1,5 +1,5 @@
-use Rattle.lists.specs.Core.{_-_, _≡_, refl, arith, length, needs}
-use Rattle.lists.specs.Summing.{Summed, summed-none, summed-more, summed-all, summed-room}
+use Rattle.basics.specs.Core.{_-_, _≡_, refl, arith, length, needs}
+use Rattle.basics.specs.Summing.{Summed, summed-none, summed-more, summed-all, summed-room}
 use Rattle.model.specs.Instance.{instanceOf}
 use Rattle.model.specs.Thesis.{countAt, countsCost}
 use Rattle.laws.specs.Acceptance.{accepted-bounds}

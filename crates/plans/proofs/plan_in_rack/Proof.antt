@@ -1,5 +1,5 @@
-use Rattle.lists.specs.Core.{_-_, arith, length, getD, leb, needs}
-use Rattle.lists.specs.Tests.{Passed, passed-none, passed-more, passed-all, passed-not}
+use Rattle.basics.specs.Core.{_-_, arith, length, getD, leb, needs}
+use Rattle.basics.specs.Tests.{Passed, passed-none, passed-more, passed-all, passed-not}
 use Rattle.model.specs.Instance.{instanceOf}
 use Rattle.model.specs.Plans.{planInRack}
 use Rattle.plans.proofs.Loads.{in-slots, no-more-slots, rack-failed, rack-passed}

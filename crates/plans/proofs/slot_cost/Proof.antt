@@ -1,4 +1,4 @@
-use Rattle.lists.specs.Core.{arith, needs}
+use Rattle.basics.specs.Core.{arith, needs}
 use Rattle.laws.specs.Acceptance.{accepted-bounds}
 use Rattle.counts.proofs.Shares.{operating-most}
 use Rattle.plans.proofs.SlotCosts.{switching-most, slot-kept, slot-raised}

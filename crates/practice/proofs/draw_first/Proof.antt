@@ -1,4 +1,4 @@
-use Rattle.lists.specs.Core.{needs}
+use Rattle.basics.specs.Core.{needs}
 use Rattle.practice.proofs.DrawnFields.{first-drawn}
 use Rattle.practice.proofs.draw_first.Statement.{statement}
 use Rattle.practice.proofs.draw_first.Tie as tie

@@ -1,4 +1,4 @@
-use Rattle.lists.specs.Core.{_-_, arith, needs}
+use Rattle.basics.specs.Core.{_-_, arith, needs}
 use Rattle.practice.proofs.LoadsLoop.{LoadsSoFar, full-range, load-place, loads-start, loads-turn, loads-end}
 use Rattle.practice.proofs.draw_loads.Statement.{statement}
 use Rattle.practice.proofs.draw_loads.Tie as tie

@@ -1,4 +1,4 @@
-use Rattle.lists.specs.Core.{_-_, arith, needs}
+use Rattle.basics.specs.Core.{_-_, arith, needs}
 use Rattle.practice.proofs.TableLoop.{TableSoFar, entry-place, stored, difference-small, entry-small, table-starts, table-turns, table-ends}
 use Rattle.practice.proofs.draw_table.Statement.{statement}
 use Rattle.practice.proofs.draw_table.Tie as tie

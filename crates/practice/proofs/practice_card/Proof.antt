@@ -1,4 +1,4 @@
-use Rattle.lists.specs.Core.{arith, needs}
+use Rattle.basics.specs.Core.{arith, needs}
 use Rattle.practice.proofs.PracticeAnswers.{zero-refused, short-refused, card-given, length-is, card-room, from-start}
 use Rattle.practice.proofs.practice_card.Statement.{statement}
 use Rattle.practice.proofs.practice_card.Tie as tie

@@ -1,4 +1,4 @@
-use Rattle.lists.specs.Core.{refl}
+use Rattle.basics.specs.Core.{refl}
 use Rattle.model.specs.Practice.{xorLeft, xorRight, draw}
 use Rattle.practice.proofs.xorshift.Statement.{statement}
 use Rattle.practice.proofs.xorshift.Tie as tie

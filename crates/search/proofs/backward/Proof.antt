@@ -1,4 +1,4 @@
-use Rattle.lists.specs.Core.{_-_, refl, arith}
+use Rattle.basics.specs.Core.{_-_, refl, arith}
 use Rattle.search.proofs.BackwardWalk.{BackwardLoop, backward-starts, backward-turns, backward-ends, byte-raised}
 use Rattle.search.proofs.backward.Statement.{statement}
 use Rattle.search.proofs.backward.Tie as tie

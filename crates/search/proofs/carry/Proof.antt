@@ -1,4 +1,4 @@
-use Rattle.lists.specs.Core.{sym, arith}
+use Rattle.basics.specs.Core.{sym, arith}
 use Rattle.thresholds.specs.ThresholdLaws.{carried-same, carried-above, carried-below}
 use Rattle.search.proofs.carry.Statement.{statement}
 use Rattle.search.proofs.carry.Tie as tie

@@ -1,4 +1,4 @@
-use Rattle.lists.specs.Core.{_-_, refl, arith, length}
+use Rattle.basics.specs.Core.{_-_, refl, arith, length}
 use Rattle.model.specs.Instance.{instanceOf}
 use Rattle.card.proofs.FieldsThere.{load-there}
 use Rattle.search.proofs.ForwardWalk.{ForwardLoop, forward-starts, carried-small, forward-turns, forward-ends}

@@ -1,4 +1,4 @@
-use Rattle.lists.specs.Core.{sym}
+use Rattle.basics.specs.Core.{sym}
 use Rattle.thresholds.specs.ThresholdLaws.{less-one, less-zero}
 use Rattle.search.proofs.is_less.Statement.{statement}
 use Rattle.search.proofs.is_less.Tie as tie

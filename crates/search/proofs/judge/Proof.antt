@@ -1,4 +1,4 @@
-use Rattle.lists.specs.Core.{sym, _∙_, arith, needs}
+use Rattle.basics.specs.Core.{sym, _∙_, arith, needs}
 use Rattle.counts.proofs.Shares.{operating-most}
 use Rattle.search.proofs.LevelPrices.{can-serve, cannot-serve, served-at, served-above, low-top, level-most}
 use Rattle.thresholds.specs.ThresholdLaws.{judge-beyond, judge-serves, judge-forced}

@@ -1,4 +1,4 @@
-use Rattle.lists.specs.Core.{arith, le-of-lt, needs}
+use Rattle.basics.specs.Core.{arith, le-of-lt, needs}
 use Rattle.search.proofs.LevelPrices.{price-most, price-beyond, price-there, price-fits}
 use Rattle.search.proofs.level_price.Statement.{statement}
 use Rattle.search.proofs.level_price.Tie as tie

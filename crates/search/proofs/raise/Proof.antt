@@ -1,4 +1,4 @@
-use Rattle.lists.specs.Core.{_+_, _-_, arith, needs}
+use Rattle.basics.specs.Core.{_+_, _-_, arith, needs}
 use Rattle.thresholds.specs.ThresholdLaws.{less-most}
 use Rattle.search.proofs.Verdicts.{raised-not, raised-up}
 use Rattle.search.proofs.raise.Statement.{statement}

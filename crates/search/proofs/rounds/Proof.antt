@@ -1,4 +1,4 @@
-use Rattle.lists.specs.Core.{arith}
+use Rattle.basics.specs.Core.{arith}
 use Rattle.model.specs.Instance.{instanceOf}
 use Rattle.search.proofs.RoundsWalk.{RoundsLoop, rounds-start, forward-ready, backward-ready, rounds-turn, rounds-end}
 use Rattle.search.proofs.rounds.Statement.{statement}

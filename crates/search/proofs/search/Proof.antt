@@ -1,4 +1,4 @@
-use Rattle.lists.specs.Core.{_≤_, sym, arith, length, length-take-le, needs}
+use Rattle.basics.specs.Core.{_≤_, sym, arith, length, length-take-le, needs}
 use Rattle.search.proofs.PlanFound.{rounds-ready, places-found, plan-found, cleared-whole}
 use Rattle.search.proofs.search.Statement.{statement}
 use Rattle.search.proofs.search.Tie as tie

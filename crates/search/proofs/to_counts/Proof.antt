@@ -1,5 +1,5 @@
-use Rattle.lists.specs.Core.{_-_, _<_, arith, length}
-use Rattle.lists.specs.Filling.{upto-none}
+use Rattle.basics.specs.Core.{_-_, _<_, arith, length}
+use Rattle.basics.specs.Filling.{upto-none}
 use Rattle.search.proofs.PlanFound.{CountsLoop, place-there, counts-turn, counts-end}
 use Rattle.search.proofs.to_counts.Statement.{statement}
 use Rattle.search.proofs.to_counts.Tie as tie

@@ -2,7 +2,7 @@
 use Rattle.seats.proofs.Kit.{_≡_, refl, sym, ap, subst, Bool, drop, some, none, ℕ, _+_, _<_, _^_, _*_, [], _∷_, List, length, arith, lit<, URA, fullShare, named, w64, tyInt, tyBool, Val, vint, vbool, vunit, SProp, id⊢, Lft, Share, ftrue, flft, fat, Memory, Routine, Heap, Tables, WpFn, Atoms, Fun, givenOf, tables, tablesOf, fmOf, Given, Item, ‵, _⊛_, _$_, _∵_, !, qed}
 use Rattle.seats.proofs.Kit.{move, frame, rewrite, feqI, suffices, done, look, init, store, store-raw, forget, stop, hop, from, lit, unit-lit, of-opd, and-then, no-more, bin, assigns, assigns-last, stays, leaves-loop, returns, enter, alloc1, alloc0, params1, pass1, pass0, whole, sub, look-in, owns, uint-vals, uint-tells, usize, RefT, at-last, Room, MutSlice, sliceVal, slice-vals}
 use Rattle.seats.proofs.Kit.{mut-slice-tells, plain, nothing, Triple, Meets, tripleOf, entered, cited, says, Stays, stay-slice, stay-none, goes-slice, goes-none, yes}
-use Rattle.lists.specs.Core.{min, min-le-right, le-refl, add-one, lt-ltb, le-ltb}
+use Rattle.basics.specs.Core.{min, min-le-right, le-refl, add-one, lt-ltb, le-ltb}
 use denote.Struct.Laws as LL
 use Rattle.model.specs.declared.Seat.{Seat}
 use Rattle.model.specs.SittingState.{emptySeat}

@@ -1,4 +1,4 @@
-use Rattle.lists.specs.Core.{eq-eqb, ne-eqb, needs}
+use Rattle.basics.specs.Core.{eq-eqb, ne-eqb, needs}
 use Rattle.seats.proofs.look.Statement.{statement}
 use Rattle.seats.proofs.look.Tie as tie
 

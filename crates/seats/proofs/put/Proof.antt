@@ -3,7 +3,7 @@ use Rattle.seats.proofs.Kit.{refl, sym, some, none, ℕ, _<_, _^_, _*_,
 use Rattle.seats.proofs.Kit.{move, frame, rewrite, feqI, suffices, done, look, init, store-raw, forget, stop, hop, from, lit, unit-lit, of-opd, bin, assigns-last, skips, returns, enter, alloc1, alloc0, params1, pass1, pass0, whole, sub, look-in, owns, uint-vals, uint-tells, usize, RefT, at-last, MutSlice, sliceVal, slice-vals}
 use Rattle.seats.proofs.Kit.{mut-slice-tells, plain, Meets, tripleOf, entered, says, Stays, stay-slice, stay-none, goes-slice, goes-none, yes}
 use denote.Struct.Laws as LL
-use Rattle.lists.specs.Core.{set-out}
+use Rattle.basics.specs.Core.{set-out}
 use Rattle.model.specs.declared.Seat.{Seat}
 use Rattle.model.proofs.Seat as S
 use Rattle.model.proofs.Seat.Laws as S′

@@ -2,7 +2,7 @@
 use Rattle.seats.proofs.Kit.{_∙_, drop, _≡_, refl, Bool, some, none, ℕ, suc, _<_, _^_, _*_, [], _∷_, List, length, T, URA, fullShare, named, w64, w16, tyBool, vint, vbool, hasTy, WT, SProp, emp, id⊢, Lft, Share, ftrue, flft, fat, Memory, Routine, Heap, Tables, WpFn, Atoms, Fun, factI, givenOf, tables, tablesOf, fmOf, Given, Item, ‵, _⊛_, _$_, _∵_, !, qed}
 use Rattle.seats.proofs.Kit.{move, frame, fjoin, rewrite, suffices, done, look, look-raw, init, store, forget, stop, hop, from, load, lit, of-opd, and-then, no-more, bin, land-last, stays, leaves-loop, returns, enter, alloc1, alloc0, params1, pass1, pass0, whole, sub, look-in, owns, Is, shows, uint-vals, uint-tells, u16, RefT, ShrSlice, sliceVal, slice-vals}
 use Rattle.seats.proofs.Kit.{shr-slice-tells, plain, peeks, nothing, Triple, Meets, tripleOf, entered, cited, says, Stays, stay-none-slice, stay-none, goes-none-slice, goes-none, yes}
-use Rattle.lists.specs.Core.{lt-ltb, le-ltb}
+use Rattle.basics.specs.Core.{lt-ltb, le-ltb}
 use denote.Struct.Laws as LL
 use Rattle.model.specs.declared.Seat.{Seat}
 use Rattle.model.proofs.Seat as S

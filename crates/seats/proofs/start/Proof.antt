@@ -1,4 +1,4 @@
-use Rattle.lists.specs.Core.{needs}
+use Rattle.basics.specs.Core.{needs}
 use Rattle.seats.proofs.start.Statement.{statement}
 use Rattle.seats.proofs.start.Tie as tie
 

@@ -1,4 +1,4 @@
-use Rattle.lists.specs.Core.{arith, needs}
+use Rattle.basics.specs.Core.{arith, needs}
 use Rattle.laws.specs.Acceptance.{accepted-bounds}
 use Rattle.sheets.proofs.SheetBytes.{step-there, cost-stopped, cost-started, cost-kept}
 use Rattle.sheets.proofs.byte_cost.Statement.{statement}

@@ -1,4 +1,4 @@
-use Rattle.lists.specs.Core.{sym, arith, length-take-le, needs}
+use Rattle.basics.specs.Core.{sym, arith, length-take-le, needs}
 use Rattle.sheets.proofs.Row.{row-filled}
 use Rattle.sheets.proofs.fill_slot.Statement.{statement}
 use Rattle.sheets.proofs.fill_slot.Tie as tie

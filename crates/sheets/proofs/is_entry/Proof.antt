@@ -1,5 +1,5 @@
 use Rattle.sheets.proofs.SheetBytes.{off-entry, active-entry}
-use Rattle.lists.specs.Core.{needs}
+use Rattle.basics.specs.Core.{needs}
 use Rattle.sheets.proofs.is_entry.Statement.{statement}
 use Rattle.sheets.proofs.is_entry.Tie as tie
 

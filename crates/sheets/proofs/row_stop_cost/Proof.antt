@@ -1,5 +1,5 @@
-use Rattle.lists.specs.Core.{_-_, arith, length, getD, needs}
-use Rattle.lists.specs.Summing.{Summed, summed-none, summed-more, summed-all, summed-room}
+use Rattle.basics.specs.Core.{_-_, arith, length, getD, needs}
+use Rattle.basics.specs.Summing.{Summed, summed-none, summed-more, summed-all, summed-room}
 use Rattle.sheets.specs.Marks.{stopCost, rowStopCost}
 use Rattle.sheets.proofs.SheetBytes.{stop-each}
 use Rattle.sheets.proofs.row_stop_cost.Statement.{statement}

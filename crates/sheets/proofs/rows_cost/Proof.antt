@@ -1,5 +1,5 @@
-use Rattle.lists.specs.Core.{_-_, arith, length, getD}
-use Rattle.lists.specs.Summing.{Summed, summed-none, summed-more, summed-all, summed-room}
+use Rattle.basics.specs.Core.{_-_, arith, length, getD}
+use Rattle.basics.specs.Summing.{Summed, summed-none, summed-more, summed-all, summed-room}
 use Rattle.model.specs.Instance.{instanceOf}
 use Rattle.sheets.specs.Marks.{byteCost, bytesCost, byteAt}
 use Rattle.sheets.proofs.SheetBytes.{byte-ready, bytes-each}

@@ -1,4 +1,4 @@
-use Rattle.lists.specs.Core.{_+_, _*_, _≤_, arith, needs}
+use Rattle.basics.specs.Core.{_+_, _*_, _≤_, arith, needs}
 use Rattle.sheets.proofs.Totals.{first-inside, earlier-inside, earlier-fits, first-counted, earlier-counted, first-ready, later-ready}
 use Rattle.sheets.proofs.Totals.{rows-paired, last-priced, rows-fit, total-small, sheet-empty, sheet-whole}
 use Rattle.sheets.proofs.sheet_cost.Statement.{statement}

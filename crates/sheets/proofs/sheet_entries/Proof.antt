@@ -1,5 +1,5 @@
-use Rattle.lists.specs.Core.{_-_, arith, length, getD, needs}
-use Rattle.lists.specs.Tests.{Passed, passed-none, passed-more, passed-all, passed-not}
+use Rattle.basics.specs.Core.{_-_, arith, length, getD, needs}
+use Rattle.basics.specs.Tests.{Passed, passed-none, passed-more, passed-all, passed-not}
 use Rattle.model.specs.Instance.{instanceOf}
 use Rattle.model.specs.Sheets.{isEntry, off, sheetEntries}
 use Rattle.sheets.proofs.SheetBytes.{entry-failed, entry-passed}

@@ -1,5 +1,5 @@
-use Rattle.lists.specs.Core.{suc, _-_, arith, leb, needs}
-use Rattle.lists.specs.Tests.{Passed, passed-none, passed-more, passed-all, passed-not}
+use Rattle.basics.specs.Core.{suc, _-_, arith, leb, needs}
+use Rattle.basics.specs.Tests.{Passed, passed-none, passed-more, passed-all, passed-not}
 use Rattle.model.specs.Instance.{instanceOf}
 use Rattle.model.specs.Sheets.{lightAt, sheetLight}
 use Rattle.card.proofs.FieldsThere.{sized, in-header, past-header}

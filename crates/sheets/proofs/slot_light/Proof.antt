@@ -1,5 +1,5 @@
-use Rattle.lists.specs.Core.{_-_, arith, length, getD, needs}
-use Rattle.lists.specs.Summing.{Summed, summed-none, summed-more, summed-all, summed-most, summed-room}
+use Rattle.basics.specs.Core.{_-_, arith, length, getD, needs}
+use Rattle.basics.specs.Summing.{Summed, summed-none, summed-more, summed-all, summed-most, summed-room}
 use Rattle.model.specs.Sheets.{stepOf}
 use Rattle.sheets.specs.Marks.{rowLight}
 use Rattle.sheets.proofs.SheetBytes.{step-each}

@@ -1,4 +1,4 @@
-use Rattle.lists.specs.Core.{_-_, arith, length, needs}
+use Rattle.basics.specs.Core.{_-_, arith, length, needs}
 use Rattle.model.specs.Instance.{instanceOf}
 use Rattle.plans.proofs.Loads.{in-slots, no-more-slots, slot-load-there}
 use Rattle.sheets.proofs.RowPlaces.{row-there, row-small, row-fits}

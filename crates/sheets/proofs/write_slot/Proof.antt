@@ -1,4 +1,4 @@
-use Rattle.lists.specs.Core.{le-of-lt, arith, needs}
+use Rattle.basics.specs.Core.{le-of-lt, arith, needs}
 use Rattle.counts.proofs.Shares.{rest-below, step-small}
 use Rattle.sheets.proofs.Row.{active-fits, row-off, row-shared}
 use Rattle.sheets.proofs.write_slot.Statement.{statement}

@@ -1,5 +1,5 @@
 use Rattle.sitting.proofs.Replies.{giving-cost, giving-refusal}
-use Rattle.lists.specs.Core.{needs}
+use Rattle.basics.specs.Core.{needs}
 use Rattle.sitting.proofs.reply_giving.Statement.{statement}
 use Rattle.sitting.proofs.reply_giving.Tie as tie
 

@@ -1,4 +1,4 @@
-use Rattle.lists.specs.Core.{needs}
+use Rattle.basics.specs.Core.{needs}
 use Rattle.card.proofs.FieldsRead.{read-join}
 use Rattle.card.proofs.Cursor.four.Statement.{statement}
 use Rattle.card.proofs.Cursor.four.Tie as tie

@@ -1,4 +1,4 @@
-use Rattle.lists.specs.Core.{needs, arith}
+use Rattle.basics.specs.Core.{needs, arith}
 use Rattle.card.proofs.FieldsRead.{read-one}
 use Rattle.card.proofs.Cursor.one.Statement.{statement}
 use Rattle.card.proofs.Cursor.one.Tie as tie

@@ -1,5 +1,5 @@
 use Rattle.sitting.proofs.Replies.{closing-refused, closing-done}
-use Rattle.lists.specs.Core.{needs}
+use Rattle.basics.specs.Core.{needs}
 use Rattle.sitting.proofs.close.closing.Statement.{statement}
 use Rattle.sitting.proofs.close.closing.Tie as tie
 

@@ -1,6 +1,6 @@
 use Rattle.card.proofs.Groups.{ready}
 use Rattle.sitting.proofs.Openings.{opening-on}
-use Rattle.lists.specs.Core.{needs}
+use Rattle.basics.specs.Core.{needs}
 use Rattle.sitting.proofs.open.answer_opening.Statement.{statement}
 use Rattle.sitting.proofs.open.answer_opening.Tie as tie
 

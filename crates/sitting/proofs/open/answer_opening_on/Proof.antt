@@ -1,7 +1,7 @@
-use Rattle.lists.specs.Tests.{test-failed, test-passed}
+use Rattle.basics.specs.Tests.{test-failed, test-passed}
 use Rattle.planners.proofs.Planning.{buffers-given}
 use Rattle.sitting.proofs.Openings.{opening-short, opening-barred, opening-spent, opening-planned}
-use Rattle.lists.specs.Core.{needs}
+use Rattle.basics.specs.Core.{needs}
 use Rattle.sitting.proofs.open.answer_opening_on.Statement.{statement}
 use Rattle.sitting.proofs.open.answer_opening_on.Tie as tie
 

@@ -1,5 +1,5 @@
 use Rattle.sitting.proofs.Openings.{opening-refused, opening-done}
-use Rattle.lists.specs.Core.{needs}
+use Rattle.basics.specs.Core.{needs}
 use Rattle.sitting.proofs.open.opening.Statement.{statement}
 use Rattle.sitting.proofs.open.opening.Tie as tie
 

@@ -1,4 +1,4 @@
-use Rattle.lists.specs.Core.{eq-eqb, ne-eqb, lt-ltb, le-ltb, needs}
+use Rattle.basics.specs.Core.{eq-eqb, ne-eqb, lt-ltb, le-ltb, needs}
 use Rattle.model.specs.Acts.{actSpec}
 use Rattle.model.specs.Specs.{firstOf}
 use Rattle.model.specs.Sittings.{answerTo}

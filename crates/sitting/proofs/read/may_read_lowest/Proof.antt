@@ -1,4 +1,4 @@
-use Rattle.lists.specs.Core.{eq-eqb, ne-eqb, needs}
+use Rattle.basics.specs.Core.{eq-eqb, ne-eqb, needs}
 use Rattle.sitting.proofs.read.may_read_lowest.Statement.{statement}
 use Rattle.sitting.proofs.read.may_read_lowest.Tie as tie
 

@@ -1,4 +1,4 @@
-use Rattle.lists.specs.Core.{eq-eqb, ne-eqb}
+use Rattle.basics.specs.Core.{eq-eqb, ne-eqb}
 use Rattle.sitting.specs.Seen.{unseated}
 use Rattle.sitting.proofs.read.no_seat.Statement.{statement}
 use Rattle.sitting.proofs.read.no_seat.Tie as tie

@@ -1,10 +1,10 @@
-use Rattle.lists.specs.Tests.{test-failed, test-passed}
+use Rattle.basics.specs.Tests.{test-failed, test-passed}
 use Rattle.model.specs.Acts.{actSpec}
 use Rattle.model.specs.Specs.{firstOf}
 use Rattle.model.specs.Sittings.{answerTo}
 use Rattle.sitting.specs.Seen.{seen, unseated}
 use Rattle.sitting.proofs.Lowest.{lowest-refused, lowest-none, lowest-some}
-use Rattle.lists.specs.Core.{needs}
+use Rattle.basics.specs.Core.{needs}
 use Rattle.sitting.proofs.read.reading_lowest.Statement.{statement}
 use Rattle.sitting.proofs.read.reading_lowest.Tie as tie
 

@@ -1,5 +1,5 @@
 use Rattle.sitting.proofs.Replies.{used-reply}
-use Rattle.lists.specs.Core.{needs}
+use Rattle.basics.specs.Core.{needs}
 use Rattle.sitting.proofs.read.reading_used.Statement.{statement}
 use Rattle.sitting.proofs.read.reading_used.Tie as tie
 

@@ -1,5 +1,5 @@
 use Rattle.sitting.proofs.Replies.{seating-refused, seating-done}
-use Rattle.lists.specs.Core.{needs}
+use Rattle.basics.specs.Core.{needs}
 use Rattle.sitting.proofs.seat.seating.Statement.{statement}
 use Rattle.sitting.proofs.seat.seating.Tie as tie
 

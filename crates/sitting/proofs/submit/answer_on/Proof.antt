@@ -3,7 +3,7 @@ use Rattle.model.specs.Specs.{firstOf}
 use Rattle.laws.specs.SittingLaws.{submission-on-card}
 use Rattle.sitting.specs.Seen.{seen}
 use Rattle.sitting.proofs.Phases.{open-phase}
-use Rattle.lists.specs.Core.{eq-eqb, ne-eqb, lt-ltb, le-ltb, le-leb, lt-leb, needs}
+use Rattle.basics.specs.Core.{eq-eqb, ne-eqb, lt-ltb, le-ltb, le-leb, lt-leb, needs}
 use Rattle.sitting.proofs.Submissions.{refused-answered, marked-answered}
 use Rattle.sitting.proofs.submit.answer_on.Statement.{statement}
 use Rattle.sitting.proofs.submit.answer_on.Tie as tie

@@ -1,6 +1,6 @@
 use Rattle.card.proofs.Groups.{ready}
 use Rattle.sitting.proofs.Submissions.{card-answered}
-use Rattle.lists.specs.Core.{needs}
+use Rattle.basics.specs.Core.{needs}
 use Rattle.sitting.proofs.submit.answer_submission.Statement.{statement}
 use Rattle.sitting.proofs.submit.answer_submission.Tie as tie
 

@@ -1,5 +1,5 @@
 use Rattle.sitting.proofs.Submissions.{submitting-refused, submitting-marked}
-use Rattle.lists.specs.Core.{needs}
+use Rattle.basics.specs.Core.{needs}
 use Rattle.sitting.proofs.submit.submitting.Statement.{statement}
 use Rattle.sitting.proofs.submit.submitting.Tie as tie
 

@@ -1,4 +1,4 @@
-use Rattle.lists.specs.Core.{refl}
+use Rattle.basics.specs.Core.{refl}
 use Rattle.sitting.specs.Seen.{withSubmissions}
 use Rattle.sitting.proofs.submit.with_submissions.Statement.{statement}
 use Rattle.sitting.proofs.submit.with_submissions.Tie as tie

@@ -1,0 +1,22 @@
+-- General definitions and laws that know nothing of lamps, a module for each subject; Core hands on the names of the toolchain's libraries.
+pub mod Core
+pub mod Numbers
+pub mod Products
+pub mod Division
+pub mod Rising
+pub mod Backwards
+pub mod Tests
+pub mod Ranges
+pub mod Sums
+pub mod Summing
+pub mod Lists
+pub mod Text
+pub mod Members
+pub mod Bytes
+pub mod ExclusiveOr
+pub mod Filling
+pub mod Prefixes
+pub mod FirstPlace
+pub mod Parts
+pub mod Rows
+pub mod Writing
