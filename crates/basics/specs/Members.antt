@@ -1,8 +1,8 @@
 -- What holds of each element of a list, members of lists, and lists whose elements stand in order.
 use Rattle.basics.specs.Core.{ℕ, zero, suc, _+_, _≤_, _<_, _≡_, refl, sym, ap, _∙_, subst, Bool, true, false, cond, ⊎-elim, List, [], _∷_, _++_}
 use Rattle.basics.specs.Core.{map, flatMap, List·Memᴰ, List·Memᴰ·head, List·Memᴰ·tail, List·Memᴰ·not-nil, List·Memᴰ·cases-cons}
-use Rattle.basics.specs.Core.{List·Memᴰ·append-cases, Memᴰ·append-left, Memᴰ·append-right, not-suc-le-zero, le-of-suc-le-suc, le-of-lt, le-trans}
-use Rattle.basics.specs.Core.{add-one, arith, length, getD, length-append, List·getD-append}
+use Rattle.basics.specs.Core.{List·Memᴰ·append-cases, Memᴰ·append-left, Memᴰ·append-right, not-suc-le-zero, le-of-suc-le-suc, le-of-lt}
+use Rattle.basics.specs.Core.{le-trans, add-one, arith, length, getD, length-append, List·getD-append}
 use Rattle.basics.specs.Numbers.{le-or-lt}
 use Rattle.basics.specs.Rising.{rises-to}
 use Rattle.basics.specs.Tests.{allOf, and-left, and-right}

@@ -1,8 +1,8 @@
 -- The allowed counts as they are written over a list: all of them, or 0 at the first place, the powers of two after it, and m if it is
 -- no power.
 use Rattle.basics.specs.Core.{ℕ, zero, suc, _+_, _-_, _^_, _≤_, _<_, _≡_, sym, _∙_, ap, List, [], _∷_, _++_, append-assoc, add-one, arith, length}
-use Rattle.basics.specs.Core.{getD, take, drop, set, length-set, length-append, List·getD-append, length-take-le, take-suc-set, drop-set-lt, drop-cons}
-use Rattle.basics.specs.Core.{set-at, eq-eqb, ne-eqb}
+use Rattle.basics.specs.Core.{getD, take, drop, set, length-set, length-append, List·getD-append, length-take-le, take-suc-set, drop-set-lt}
+use Rattle.basics.specs.Core.{drop-cons, set-at, eq-eqb, ne-eqb}
 use borrow.Rule.Slice.PartMut.{putMid, midOf, mid-len, post-is}
 use Rattle.basics.specs.Lists.{tabulate, length-tabulate, getD-tabulate, writtenOver}
 use Rattle.model.specs.Counts.{allCounts, coarseCounts}

@@ -1,45 +1,36 @@
--- A card is written part by part: where there is room for the card, there is room for each part behind the ones before it.
-use Rattle.basics.specs.Core.{ℕ, _+_, _≤_, List, _++_, arith, length}
+-- A card is written part by part: its head, its table and its loads. Where there is room for the card, there is room for each part behind the ones
+-- before it.
+use Rattle.basics.specs.Core.{ℕ, _≡_, List, _++_, append-assoc}
 use Rattle.basics.specs.Writing.{Room, Written, room-first, room-rest, written-more}
 use Rattle.model.specs.Instance.{Instance, frontBytes, sizeBytes, priceBytes, tableBytes, loadBytes, cardBytes}
 use Rattle.encoder.specs.declared.Fields.{Fields}
-use Rattle.encoder.specs.Shows.{showOf, CardRoom}
+use Rattle.encoder.specs.Heads.{headOf, FieldsOf}
 
-module _ {f : Fields} {entries slotwise old : List ℕ} (given : CardRoom f entries slotwise old) where
-  abbrev i : Instance
-  i = showOf f entries slotwise
+regrouped : (a b c d : List ℕ) → a ++ (b ++ (c ++ d)) ≡ (a ++ (b ++ c)) ++ d
+regrouped a b c d = simp append-assoc
 
-  whole : Room (frontBytes ++ (sizeBytes i ++ (priceBytes i ++ (tableBytes i ++ loadBytes i)))) 0 old
+module _ {i : Instance} {f : Fields} (is : FieldsOf i f) where
+  card-parts : cardBytes i ≡ headOf f ++ (tableBytes i ++ loadBytes i)
   unfolding cardBytes
-  whole = given .room
+  card-parts = rw (is .modules-is, is .top-is, is .slots-is, is .up-is, is .down-is) (regrouped frontBytes (sizeBytes i) (priceBytes i) (tableBytes i ++ loadBytes i))
 
-  pub front-room : Room frontBytes 0 old
-  front-room = room-first _ whole
+  module _ {old : List ℕ} (room : Room (cardBytes i) 0 old) where
+    whole : Room (headOf f ++ (tableBytes i ++ loadBytes i)) 0 old
+    whole = rw card-parts at room
 
-  -- Once the mark and the version are written.
-  module _ {p : ℕ} {l : List ℕ} (front : Written frontBytes 0 old l p) where
-    pub sizes-room : Room (sizeBytes i) p l
-    sizes-room = room-first _ (room-rest whole front)
+    pub head-room : Room (headOf f) 0 old
+    head-room = room-first _ whole
 
-    -- Once m, Q and T are written.
-    module _ {q : ℕ} {k : List ℕ} (sizes : Written (sizeBytes i) p l k q) where
-      behind-sizes : Room (priceBytes i ++ (tableBytes i ++ loadBytes i)) q k
-      behind-sizes = room-rest (room-rest whole front) sizes
+    -- Once the head is written.
+    module _ {p : ℕ} {l : List ℕ} (head : Written (headOf f) 0 old l p) where
+      pub table-room : Room (tableBytes i) p l
+      table-room = room-first _ (room-rest whole head)
 
-      pub prices-room : Room (priceBytes i) q k
-      prices-room = room-first _ behind-sizes
+      -- Once the table is written.
+      module _ {q : ℕ} {k : List ℕ} (table : Written (tableBytes i) p l k q) where
+        pub loads-room : Room (loadBytes i) q k
+        loads-room = room-rest (room-rest whole head) table
 
-      -- Once the prices are written.
-      module _ {r : ℕ} {m : List ℕ} (prices : Written (priceBytes i) q k m r) where
-        pub table-room : Room (tableBytes i) r m × (f .topStep + 1 ≤ length entries)
-        table-room = (room-first _ (room-rest behind-sizes prices), omega (arith, given .entries))
-
-        -- Once the table is written.
-        module _ {s : ℕ} {n : List ℕ} (table : Written (tableBytes i) r m n s) where
-          pub loads-room : Room (loadBytes i) s n × (f .slots ≤ length slotwise)
-          loads-room = (room-rest (room-rest behind-sizes prices) table, given .slotwise)
-
-          -- Once the loads are written too.
-          pub card-written : {next : ℕ} {new : List ℕ} → Written (loadBytes i) s n new next → Written (cardBytes i) 0 old new next
-          unfolding cardBytes
-          card-written loads = written-more front (written-more sizes (written-more prices (written-more table loads)))
+        -- Once the loads are written too.
+        pub card-written : {r : ℕ} {new : List ℕ} → Written (loadBytes i) q k new r → Written (cardBytes i) 0 old new r
+        card-written loads = rw card-parts (written-more head (written-more table loads))

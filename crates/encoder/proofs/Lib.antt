@@ -1,2 +1,1 @@
 pub mod CardParts
-pub mod SameCards

@@ -1,1 +1,1 @@
-pub mod Shows
+pub mod Heads

@@ -1,9 +1,10 @@
-// The encoder of show cards (document 01, 'The show card'): a card's bytes from a show's fields, its table and its loads.
-ghost use Rattle.basics.specs.Core.{_≡_, _++_, _≤_, length};
+// The encoder of show cards (document 01, 'The show card'): the head of a card from plain fields, and the numbers of its table and of its loads. Each
+// function writes from a place on, and returns the place after what it wrote.
+ghost use Rattle.basics.specs.Core.{_≡_, _++_};
 ghost use Rattle.basics.specs.Bytes.{bytesOf};
 ghost use Rattle.basics.specs.Writing.{Room, Written};
-ghost use Rattle.model.specs.Instance.{loadPlace, frontBytes, cardBytes};
-ghost use Rattle.encoder.specs.Shows.{bytesIn, listBytes, showOf, CardRoom};
+ghost use Rattle.model.specs.Instance.{loadPlace, frontBytes};
+ghost use Rattle.encoder.specs.Heads.{headOf};
 
 // The fields of a show other than its table and its loads.
 pub struct Fields {
@@ -12,12 +13,6 @@ pub struct Fields {
     pub slots: u32,
     pub powerUp: u32,
     pub powerDown: u32,
-}
-
-// The bytes that each number of a list has in a card.
-enum Width {
-    Two,
-    Four,
 }
 
 // The length of a card.
@@ -55,46 +50,28 @@ fn put_prices(out: &mut [u8], at: usize, up: u32, down: u32) -> usize
     buffers::put_four(out, second, down)
 }
 
-// Writes a number of a list.
-fn put_number(out: &mut [u8], at: usize, width: Width, n: u32) -> usize
-    requires { ⌜ Room (bytesOf (bytesIn width) n) at (now out) ⌝ }
-    ensures { λ r. ⌜ Written (bytesOf (bytesIn width) n) at (now (out .entry)) (now (out .exit)) r ⌝ }
-{
-    match width {
-        Width::Two => buffers::put_two(out, at, n),
-        Width::Four => buffers::put_four(out, at, n),
-    }
-}
-
-// Writes the first numbers of a list: the table's entries, or the loads.
-fn put_list(out: &mut [u8], at: usize, width: Width, count: usize, list: &[u32]) -> usize
-    requires { ⌜ Room (listBytes width count (now list)) at (now out) ⌝ }
-    requires { ⌜ count ≤ length (now list) ⌝ }
-    ensures { λ r. ⌜ Written (listBytes width count (now (list .entry))) at (now (out .entry)) (now (out .exit)) r ⌝ }
-{
-    let mut place = at;
-    let mut j = 0;
-    while j < count {
-        place = put_number(out, place, width, list[j]);
-        j += 1;
-    }
-    place
-}
-
-// Writes a card at the front of the area.
-pub fn put_card(out: &mut [u8], fields: Fields, table: &[u32], loads: &[u32]) -> usize
-    requires { ⌜ CardRoom fields (now table) (now loads) (now out) ⌝ }
-    ensures { λ r. ⌜ Written (cardBytes (showOf fields (now (table .entry)) (now (loads .entry)))) 0 (now (out .entry)) (now (out .exit)) r ⌝ }
+// Writes the head of a card: the mark, the version, m, Q, T and the two prices.
+pub fn put_head(out: &mut [u8], fields: Fields) -> usize
+    requires { ⌜ Room (headOf fields) 0 (now out) ⌝ }
+    ensures { λ r. ⌜ Written (headOf fields) 0 (now (out .entry)) (now (out .exit)) r ⌝ }
 {
     let sizes = put_front(out, 0);
     let prices = put_sizes(out, sizes, fields.modules, fields.topStep, fields.slots);
-    let entries = put_prices(out, prices, fields.powerUp, fields.powerDown);
-    let behind = put_list(
-        out,
-        entries,
-        Width::Four,
-        fields.topStep as usize + 1,
-        table,
-    );
-    put_list(out, behind, Width::Two, fields.slots as usize, loads)
+    put_prices(out, prices, fields.powerUp, fields.powerDown)
+}
+
+// Writes an entry of the table.
+pub fn put_entry(out: &mut [u8], at: usize, entry: u32) -> usize
+    requires { ⌜ Room (bytesOf 4 entry) at (now out) ⌝ }
+    ensures { λ r. ⌜ Written (bytesOf 4 entry) at (now (out .entry)) (now (out .exit)) r ⌝ }
+{
+    buffers::put_four(out, at, entry)
+}
+
+// Writes a load.
+pub fn put_load(out: &mut [u8], at: usize, load: u32) -> usize
+    requires { ⌜ Room (bytesOf 2 load) at (now out) ⌝ }
+    ensures { λ r. ⌜ Written (bytesOf 2 load) at (now (out .entry)) (now (out .exit)) r ⌝ }
+{
+    buffers::put_two(out, at, load)
 }

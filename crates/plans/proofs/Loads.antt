@@ -1,5 +1,5 @@
 -- A plan's slot: its load can be read, and its count serves it.
-use Rattle.basics.specs.Core.{ℕ, suc, _+_, _-_, _*_, _≤_, _<_, _≡_, true, false, List, add-one, arith, length, getD, leb, leb-true, le-leb, lt-leb}
+use Rattle.basics.specs.Core.{ℕ, suc, _+_, _*_, _≤_, _<_, _≡_, true, false, List, add-one, arith, length, getD, leb, leb-true, le-leb, lt-leb}
 use Rattle.basics.specs.Tests.{every-at}
 use Rattle.model.specs.Instance.{Instance, instanceOf}
 use Rattle.model.specs.Counts.{canServe}

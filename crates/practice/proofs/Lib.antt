@@ -1,5 +1,4 @@
 pub mod DrawnFields
 pub mod TableLoop
 pub mod LoadsLoop
-pub mod DrawnCard
 pub mod PracticeAnswers

@@ -1,6 +1,6 @@
 -- The answer of the practice call, by the start and the length of its area, and the area at exit.
 use Rattle.basics.specs.Core.{ℕ, _≤_, _<_, _≡_, sym, _∙_, List, arith, length, eq-eqb, ne-eqb, lt-ltb}
-use Rattle.basics.specs.Writing.{Room, Written, written-start}
+use Rattle.basics.specs.Writing.{Written, written-start}
 use Rattle.model.specs.declared.Refusal.the-variants.{ZeroStart, BufferTooShort}
 use Rattle.model.specs.declared.Answer.{Answer}
 use Rattle.model.specs.declared.Answer.the-variants.{Cost, Refused}
@@ -11,7 +11,7 @@ use Rattle.model.specs.Calls.{practiceCard, specOf, answer, buffersAtExit, card
 use Rattle.laws.specs.Encoding.{card-bytes-length}
 use Rattle.laws.specs.PracticeAccepted.{practice-given}
 use Rattle.practice.specs.declared.FirstDraws.{FirstDraws}
-use Rattle.practice.specs.Drawing.{OfStart}
+use Rattle.practice.specs.Drawing.{OfStart, DrawnRoom}
 
 module _ (start : ℕ) (card : List ℕ) where
   -- The area at exit, by the answer.
@@ -49,13 +49,13 @@ module _ {first : FirstDraws} (is : OfStart first) {start : ℕ} (from : first .
   -- The length that is worked out is the card's.
   pub length-is : {size : ℕ} → size ≡ loadPlace (first .fields .topStep) (first .fields .slots) → size ≡ cardLength (practiceShow start)
   unfolding cardLength
-  length-is e = rw (← from, e, is .top-is, is .slots-is)
+  length-is e = rw (← from, e, is .fields-are .top-is, is .fields-are .slots-is)
 
   -- An area of at least that length has room for the card.
-  pub card-room : {card : List ℕ} → cardLength (practiceShow start) ≤ length card → Room (cardBytes (practiceShow (first .start))) 0 card
+  pub card-room : {card : List ℕ} → cardLength (practiceShow start) ≤ length card → DrawnRoom cardBytes first 0 card
   card-room {card} b =
       let long : cardLength (practiceShow (first .start)) ≤ length card = rw from b in
-      record { room = omega (arith, card-bytes-length (practiceShow (first .start))) }
+      record { is = is; room = record { room = omega (arith, card-bytes-length (practiceShow (first .start))) } }
 
   -- The card that is written is that of the start.
   pub from-start :

@@ -2,19 +2,24 @@
 use encoder::Fields;
 use model::Answer;
 use model::Refusal;
-ghost use Rattle.basics.specs.Core.{_≡_, _+_, length};
-ghost use Rattle.basics.specs.Filling.{Upto};
-ghost use Rattle.basics.specs.Writing.{Room, Written};
-ghost use Rattle.model.specs.Instance.{cardBytes};
-ghost use Rattle.model.specs.Practice.{draw, drawn, practiceEntry, practiceShow};
+ghost use Rattle.basics.specs.Core.{_≡_, _+_};
+ghost use Rattle.basics.specs.Writing.{Written};
+ghost use Rattle.model.specs.Instance.{tableBytes, loadBytes, cardBytes};
+ghost use Rattle.model.specs.Practice.{draw, drawn, practiceShow};
 ghost use Rattle.model.specs.Calls.{answer, practiceCard, cardAtExit};
-ghost use Rattle.practice.specs.Drawing.{OfStart};
+ghost use Rattle.practice.specs.Drawing.{OfStart, SmallDifference, nextDifference, DrawnRoom, LoadsRoom};
 
-// What the first six draws of a start give, with the start and the state of the generator after draw 7, that of the first difference.
+// What the first six draws of a start give, with the start and the state of the generator after them.
 struct FirstDraws {
     start: u32,
     fields: Fields,
     firstEntry: u32,
+    state: u32,
+}
+
+// The place after the table, and the state of the generator after its draws.
+struct AfterTable {
+    place: usize,
     state: u32,
 }
 
@@ -27,7 +32,7 @@ fn xorshift(s: u32) -> u32
     b ^ (b << 5)
 }
 
-// The first seven draws.
+// The first six draws.
 fn draw_first(start: u32) -> FirstDraws
     ensures { λ r. ⌜ OfStart r ⌝ }
     ensures { λ r. ⌜ r .start ≡ start ⌝ }
@@ -49,72 +54,69 @@ fn draw_first(start: u32) -> FirstDraws
         start,
         fields,
         firstEntry: entry % 1001,
-        state: xorshift(entry),
+        state: entry,
     }
 }
 
-// Draws the table into a list: F(0), and then each next entry larger by a difference. Returns the draw after the last difference, the first for
-// a load.
-fn draw_table(first: FirstDraws, table: &mut [u32]) -> u32
-    requires { ⌜ OfStart first ⌝ }
-    requires { ⌜ length (now table) ≡ 201 ⌝ }
-    ensures { λ _. ⌜ Upto (practiceEntry (first .start)) (first .fields .topStep + 1) (now (table .entry)) (now (table .exit)) ⌝ }
-    ensures { λ r. ⌜ r ≡ drawn (first .start) (7 + first .fields .topStep) ⌝ }
+// The difference after the one given, from the state that is drawn for it: the first one, where k is 0, is the draw mod 11, and each next one
+// is larger by the draw mod 4.
+fn next_difference(k: u32, difference: u32, state: u32) -> u32
+    requires { ⌜ SmallDifference difference ⌝ }
+    ensures { λ r. ⌜ r ≡ nextDifference k difference state ⌝ }
 {
+    if k == 0 {
+        return state % 11;
+    }
+    difference + state % 4
+}
+
+// Draws and writes the table.
+fn put_table(out: &mut [u8], at: usize, first: FirstDraws) -> AfterTable
+    requires { ⌜ DrawnRoom tableBytes first at (now out) ⌝ }
+    ensures { λ r. ⌜ Written (tableBytes (practiceShow (first .start))) at (now (out .entry)) (now (out .exit)) (r .place) ⌝ }
+    ensures { λ r. ⌜ r .state ≡ drawn (first .start) (6 + first .fields .topStep) ⌝ }
+{
+    let mut place = at;
     let mut state = first.state;
-    let mut difference = state % 11;
+    let mut difference = 0;
     let mut entry = first.firstEntry;
     let mut k = 0;
     while k < first.fields.topStep {
-        table[k as usize] = entry;
-        entry += difference;
+        place = encoder::put_entry(out, place, entry);
         state = xorshift(state);
-        difference += state % 4;
+        difference = next_difference(k, difference, state);
+        entry += difference;
         k += 1;
     }
-    table[k as usize] = entry;
-    state
+    place = encoder::put_entry(out, place, entry);
+    AfterTable { place, state }
 }
 
-// Draws the loads into a list, from the first draw for a load on.
-fn draw_loads(first: FirstDraws, drew: u32, loads: &mut [u32])
-    requires { ⌜ OfStart first ⌝ }
-    requires { ⌜ length (now loads) ≡ 64 ⌝ }
-    requires { ⌜ drew ≡ drawn (first .start) (7 + first .fields .topStep) ⌝ }
-    ensures { λ _. ⌜ Upto (practiceShow (first .start) .load) (first .fields .slots) (now (loads .entry)) (now (loads .exit)) ⌝ }
+// Draws and writes the loads.
+fn put_loads(out: &mut [u8], first: FirstDraws, after: AfterTable) -> usize
+    requires { ⌜ LoadsRoom first after (now out) ⌝ }
+    ensures { λ r. ⌜ Written (loadBytes (practiceShow (first .start))) (after .place) (now (out .entry)) (now (out .exit)) r ⌝ }
 {
     let bound = first.fields.modules * first.fields.topStep + 1;
-    let mut state = drew;
+    let mut place = after.place;
+    let mut state = after.state;
     let mut t = 0;
     while t < first.fields.slots {
-        loads[t as usize] = state % bound;
         state = xorshift(state);
+        place = encoder::put_load(out, place, state % bound);
         t += 1;
     }
-}
-
-// Draws the table and the loads into two lists, and writes the card.
-fn put_drawn(card: &mut [u8], first: FirstDraws, table: &mut [u32], loads: &mut [u32]) -> usize
-    requires { ⌜ OfStart first ⌝ }
-    requires { ⌜ Room (cardBytes (practiceShow (first .start))) 0 (now card) ⌝ }
-    requires { ⌜ length (now table) ≡ 201 ⌝ }
-    requires { ⌜ length (now loads) ≡ 64 ⌝ }
-    ensures { λ r. ⌜ Written (cardBytes (practiceShow (first .start))) 0 (now (card .entry)) (now (card .exit)) r ⌝ }
-{
-    let drew = draw_table(first, table);
-    draw_loads(first, drew, loads);
-    encoder::put_card(card, first.fields, table, loads)
+    place
 }
 
 // Writes the card.
-fn put_practice(card: &mut [u8], first: FirstDraws) -> usize
-    requires { ⌜ OfStart first ⌝ }
-    requires { ⌜ Room (cardBytes (practiceShow (first .start))) 0 (now card) ⌝ }
-    ensures { λ r. ⌜ Written (cardBytes (practiceShow (first .start))) 0 (now (card .entry)) (now (card .exit)) r ⌝ }
+fn put_card(out: &mut [u8], first: FirstDraws) -> usize
+    requires { ⌜ DrawnRoom cardBytes first 0 (now out) ⌝ }
+    ensures { λ r. ⌜ Written (cardBytes (practiceShow (first .start))) 0 (now (out .entry)) (now (out .exit)) r ⌝ }
 {
-    let mut table = [0u32; 201];
-    let mut loads = [0u32; 64];
-    put_drawn(card, first, &mut table, &mut loads)
+    let table = encoder::put_head(out, first.fields);
+    let after = put_table(out, table, first);
+    put_loads(out, first, after)
 }
 
 // The practice card of a start: refusals 14 and 10, in this order, else cost 0.
@@ -130,6 +132,6 @@ pub fn practice_card(start: u32, card: &mut [u8]) -> Answer
     if card.len() < size {
         return Answer::Refused(Refusal::BufferTooShort);
     }
-    put_practice(card, first);
+    put_card(card, first);
     Answer::Cost(0)
 }

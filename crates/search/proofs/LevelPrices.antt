@@ -1,6 +1,6 @@
 -- Levels of an accepted card's list of allowed counts, and what they cost.
-use Rattle.basics.specs.Core.{ℕ, _+_, _-_, _*_, _≤_, _<_, _≡_, ap, true, false, List, ⊎-elim, mul-le-mul, mul-le-mul-right, mul-zero, sub-le, le-trans}
-use Rattle.basics.specs.Core.{le-of-lt, arith, length, List·getD-eq-default, le-leb, lt-leb}
+use Rattle.basics.specs.Core.{ℕ, _+_, _-_, _*_, _≤_, _<_, _≡_, ap, true, false, List, ⊎-elim, mul-le-mul, mul-le-mul-right, mul-zero, sub-le}
+use Rattle.basics.specs.Core.{le-trans, le-of-lt, arith, length, List·getD-eq-default, le-leb, lt-leb}
 use Rattle.basics.specs.Numbers.{le-or-lt}
 use Rattle.model.specs.Instance.{instanceOf}
 use Rattle.model.specs.Counts.{canServe}

@@ -1,6 +1,6 @@
 -- A slot's row, filled in three parts.
-use Rattle.basics.specs.Core.{ℕ, _-_, _+_, _/_, _%_, _≤_, _<_, _≡_, refl, sym, ap, _∙_, Bool, true, false, cond, List, _++_, arith, length, take, drop}
-use Rattle.basics.specs.Core.{replicate, ltb, lt-ltb, le-ltb}
+use Rattle.basics.specs.Core.{ℕ, _-_, _+_, _/_, _%_, _≤_, _<_, _≡_, refl, sym, ap, _∙_, Bool, true, false, cond, List, _++_, arith, length, take}
+use Rattle.basics.specs.Core.{drop, replicate, ltb, lt-ltb, le-ltb}
 use mir.Syntax.{w8}
 use mir.Val.{Fits}
 use borrow.Rule.Slice.PartMut.{midOf, putMid}

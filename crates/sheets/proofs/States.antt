@@ -1,6 +1,6 @@
 -- The bytes of a sheet of m × T bytes are its states, slot by slot and module by module.
-use Rattle.basics.specs.Core.{ℕ, zero, suc, _+_, _-_, _*_, _≤_, _<_, _≡_, ap, sym, _∙_, true, false, cond, List, arith, length, getD, leb, ltb, lt-ltb}
-use Rattle.basics.specs.Core.{le-ltb, le-leb, lt-leb}
+use Rattle.basics.specs.Core.{ℕ, zero, suc, _+_, _-_, _*_, _≤_, _<_, _≡_, ap, sym, _∙_, true, false, cond, List, arith, length, getD, leb, ltb}
+use Rattle.basics.specs.Core.{lt-ltb, le-ltb, le-leb, lt-leb}
 use lib.Arith.{digits-lt}
 use borrow.Rule.Slice.PartMut.{midOf}
 use Rattle.basics.specs.Sums.{sum-ext}

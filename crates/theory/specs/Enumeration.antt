@@ -1,9 +1,9 @@
 -- The function `leastPlan`, which gives the first of the cheapest plans in an enumeration of all plans in tie order, gives the least plan,
 -- `least-plan`, and there is only one least plan, `least-plan-unique`.
 use Rattle.basics.specs.Core.{ℕ, zero, suc, _+_, _≤_, _<_, _≡_, refl, sym, ap, _∙_, Bool, true, false, cond, ⊎-elim, List, [], _∷_, _++_, map}
-use Rattle.basics.specs.Core.{List·Memᴰ, List·Memᴰ·head, List·Memᴰ·tail, List·Memᴰ·not-nil, List·Memᴰ·cases-cons, List·Memᴰ·eq-of-singleton, Memᴰ·cast}
-use Rattle.basics.specs.Core.{Memᴰ·map, not-suc-le-zero, arith, length, getD, take, replicate, length-replicate, getD-replicate, getD-at, take-all}
-use Rattle.basics.specs.Core.{take-suc, length-take-le, getD-take, ltb, ltb-true, ltb-false}
+use Rattle.basics.specs.Core.{List·Memᴰ, List·Memᴰ·head, List·Memᴰ·tail, List·Memᴰ·not-nil, List·Memᴰ·cases-cons, List·Memᴰ·eq-of-singleton}
+use Rattle.basics.specs.Core.{Memᴰ·cast, Memᴰ·map, not-suc-le-zero, arith, length, getD, take, replicate, length-replicate, getD-replicate, getD-at}
+use Rattle.basics.specs.Core.{take-all, take-suc, length-take-le, getD-take, ltb, ltb-true, ltb-false}
 use Rattle.basics.specs.Numbers.{le-or-lt}
 use Rattle.basics.specs.Lists.{keep}
 use Rattle.basics.specs.Members.{InOrder, none, next, member-at, place-of, snoc-before, snoc-length, rising-in-order}

@@ -1,8 +1,8 @@
 -- Over a list of allowed counts that grow by r, `GrowsBy`, the least cost by counts, from any start count, is at most r times what every plan that
 -- serves costs with the price of the start: `ratio` (compare thesis 5.5, 5.11).
 use Rattle.basics.specs.Core.{ℕ, zero, suc, _+_, _-_, _*_, _≤_, _<_, min, _≡_, ap, true, List, ⊎-elim, sub-self, sub-le, min-le-left, min-le-right}
-use Rattle.basics.specs.Core.{mul-zero, add-zero, zero-add, le-refl, le-trans, mul-le-mul-left, mul-le-mul-right, le-of-mul-le-mul-left, arith, length}
-use Rattle.basics.specs.Core.{getD, leb-true, le-leb}
+use Rattle.basics.specs.Core.{mul-zero, add-zero, zero-add, le-refl, le-trans, mul-le-mul-left, mul-le-mul-right, le-of-mul-le-mul-left, arith}
+use Rattle.basics.specs.Core.{length, getD, leb-true, le-leb}
 use Rattle.basics.specs.Numbers.{le-or-lt}
 use Rattle.basics.specs.Tests.{every-at}
 use Rattle.basics.specs.Sums.{sum}

@@ -1,9 +1,9 @@
 -- The answer of every call: the first refusal of its list that applies, `answered-first`, which is the lowest one where no paragraph of document 02
 -- sets an order, `OwnOrder`, `refusals-ascend`, `lowest-least`, or, where none applies, the cost, `accepted-none`. No call answers 9, `nine-never`,
 -- and after a refusal every lent buffer of bytes is as it was lent, `refused-unchanged`.
-use Rattle.basics.specs.Core.{ℕ, _+_, _-_, _≤_, _<_, _≡_, refl, sym, ap, _∙_, true, false, not, true≢false, _⊎_, inl, inr, ⊎-elim, List, [], _∷_, _++_}
-use Rattle.basics.specs.Core.{map, List·Memᴰ, List·Memᴰ·head, List·Memᴰ·not-nil, List·Memᴰ·cases-cons, Memᴰ·map, Memᴰ·append-right, le-refl, le-of-lt}
-use Rattle.basics.specs.Core.{arith, length, eqb, ltb-true, lt-ltb, eqb-false, not-true}
+use Rattle.basics.specs.Core.{ℕ, _+_, _-_, _≤_, _<_, _≡_, refl, sym, ap, _∙_, true, false, not, true≢false, _⊎_, inl, inr, ⊎-elim, List, [], _∷_}
+use Rattle.basics.specs.Core.{_++_, map, List·Memᴰ, List·Memᴰ·head, List·Memᴰ·not-nil, List·Memᴰ·cases-cons, Memᴰ·map, Memᴰ·append-right, le-refl}
+use Rattle.basics.specs.Core.{le-of-lt, arith, length, eqb, ltb-true, lt-ltb, eqb-false, not-true}
 use Rattle.basics.specs.Numbers.{true-or-false}
 use Rattle.basics.specs.Tests.{every, every-at, every-all, allOf}
 use Rattle.basics.specs.Members.{each-member, InOrder, next, in-order-at, rising-in-order, all-of-at}

@@ -1,6 +1,7 @@
 -- Each round of the search digit by digit halves the places in which the searched plan is known to be, until one is left in each slot:
 -- `rounds-found`.
-use Rattle.basics.specs.Core.{ℕ, zero, suc, _+_, _-_, _^_, _≤_, _<_, _≡_, sym, ap, _∙_, ⊎-elim, List, pow-zero, two-pow-succ, arith, length, replicate}
+use Rattle.basics.specs.Core.{ℕ, zero, suc, _+_, _-_, _^_, _≤_, _<_, _≡_, sym, ap, _∙_, ⊎-elim, List, pow-zero, two-pow-succ, arith, length}
+use Rattle.basics.specs.Core.{replicate}
 use lib.Pow.{pow-pos}
 use Rattle.basics.specs.Numbers.{le-or-lt}
 use Rattle.basics.specs.Backwards.{back-end}

@@ -13,12 +13,12 @@ returns-2 c =
     let size = length-is (drew .0) (drew .1) (sized .card-length .ensures) in
     short-refused _ _ (c .before .if1 .left) (omega arith)
 
-put-practice-requires : tie.Need-put-practice-requires
-put-practice-requires c κs =
+put-card-requires : tie.Need-put-card-requires
+put-card-requires c κs =
     let sized = c .before .before .before in
     let drew = sized .before .draw-first .ensures in
     let size = length-is (drew .0) (drew .1) (sized .card-length .ensures) in
-    (drew .0, card-room (drew .0) (drew .1) (omega arith))
+    card-room (drew .0) (drew .1) (omega arith)
 
 returns-3 : tie.Need-returns-3
 returns-3 c =
@@ -26,9 +26,9 @@ returns-3 c =
     let sized = wrote .before .before .before .before in
     let drew = sized .before .draw-first .ensures in
     let size = length-is (drew .0) (drew .1) (sized .card-length .ensures) in
-    card-given _ _ (wrote .before .before .before .if1 .left) (omega arith) (from-start (drew .0) (drew .1) (wrote .put-practice .ensures))
+    card-given _ _ (wrote .before .before .before .if1 .left) (omega arith) (from-start (drew .0) (drew .1) (wrote .put-card .ensures))
 
 pub practice-card-spec : {M : Type 1} → statement M
 practice-card-spec =
     tie.close
-    (tie.spec (λ c κs. search needs) (λ c κs. search needs) returns returns-2 put-practice-requires (λ c. search needs) returns-3)
+    (tie.spec (λ c κs. search needs) (λ c κs. search needs) returns returns-2 put-card-requires (λ c. search needs) returns-3)
