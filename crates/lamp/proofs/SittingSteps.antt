@@ -1,5 +1,22 @@
 -- What the walks of the acts of a sitting share: the calls on the list of seats, and the ends of their contracts.
 use Rattle.seats.proofs.Kit.{_≡_, refl, List, [], _∷_, ℕ, URA, w16, w64, vint, vunit, SProp, ent, sep, id⊢, via, Lft, Share, ftrue, flft, Memory, Routine, Heap, Atoms, Fun, fact, Given, Item, ‵, _⊛_, prop, Step, step, set, RefT, slice-vals, nothing-tells, tables, Triple, tripleOf, cited, u8, u16, plain, shrSliceOf, stay-dropped, goes-dropped, yes}
+pub use Rattle.model.specs.declared.Seat.{Seat}
+pub use Rattle.model.specs.declared.Sitting.{Sitting}
+pub use Rattle.model.specs.declared.Reply.{Reply}
+pub use Rattle.seats.specs.declared.View.{View}
+pub use Rattle.seats.specs.Scanned.{scanned}
+pub use Rattle.sitting.specs.declared.Outcome.{Outcome}
+pub use Rattle.sitting.specs.Seen.{outcomeOf}
+pub use Rattle.model.proofs.Sitting.{the-row as sitting-row, the-type as sitting-type}
+pub use Rattle.model.proofs.Sitting.Laws.{the-laws as sitting-laws, the-plain as sitting-plain, lowered as sitting-value, mir as sitting-mir}
+pub use Rattle.model.proofs.Reply.{the-row as reply-row, the-type as reply-type}
+pub use Rattle.model.proofs.Reply.Laws.{the-laws as reply-laws, the-plain as reply-plain, lowered as reply-value, mir as reply-mir}
+pub use Rattle.model.proofs.Seat.{the-type as seat-type}
+pub use Rattle.model.proofs.Seat.Laws.{the-plain as seat-plain}
+pub use Rattle.seats.proofs.View.{the-row as view-row, the-type as view-type}
+pub use Rattle.seats.proofs.View.Laws.{the-laws as view-laws, the-plain as view-plain, lowered as view-value, mir as view-mir}
+pub use Rattle.sitting.proofs.Outcome.{the-type as outcome-type}
+pub use Rattle.sitting.proofs.Outcome.Laws.{the-laws as outcome-laws, lowered as outcome-value}
 use denote.Signature.{Slot, AllWithin}
 use denote.Triple.Walked.{Stay, Goes}
 use prog.Model.{Model}
@@ -8,11 +25,7 @@ use contract.Running.{GhostRules, Running}
 use base.Logic.{emp, snd∗, fst∗, emp∗, comm∗, mono∗, monoL}
 use contract.Monad.{factI, fact-use}
 use denote.Struct.Laws as LL
-use Rattle.model.specs.declared.Seat.{Seat}
-use Rattle.seats.specs.Scanned.{scanned, emptied}
-use Rattle.model.proofs.Sitting as Z
-use Rattle.seats.proofs.View as N
-use Rattle.seats.proofs.View.Laws as N′
+use Rattle.seats.specs.Scanned.{emptied}
 use Rattle.seats.proofs.Walk.{seat, at-seat, Call, call-of}
 use Rattle.seats.proofs.scan as scan
 use Rattle.seats.proofs.scan.Symbol as scan-def
@@ -27,7 +40,7 @@ module _ {M : Type 1} (𝓤 : URA M) (H : Heap 𝓤) (A : Atoms 𝓤) (mem : Mem
   abbrev pub to-scan : ℕ → Call 𝓤 H A
   to-scan c =
       call-of scan.ended (scan.clauses 𝓤 H A mem run) (((κ, tt), (q, tt), tt, (x, (c, tt)), (slice-vals x, (vint w16 c ∷ [], tt))), tt)
-      (‵ (flft κ q) ⊛ ‵ ftrue) (id⊢ 𝓤 _) (id⊢ 𝓤 _) (id⊢ 𝓤 _) (scanned c (x .now)) (λ r ws. r ≡ scanned c (x .now)) (λ r ws. id⊢ 𝓤 _) (λ r ws e. e) N′.lowered (LL.tells N.the-type N′.the-laws)
+      (‵ (flft κ q) ⊛ ‵ ftrue) (id⊢ 𝓤 _) (id⊢ 𝓤 _) (id⊢ 𝓤 _) (scanned c (x .now)) (λ r ws. r ≡ scanned c (x .now)) (λ r ws. id⊢ 𝓤 _) (λ r ws e. e) view-value (LL.tells view-type view-laws)
 
   -- The call of `put` on a list.
   abbrev pub to-put : ℕ → Seat → Call 𝓤 H A
@@ -71,7 +84,7 @@ module _ {M : Type 1} (𝓤 : URA M) (H : Heap 𝓤) (𝓜 : Model 𝓤 H) (𝓖
 -- The parameters of an act: a sitting, numbers, shared bytes, a record. Nothing is had of them at exit.
 module _ {n : ℕ} where
   abbrev pub a-sitting : Slot n
-  a-sitting = plain (λ _. Z.the-row)
+  a-sitting = plain (λ _. sitting-row)
 
   abbrev pub a-number : Slot n
   a-number = plain (λ _. u16)

@@ -2,14 +2,8 @@
 use Rattle.seats.proofs.Kit.{_≡_, refl, _∙_, drop, some, ℕ, _<_, _^_, [], _∷_, List, length, URA, named, Lfts, Shares, w64, w16, vint, SProp, id⊢, ftrue, flft, Memory, Routine, Heap, Tables, WpFn, Atoms, Fun, givenOf, tables, tablesOf, fmOf, Given, ‵, _⊛_, _$_, _∵_, !, qed, Is, Room}
 use Rattle.seats.proofs.Kit.{move, frame, fsplit, fjoin, feqL, split, join, suffices, done, look, look-in, sub, whole, init, stop, hop, fld, from, addr, agg, of-opd, and-then, no-more, returns, enter, alloc1, alloc0, params1, pass1, pass0, owns, uint-vals, uint-tells, u8, u16, u64, RefT, MutSlice, ShrSlice, slice-vals, shr-slice-tells, shrSliceOf, mut-slice-tells, plain, nothing, Triple, Meets, tripleOf, entered, cited, Stays, gave-slice, goes-dropped, goes-gave-slice, yes, Tellss, Ises}
 use denote.Struct.Laws as LL
-use Rattle.model.specs.declared.Seat.{Seat}
-use Rattle.model.specs.declared.Sitting.{Sitting}
 use Rattle.model.specs.Acts.{Act, openSitting}
 use Rattle.model.specs.Calls.{actIn, planAtExit, workAtExit}
-use Rattle.model.proofs.Sitting as Z
-use Rattle.model.proofs.Sitting.Laws as Z′
-use Rattle.model.proofs.Reply as R
-use Rattle.model.proofs.Reply.Laws as R′
 use Rattle.seats.proofs.Walk.{var, part, sets, keeps, gives, adds, adds-num, seat, typed, leave, run-of, by-walk, needs-none, Call, call-of, calls}
 use Rattle.seats.proofs.empty_first as empty
 use Rattle.seats.proofs.empty_first.Symbol as empty-def
@@ -25,6 +19,7 @@ use Rattle.sitting.proofs.opening.Symbol as decide-def
 use Rattle.sitting.proofs.opening.Symbol.{name as #decide}
 use Rattle.sitting.proofs.opening.Met as decide-thm
 use Rattle.lamp.proofs.Promised.{opening-own-sheet, opening-least}
+use Rattle.lamp.proofs.SittingSteps.{Seat, Sitting, sitting-type, sitting-row, sitting-value, sitting-laws, sitting-plain, reply-row, reply-type, reply-value, reply-laws, reply-plain}
 use Rattle.lamp.proofs.SittingSteps.{to-empty, shown, also, says-all, both, a-sitting, a-number, a-byte, a-seat, gone, goes-sitting, goes-number, goes-shared}
 use Rattle.lamp.proofs.lamp_sitting_open.Key.{name as #f}
 use Rattle.lamp.proofs.lamp_sitting_open as f
@@ -53,7 +48,7 @@ module _ {M : Type 1} (𝓤 : URA M) (H : Heap 𝓤) (A : Atoms 𝓤) (mem : Mem
           (qs .0, (qs .1 .0, (qs .1 .1 .0, tt))),
           tt,
           (z, (d, (al, (card, (plan, (work, tt)))))),
-          (Z′.lowered z ∷ [], (vint w16 d ∷ [], (vint w64 al ∷ [], (slice-vals card, (slice-vals plan, (slice-vals work, tt)))))),
+          (sitting-value z ∷ [], (vint w16 d ∷ [], (vint w64 al ∷ [], (slice-vals card, (slice-vals plan, (slice-vals work, tt)))))),
         ),
         tt,
       )
@@ -74,8 +69,8 @@ meets : {M : Type 1} (𝓤 : URA M) (H : Heap 𝓤) (A : Atoms 𝓤) (mem : Memo
 meets 𝓤 H A mem run W 𝓣 known-decide known-empty =
     by-walk 𝓤 H A f.ended stayed W (goes-sitting W 4, (goes-number W 4, (goes-dropped 𝓤 H A W 4 (plain (λ _. u64)) yes (λ κs x f. refl), (goes-shared W 4 0 tt a-byte, (goes-gave-slice 𝓤 H A W 4 1 tt a-byte, (goes-gave-slice 𝓤 H A W 4 2 tt a-byte, (goes-gave-slice 𝓤 H A W 4 3 tt a-seat, tt)))))))
     (f.clauses 𝓤 H A mem run) 𝓣 code.function
-    (λ κs. (LL.vals Z.the-type Z′.the-laws, (uint-vals w16, (uint-vals w64, (slice-vals, (slice-vals, (slice-vals, (slice-vals, tt))))))))
-    (λ κs. (LL.tells Z.the-type Z′.the-laws, (uint-tells w16, (uint-tells w64, (shr-slice-tells (named 0) (κs .0) u8, lists-tell κs))))) (λ κs qs bounds a g are ends.
+    (λ κs. (LL.vals sitting-type sitting-laws, (uint-vals w16, (uint-vals w64, (slice-vals, (slice-vals, (slice-vals, (slice-vals, tt))))))))
+    (λ κs. (LL.tells sitting-type sitting-laws, (uint-tells w16, (uint-tells w64, (shr-slice-tells (named 0) (κs .0) u8, lists-tell κs))))) (λ κs qs bounds a g are ends.
     let z : Sitting = a .0 in
     let d : ℕ = a .1 .0 in
     let al : ℕ = a .1 .1 .0 in
@@ -86,17 +81,17 @@ meets 𝓤 H A mem run W 𝓣 known-decide known-empty =
     let o : OpenOutcome = openingOf z (openSitting d al (card .now) (plan .now) (work .now)) in
     let room : Room seat (length (x .now)) = are .1 .1 .1 .1 .1 .1 .0 .0 .1 in
     needs-none 𝓤 _ (qed W ((‵ (flft (κs .0) (qs .0)) ⊛ (‵ (flft (κs .1 .0) (qs .1 .0)) ⊛ (‵ (flft (κs .1 .1 .0) (qs .1 .1 .0)) ⊛ (‵ (flft (κs .1 .1 .1 .0) (qs .1 .1 .1 .0)) ⊛ ‵ ftrue)))) ∷
-    ‵ (owns (Z.the-row ∷ u16 ∷ u64 ∷ ShrSlice (named 0) (κs .0) u8 ∷ MutSlice (named 1) (κs .1 .0) u8 ∷ MutSlice (named 2) (κs .1 .1 .0) u8 ∷ MutSlice (named 3) (κs .1 .1 .1 .0) seat ∷ []) a
-    (Z′.lowered z ∷ [], (vint w16 d ∷ [], (vint w64 al ∷ [], (slice-vals card, (slice-vals plan, (slice-vals work, (slice-vals x, tt)))))))) ∷ []) ∵
+    ‵ (owns (sitting-row ∷ u16 ∷ u64 ∷ ShrSlice (named 0) (κs .0) u8 ∷ MutSlice (named 1) (κs .1 .0) u8 ∷ MutSlice (named 2) (κs .1 .1 .0) u8 ∷ MutSlice (named 3) (κs .1 .1 .1 .0) seat ∷ []) a
+    (sitting-value z ∷ [], (vint w16 d ∷ [], (vint w64 al ∷ [], (slice-vals card, (slice-vals plan, (slice-vals work, (slice-vals x, tt)))))))) ∷ []) ∵
     split ! $ move ! (1 ∷ []) $ split ! $ move ! (1 ∷ []) $ split ! $ nothing ! $ move ! (1 ∷ 0 ∷ []) $ join ! $ move ! (2 ∷ 0 ∷ []) $ join ! $ move ! (2 ∷ 0 ∷ []) $ join ! $
     -- [the tokens for the decision; that of the list; what the parameters own]
     move ! (2 ∷ []) $ fsplit ! $ drop ! $ fsplit ! $ drop ! $ fsplit ! $ drop ! $ fsplit ! $ move ! (1 ∷ []) $ fsplit ! $ move ! (1 ∷ []) $ fsplit ! $
     nothing ! $ move ! (1 ∷ 0 ∷ []) $ fjoin ! $ move ! (2 ∷ 0 ∷ []) $ fjoin ! $ move ! (2 ∷ 0 ∷ []) $ fjoin ! $
-    adds-num ! w64 al _ (are .1 .1 .0) $ adds-num ! w16 d _ (are .1 .0) $ adds ! Z.the-type Z′.the-plain z _ (are .0) $
+    adds-num ! w64 al _ (are .1 .1 .0) $ adds-num ! w16 d _ (are .1 .0) $ adds ! sitting-type sitting-plain z _ (are .0) $
     -- [what is passed to the decision; the list, true; its tokens; the list's token]
     enter ! (𝓣 .C) (𝓣 .Λ) code.function _ _ $
     alloc1 ! (λ l₀. alloc1 ! (λ l₁. alloc1 ! (λ l₂. alloc1 ! (λ l₃. alloc1 ! (λ l₄. alloc1 ! (λ l₅. alloc1 ! (λ l₆. alloc1 ! (λ l₇. alloc1 ! (λ l₈. alloc1 ! (λ l₉. alloc1 ! (λ l₁₀. alloc1 ! (λ l₁₁. alloc1 ! (λ l₁₂. alloc1 ! (λ l₁₃. alloc1 ! (λ l₁₄. alloc1 ! (λ l₁₅. alloc1 ! (λ l₁₆. alloc0 ! $ params1 ! $
-    pass1 ! (init ! 30 refl (LL.lawful Z.the-type Z′.the-laws 𝓤 H A W .typed z _ (are .0) .0)) $ pass1 ! (init ! 28 refl (tt, record { fits = are .1 .0 .1 })) $ pass1 ! (init ! 26 refl (tt, record { fits = are .1 .1 .0 .1 })) $
+    pass1 ! (init ! 30 refl (LL.lawful sitting-type sitting-laws 𝓤 H A W .typed z _ (are .0) .0)) $ pass1 ! (init ! 28 refl (tt, record { fits = are .1 .0 .1 })) $ pass1 ! (init ! 26 refl (tt, record { fits = are .1 .1 .0 .1 })) $
     pass1 ! (init ! 24 refl (tt, (tt, (record { fits = are .1 .1 .1 .0 .0 .1 .0 }, tt)))) $ pass1 ! (init ! 22 refl (tt, (tt, (record { fits = are .1 .1 .1 .1 .0 .0 .1 .0 }, tt)))) $
     pass1 ! (init ! 20 refl (tt, (tt, (record { fits = are .1 .1 .1 .1 .1 .0 .0 .1 .0 }, tt)))) $ pass1 ! (init ! 18 refl (tt, (tt, (record { fits = room .0 }, tt)))) $ pass0 ! $
     sets ! (addr ! (from ! (fld ! refl (hop ! (look-in ! 22 (sub ! 0 refl (whole !))) (stop !))))) (init ! 12 refl (tt, tt)) $
@@ -107,7 +102,7 @@ meets 𝓤 H A mem run W 𝓣 known-decide known-empty =
     calls (to-decide 𝓤 H A mem run κs qs z d al card plan work) ! (fmOf 𝓤 H (W .laws) 𝓣) known-decide
     (and-then ! (var ! 31 refl) (and-then ! (var ! 29 refl) (and-then ! (var ! 27 refl) (and-then ! (var ! 25 refl) (and-then ! (var ! 11 refl) (and-then ! (var ! 7 refl) (no-more !))))))) (λ _ ws e is.
     let count-fits : o .emptied < 2 ^ 64 = LL.owed O.the-type O′.the-laws o _ is .0 .1 in
-    let reply-is : Is R.the-row (o .reply) (R′.lowered (o .reply) ∷ []) = LL.owed O.the-type O′.the-laws o _ is .1 .0 in
+    let reply-is : Is reply-row (o .reply) (reply-value (o .reply) ∷ []) = LL.owed O.the-type O′.the-laws o _ is .1 .0 in
     move ! (2 ∷ []) $ fsplit ! $ drop ! $ fsplit ! $ drop ! $ fsplit ! $ drop ! $ fsplit ! $ drop ! $ fsplit ! $ fsplit ! $ move ! (1 ∷ []) $ feqL ! (λ plan-length.
     move ! (1 ∷ []) $ fsplit ! $ fsplit ! $ move ! (1 ∷ []) $ feqL ! (λ work-length. move ! (1 ∷ 4 ∷ []) $ drop ! $ drop ! $
     -- [what says the last work; what says the last plan; the decision's tokens; _16; …; the list, true; its token]
@@ -119,9 +114,9 @@ meets 𝓤 H A mem run W 𝓣 known-decide known-empty =
     calls (to-empty 𝓤 H A mem run (κs .1 .1 .1 .0) (qs .1 .1 .1 .0) x (o .emptied)) ! (fmOf 𝓤 H (W .laws) 𝓣) known-empty (and-then ! (var ! 1 refl) (and-then ! (var ! 15 refl) (no-more !))) (λ _ ws′ e′ _.
     move ! (2 ∷ []) $ fsplit ! $ fsplit ! $ move ! (1 ∷ []) $ feqL ! (λ seats-length. move ! (1 ∷ 3 ∷ []) $ drop ! $ drop ! $ keeps ! (init ! 6 refl (tt, tt)) $
     -- [what says the last list; the list's token; _16; …; what says the last work; what says the last plan; the decision's tokens]
-    sets ! (of-opd ! (part ! refl (look-in ! 18 (sub ! 1 refl (whole !))))) (init ! 34 refl (LL.lawful R.the-type R′.the-laws 𝓤 H A W .typed (o .reply) _ reply-is .0)) $
+    sets ! (of-opd ! (part ! refl (look-in ! 18 (sub ! 1 refl (whole !))))) (init ! 34 refl (LL.lawful reply-type reply-laws 𝓤 H A W .typed (o .reply) _ reply-is .0)) $
     returns ! (look ! 34 refl) $ move ! (run-of 2 34) $ leave ! (some _ ∷ some _ ∷ some _ ∷ some _ ∷ some _ ∷ some _ ∷ some _ ∷ some _ ∷ some _ ∷ some _ ∷ some _ ∷ some _ ∷ some _ ∷ some _ ∷ some _ ∷ some _ ∷ some _ ∷ []) $
-    suffices ! _ (ends (R′.lowered (o .reply)) (o .reply) (tt, (tt, (tt, (tt, (ws .1 .1 .1 .1 .0, (ws .1 .1 .1 .1 .1 .0, (ws′ .0, tt))))))) (tt, (tt, (tt, (tt, (plan-length, (work-length, (seats-length, tt)))))))) $
+    suffices ! _ (ends (reply-value (o .reply)) (o .reply) (tt, (tt, (tt, (tt, (ws .1 .1 .1 .1 .0, (ws .1 .1 .1 .1 .1 .0, (ws′ .0, tt))))))) (tt, (tt, (tt, (tt, (plan-length, (work-length, (seats-length, tt)))))))) $
     says-all ! (also 𝓤 (opening-reply z (x .now) d al (card .now) (plan .now) (work .now)) (also 𝓤 (e′ ∙ opening-seats z (x .now) d al (card .now) (plan .now) (work .now))
     (also 𝓤 (e .1 .0 ∙ opening-plan z (x .now) d al (card .now) (plan .now) (work .now)) (also 𝓤 (e .1 .1 ∙ opening-work z (x .now) d al (card .now) (plan .now) (work .now))
     (also 𝓤 (opening-own-sheet z (x .now) d al (card .now) (plan .now) (work .now) (opening-reply z (x .now) d al (card .now) (plan .now) (work .now)) (e .1 .0 ∙ opening-plan z (x .now) d al (card .now) (plan .now) (work .now)))
@@ -129,7 +124,7 @@ meets 𝓤 H A mem run W 𝓣 known-decide known-empty =
     move ! (4 ∷ []) $ split ! $ move ! (1 ∷ []) $ split ! $ move ! (1 ∷ []) $ split ! $ move ! (0 ∷ 5 ∷ []) $ join ! $ move ! (2 ∷ 0 ∷ []) $ join ! $ move ! (2 ∷ 0 ∷ []) $ join ! $
     -- [the tokens; true; what says the last list, the last work and the last plan]
     move ! (2 ∷ 1 ∷ []) $ fjoin ! $ move ! (2 ∷ 0 ∷ []) $ fjoin ! $ move ! (2 ∷ 0 ∷ []) $ fjoin ! $ nothing ! $ fjoin ! $ nothing ! $ fjoin ! $ nothing ! $ fjoin ! $ nothing ! $ fjoin ! $
-    move ! (1 ∷ 0 ∷ []) $ frame ! $ frame ! $ gives ! R.the-type R′.the-plain (o .reply) _ reply-is $ done !))))))))))))))))))))))))
+    move ! (1 ∷ 0 ∷ []) $ frame ! $ frame ! $ gives ! reply-type reply-plain (o .reply) _ reply-is $ done !))))))))))))))))))))))))
 
 pub lamp-sitting-open-spec : {M : Type 1} → stated.statement M
 unfolding code.routine tablesOf
