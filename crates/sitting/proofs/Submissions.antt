@@ -84,7 +84,7 @@ module _ (z : Sitting) (v : View) (d : ℕ) (s x : List ℕ) where
 refused-parts :
     (z : Sitting) (v : View) (d : ℕ) (s x : List ℕ) (y : Refusal) → let e = submissionRefused y in
     (placeFor v v e ≡ v .len) × ((recordFor v e ≡ emptySeat) × (sittingAfter e z ≡ withSubmissions z (sittingAfter e z .submissions)))
-unfolding placeFor recordFor sittingAfter withSubmissions actSpec
+unfolding placeFor recordFor sittingAfter actSpec
 refused-parts z v d s x y =
     refused-does (λ e. (placeFor v v e ≡ v .len) × ((recordFor v e ≡ emptySeat) × (sittingAfter e z ≡ withSubmissions z (sittingAfter e z .submissions))))
     (submitSheet d s x) y (refl, (refl, refl)) (λ e c b same counted. (refl, (refl, refl)))
@@ -94,7 +94,7 @@ module _ (z : Sitting) (v : View) (d : ℕ) (s x : List ℕ) {a : Answer} {n : �
     -- A submission that is refused.
     pub submitting-refused :
         {y : Refusal} {r : Outcome} → a ≡ Refused y → r ≡ unchangedOf (v .len) y after → r ≡ outcomeOf z v v (submitSheet d s x)
-    unfolding unchangedOf outcomeOf withSubmissions replyGiving replySeen eventSeen told replyWith markedWith eventOf eventWith actSpec
+    unfolding unchangedOf outcomeOf replyGiving replySeen eventSeen told replyWith markedWith eventOf eventWith actSpec
     submitting-refused {y} given e =
         let (place, (seat, sitting)) = refused-parts z v d s x y in
         e ∙ rw (after-is, answered .submissions-are, sym (answered .answer-is) ∙ given, place, seat, sitting)
@@ -103,6 +103,6 @@ module _ (z : Sitting) (v : View) (d : ℕ) (s x : List ℕ) {a : Answer} {n : �
     pub submitting-marked :
         {k : ℕ} {seat : Seat} {r : Reply} → a ≡ Cost k → seat ≡ markedRecord k (v .seat) → r ≡ replyGiving (Cost k) 0 after →
         _≡_ {A = Outcome} (record { at = v .at; seat = seat; reply = r }) (outcomeOf z v v (submitSheet d s x))
-    unfolding outcomeOf placeFor recordFor withSubmissions replyGiving replySeen eventSeen told replyWith markedWith eventOf eventWith actSpec
+    unfolding outcomeOf placeFor recordFor replyGiving replySeen eventSeen told replyWith markedWith eventOf eventWith actSpec
         sittingAfter
     submitting-marked given seat-is e = rw (e, seat-is, after-is, answered .submissions-are, sym (answered .answer-is) ∙ given)

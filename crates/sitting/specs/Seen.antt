@@ -75,7 +75,7 @@ unfoldable pub unchangedOf : ℕ → Refusal → Sitting → Outcome
 unchangedOf len x z = record { at = len; seat = emptySeat; reply = replyGiving (Refused x) 0 z }
 
 -- A sitting with another number of submissions used.
-unfoldable pub withSubmissions : Sitting → ℕ → Sitting
+abbrev pub withSubmissions : Sitting → ℕ → Sitting
 withSubmissions z n = record { state = z .state; allowance = z .allowance; submissions = n; least = z .least }
 
 -- An answer and a number of submissions used are those of a submission that is refused and does not count.

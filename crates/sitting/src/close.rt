@@ -1,5 +1,4 @@
 // Closing a sitting: refusal 15.
-use crate::reply_giving;
 use model::Answer;
 use model::Refusal;
 use model::Reply;
@@ -27,7 +26,7 @@ pub fn closing(sitting: Sitting, caller: u16) -> Reply
     ensures { λ r. ⌜ r ≡ replyOf sitting [] (closeSitting caller) ⌝ }
 {
     match answer_closing(sitting, caller) {
-        Answer::Refused(x) => reply_giving(Answer::Refused(x), 0, sitting),
+        Answer::Refused(x) => crate::reply_giving(Answer::Refused(x), 0, sitting),
         Answer::Cost(cost) => {
             let closed = Sitting {
                 state: 2,
@@ -35,7 +34,7 @@ pub fn closing(sitting: Sitting, caller: u16) -> Reply
                 submissions: sitting.submissions,
                 least: sitting.least,
             };
-            reply_giving(Answer::Cost(cost), 0, closed)
+            crate::reply_giving(Answer::Cost(cost), 0, closed)
         }
     }
 }

@@ -1,6 +1,5 @@
 // Opening a sitting: refusals 1 to 8, 10, 15 and 17, and then as the exact planner.
 use crate::OpenOutcome;
-use crate::reply_giving;
 use card::Checked;
 use card::Header;
 use model::Answer;
@@ -85,7 +84,7 @@ pub fn opening(
     match answer_opening(sitting, caller, allowance, card, plan, work) {
         Answer::Refused(x) => OpenOutcome {
             emptied: 0,
-            reply: reply_giving(Answer::Refused(x), 0, sitting),
+            reply: crate::reply_giving(Answer::Refused(x), 0, sitting),
         },
         Answer::Cost(cost) => {
             let opened = Sitting {
@@ -96,7 +95,7 @@ pub fn opening(
             };
             OpenOutcome {
                 emptied: 32,
-                reply: reply_giving(Answer::Cost(cost), 0, opened),
+                reply: crate::reply_giving(Answer::Cost(cost), 0, opened),
             }
         }
     }

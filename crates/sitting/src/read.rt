@@ -1,6 +1,4 @@
 // Reading the least cost, a lowest cost and the submissions used: refusals 15 and 16.
-use crate::is_unopened;
-use crate::reply_giving;
 use model::Answer;
 use model::Refusal;
 use model::Reply;
@@ -16,7 +14,7 @@ ghost use Rattle.sitting.specs.Seen.{seen, unseated, replySeen};
 fn answer_least(sitting: Sitting, caller: u16, v: View) -> Answer
     ensures { λ r. ⌜ r ≡ answerTo (seen sitting v v) (readLeast caller) ⌝ }
 {
-    if is_unopened(sitting) {
+    if crate::is_unopened(sitting) {
         return Answer::Refused(Refusal::NotPermitted);
     }
     if caller == 0 {
@@ -35,14 +33,14 @@ fn answer_least(sitting: Sitting, caller: u16, v: View) -> Answer
 pub fn reading_least(sitting: Sitting, caller: u16, v: View) -> Reply
     ensures { λ r. ⌜ r ≡ replySeen sitting v v (readLeast caller) ⌝ }
 {
-    reply_giving(answer_least(sitting, caller, v), 0, sitting)
+    crate::reply_giving(answer_least(sitting, caller, v), 0, sitting)
 }
 
 // Whether a caller may read a candidate's lowest cost.
 fn may_read_lowest(sitting: Sitting, caller: u16, candidate: u16) -> bool
     ensures { λ r. ⌜ r ≡ readsLowest (factsOf (stateOf sitting [])) caller candidate ⌝ }
 {
-    if is_unopened(sitting) {
+    if crate::is_unopened(sitting) {
         return false;
     }
     if caller == 0 {
@@ -66,16 +64,16 @@ pub fn reading_lowest(sitting: Sitting, caller: u16, candidate: u16, v: View) ->
     ensures { λ r. ⌜ r ≡ replySeen sitting v v (readLowest caller candidate) ⌝ }
 {
     if !may_read_lowest(sitting, caller, candidate) {
-        return reply_giving(Answer::Refused(Refusal::NotPermitted), 0, sitting);
+        return crate::reply_giving(Answer::Refused(Refusal::NotPermitted), 0, sitting);
     }
     if no_seat(candidate, v) {
-        return reply_giving(Answer::Refused(Refusal::SeatUnavailable), 0, sitting);
+        return crate::reply_giving(Answer::Refused(Refusal::SeatUnavailable), 0, sitting);
     }
     let seat = v.seat;
     if seat.marked == 0 {
-        return reply_giving(Answer::Cost(0), 0, sitting);
+        return crate::reply_giving(Answer::Cost(0), 0, sitting);
     }
-    reply_giving(Answer::Cost(seat.lowest), 1, sitting)
+    crate::reply_giving(Answer::Cost(seat.lowest), 1, sitting)
 }
 
 // The answer to reading the submissions used: refusal 15.
@@ -85,7 +83,7 @@ fn answer_used(sitting: Sitting, caller: u16) -> Answer
     if caller != 0 {
         return Answer::Refused(Refusal::NotPermitted);
     }
-    if is_unopened(sitting) {
+    if crate::is_unopened(sitting) {
         return Answer::Refused(Refusal::NotPermitted);
     }
     Answer::Cost(sitting.submissions)
@@ -95,5 +93,5 @@ fn answer_used(sitting: Sitting, caller: u16) -> Answer
 pub fn reading_used(sitting: Sitting, caller: u16) -> Reply
     ensures { λ r. ⌜ r ≡ replyOf sitting [] (readUsed caller) ⌝ }
 {
-    reply_giving(answer_used(sitting, caller), 0, sitting)
+    crate::reply_giving(answer_used(sitting, caller), 0, sitting)
 }

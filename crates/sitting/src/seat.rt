@@ -1,7 +1,5 @@
 // Seating a candidate: refusals 15 and 16.
 use crate::Outcome;
-use crate::reply_giving;
-use crate::unchanged;
 use model::Answer;
 use model::Refusal;
 use model::Seat;
@@ -39,7 +37,7 @@ pub fn seating(sitting: Sitting, caller: u16, candidate: u16, v: View, empty: Vi
     ensures { λ r. ⌜ r ≡ outcomeOf sitting v empty (seatCandidate caller candidate) ⌝ }
 {
     match answer_seating(sitting, caller, candidate, v, empty) {
-        Answer::Refused(x) => unchanged(v.len, x, sitting),
+        Answer::Refused(x) => crate::unchanged(v.len, x, sitting),
         Answer::Cost(cost) => Outcome {
             at: empty.at,
             seat: Seat {
@@ -48,7 +46,7 @@ pub fn seating(sitting: Sitting, caller: u16, candidate: u16, v: View, empty: Vi
                 marked: 0,
                 reserved: 0,
             },
-            reply: reply_giving(Answer::Cost(cost), 0, sitting),
+            reply: crate::reply_giving(Answer::Cost(cost), 0, sitting),
         },
     }
 }

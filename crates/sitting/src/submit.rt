@@ -1,7 +1,5 @@
 // Submitting a sheet: refusals 1 to 8, 15 to 17, and then as marking.
 use crate::Outcome;
-use crate::reply_giving;
-use crate::unchanged;
 use card::Checked;
 use card::Header;
 use model::Answer;
@@ -118,11 +116,11 @@ pub fn submitting(sitting: Sitting, caller: u16, v: View, card: &[u8], sheet: &[
     let after = with_submissions(sitting, submission.submissions);
     let answer = submission.answer;
     match answer {
-        Answer::Refused(x) => unchanged(v.len, x, after),
+        Answer::Refused(x) => crate::unchanged(v.len, x, after),
         Answer::Cost(cost) => Outcome {
             at: v.at,
             seat: lowered(v.seat, cost),
-            reply: reply_giving(Answer::Cost(cost), 0, after),
+            reply: crate::reply_giving(Answer::Cost(cost), 0, after),
         },
     }
 }
