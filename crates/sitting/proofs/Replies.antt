@@ -26,13 +26,6 @@ module _ {a : Answer} (m : ℕ) (z : Sitting) where
   unfolding replyGiving
   giving-refusal e n-is = rw (e, n-is)
 
--- An act that changes no record.
-pub none-changed :
-    (len : ℕ) (x : Refusal) (z : Sitting) {r : Reply} → r ≡ replyGiving (Refused x) 0 z →
-    _≡_ {A = Outcome} (record { at = len; seat = emptySeat; reply = r }) (unchangedOf len x z)
-unfolding unchangedOf
-none-changed len x z e = rw e
-
 -- Reading the submissions used changes nothing.
 pub used-reply :
     (z : Sitting) (d : ℕ) {a : Answer} {r : Reply} → a ≡ answerTo (factsOf (stateOf z [])) (readUsed d) → r ≡ replyGiving a 0 z →
@@ -68,7 +61,7 @@ module _ (z : Sitting) (v w : View) (d c : ℕ) {a : Answer} (is : a ≡ answerT
   -- A seating that is refused.
   pub seating-refused :
       {x : Refusal} {r : Outcome} → a ≡ Refused x → r ≡ unchangedOf (v .len) x z → r ≡ outcomeOf z v w (seatCandidate d c)
-  unfolding unchangedOf outcomeOf placeFor recordFor replyGiving replySeen eventSeen told replyWith markedWith eventOf eventWith actSpec sittingAfter
+  unfolding outcomeOf placeFor recordFor replyGiving replySeen eventSeen told replyWith markedWith eventOf eventWith actSpec sittingAfter
   seating-refused given e = e ∙ rw (sym is ∙ given)
 
   -- A seating: the first empty record becomes the candidate's.

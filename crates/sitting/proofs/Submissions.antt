@@ -94,7 +94,7 @@ module _ (z : Sitting) (v : View) (d : ℕ) (s x : List ℕ) {a : Answer} {n : �
     -- A submission that is refused.
     pub submitting-refused :
         {y : Refusal} {r : Outcome} → a ≡ Refused y → r ≡ unchangedOf (v .len) y after → r ≡ outcomeOf z v v (submitSheet d s x)
-    unfolding unchangedOf outcomeOf replyGiving replySeen eventSeen told replyWith markedWith eventOf eventWith actSpec
+    unfolding outcomeOf replyGiving replySeen eventSeen told replyWith markedWith eventOf eventWith actSpec
     submitting-refused {y} given e =
         let (place, (seat, sitting)) = refused-parts z v d s x y in
         e ∙ rw (after-is, answered .submissions-are, sym (answered .answer-is) ∙ given, place, seat, sitting)

@@ -71,7 +71,7 @@ replyGiving (Cost n) m z = record { number = 0; cost = n; marked = m; sitting = 
 replyGiving (Refused x) m z = record { number = refusalNumber x; cost = 0; marked = 0; sitting = z }
 
 -- What an act does that is refused and changes no record.
-unfoldable pub unchangedOf : ℕ → Refusal → Sitting → Outcome
+abbrev pub unchangedOf : ℕ → Refusal → Sitting → Outcome
 unchangedOf len x z = record { at = len; seat = emptySeat; reply = replyGiving (Refused x) 0 z }
 
 -- A sitting with another number of submissions used.
