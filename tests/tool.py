@@ -950,7 +950,7 @@ def show_of(top, table, order=range(6)):
     return b"".join(fields[at] + b"\n" for at in order)
 
 
-RACK = f"refused 3: {tool_words(3)}\n"
+RACK = "refused 3: modules or top step outside 1 to 200\n"
 TABLE_USAGE = "usage: lamp table TOP\n"
 WRONG_TABLE = {
     (): ("table: 0 words where it takes TOP", TABLE_USAGE),

@@ -125,7 +125,10 @@ def compare_lists(root, rows):
 
 def main(words):
     write = words[:1] == ["--write"]
-    root = pathlib.Path(words[write]) if len(words) > write else ROOT
+    places = words[1:] if write else words
+    if len(places) > 1 or any(place.startswith("-") for place in places):
+        sys.exit(__doc__)
+    root = pathlib.Path(places[0]) if places else ROOT
     rows, faults = read_rows(root)
     if not faults:
         for name in PLACES:

@@ -1,4 +1,5 @@
--- The names of the toolchain's libraries that the crates use, handed on unchanged, so that a module has them by one line.
+-- The names of the toolchain's libraries that many modules use, handed on unchanged, so that a module has them by one line. A name of a library
+-- that few modules use is imported where it is used.
 pub use Prim.Native.Nat.{_%_, _*_, _+_, _-_, _/_, _<_, _^_, _≤_, max, min, suc, zero, ℕ}
 pub use mathlib.Core.Path.{_∙_, _≡_, ap, ap₂, fun-ext, refl, subst, sym}
 pub use mathlib.Core.Bool.{Bool, _&&_, _||_, and-false, and-true, cond, false, false≢true, not, or-false, or-true, true, true≢false}

@@ -12,7 +12,9 @@ regrouped a b c d = simp append-assoc
 module _ {i : Instance} {f : Fields} (is : FieldsOf i f) where
   card-parts : cardBytes i ≡ headOf f ++ (tableBytes i ++ loadBytes i)
   unfolding cardBytes
-  card-parts = rw (is .modules-is, is .top-is, is .slots-is, is .up-is, is .down-is) (regrouped frontBytes (sizeBytes i) (priceBytes i) (tableBytes i ++ loadBytes i))
+  card-parts =
+      rw (is .modules-is, is .top-is, is .slots-is, is .up-is, is .down-is)
+      (regrouped frontBytes (sizeBytes i) (priceBytes i) (tableBytes i ++ loadBytes i))
 
   module _ {old : List ℕ} (room : Room (cardBytes i) 0 old) where
     whole : Room (headOf f ++ (tableBytes i ++ loadBytes i)) 0 old

@@ -6,11 +6,11 @@ use Rattle.model.specs.Instance.{Instance, frontBytes}
 use Rattle.encoder.specs.declared.Fields.{Fields}
 
 -- m, Q and T.
-abbrev pub sizesOf : Fields → List ℕ
+abbrev sizesOf : Fields → List ℕ
 sizesOf f = bytesOf 1 (f .modules) ++ (bytesOf 1 (f .topStep) ++ bytesOf 2 (f .slots))
 
 -- The two prices.
-abbrev pub pricesOf : Fields → List ℕ
+abbrev pricesOf : Fields → List ℕ
 pricesOf f = bytesOf 4 (f .powerUp) ++ bytesOf 4 (f .powerDown)
 
 -- The mark and the version, the sizes and the prices.

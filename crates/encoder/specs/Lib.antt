@@ -1,1 +1,2 @@
+-- Heads has the head of a card from plain fields.
 pub mod Heads

@@ -1,5 +1,5 @@
-// The encoder of show cards (document 01, 'The show card'): the head of a card from plain fields, and the numbers of its table and of its loads. Each
-// function writes from a place on, and returns the place after what it wrote.
+// The encoder of show cards (document 01, 'The show card'): the length of a card and its head from plain fields, and the numbers of its table and
+// of its loads. A function that writes from a place on, the head from 0, returns the place after what it wrote.
 ghost use Rattle.basics.specs.Core.{_≡_, _++_};
 ghost use Rattle.basics.specs.Bytes.{bytesOf};
 ghost use Rattle.basics.specs.Writing.{Room, Written};

@@ -26,14 +26,14 @@ abbrev a-view : Slot 0
 a-view = plain (λ _. view-row)
 
 -- What a caller may read, and its decision.
-abbrev pub of-own : Ended
+abbrev of-own : Ended
 of-own = replying 1 (a-sitting ∷ a-number ∷ the-list ∷ []) (yes, (yes, (yes, tt)))
 
 abbrev of-own-view : Ended
 of-own-view = replying 0 (a-sitting ∷ a-number ∷ a-view ∷ []) (yes, (yes, (yes, tt)))
 
 -- A candidate's seat, which a caller reads, and its decision.
-abbrev pub of-seat : Ended
+abbrev of-seat : Ended
 of-seat = replying 1 (a-sitting ∷ a-number ∷ a-number ∷ the-list ∷ []) (yes, (yes, (yes, (yes, tt))))
 
 abbrev of-seat-view : Ended
@@ -66,7 +66,7 @@ module _ {M : Type 1} (𝓤 : URA M) (H : Heap 𝓤) (A : Atoms 𝓤) (mem : Mem
   -- The walk of a reading of what a caller may read.
   module _ (said : Sitting → (d : ℕ) → View → Reply) where
     -- What the decision says.
-    abbrev pub decides-own : Clauses 𝓤 of-own-view
+    abbrev decides-own : Clauses 𝓤 of-own-view
     decides-own = λ κs a. record { ghost = Unit {0}; requires = λ g. emp 𝓤; ensures = λ g r e. fact 𝓤 (r ≡ said (a .0) (a .1 .0) (a .1 .1 .0)) }
 
     -- The call of the decision.
@@ -107,7 +107,7 @@ module _ {M : Type 1} (𝓤 : URA M) (H : Heap 𝓤) (A : Atoms 𝓤) (mem : Mem
   -- The walk of a reading of a candidate's seat.
   module _ (said : Sitting → (d c : ℕ) → View → Reply) where
     -- What the decision says.
-    abbrev pub decides-seat : Clauses 𝓤 of-seat-view
+    abbrev decides-seat : Clauses 𝓤 of-seat-view
     decides-seat = λ κs a. record { ghost = Unit {0}; requires = λ g. emp 𝓤; ensures = λ g r e. fact 𝓤 (r ≡ said (a .0) (a .1 .0) (a .1 .1 .0) (a .1 .1 .1 .0)) }
 
     -- The call of the decision.

@@ -8,7 +8,8 @@ use Rattle.model.specs.Thesis.{countAt}
 use Rattle.model.specs.Explanation.{countsOperatingCost, countsSwitchingCost, excessOperatingCost, excessSwitchingCost, excessOfCounts}
 use Rattle.model.specs.Calls.{explainSheet}
 use Rattle.model.specs.ExplainedPoints.{explainedWork, pointsWith, pointsOf}
-use Rattle.model.specs.Examples.{cardOf, cardA, cardE, cardI, cardFalls, cardLeastAtTop, sheetD, sheetFalls, sevens, over, Example, agrees, AllHold, NoneHold}
+use Rattle.model.specs.Examples.{cardOf, cardA, cardE, cardI, cardFalls, cardLeastAtTop, sheetD, sheetFalls, sevens, over, Example, agrees}
+use Rattle.model.specs.Examples.{AllHold, NoneHold}
 
 -- What is seen of an explanation: its four numbers, and the work area at exit.
 unfoldable explained : (card sheet work : List ℕ) → List (List ℕ)

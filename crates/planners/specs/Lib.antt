@@ -1,1 +1,2 @@
+-- PlannerRequires has what the planners' functions ask for.
 pub mod PlannerRequires

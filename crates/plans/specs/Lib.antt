@@ -1,1 +1,2 @@
+-- PlanRequires has what the functions on plans ask for.
 pub mod PlanRequires

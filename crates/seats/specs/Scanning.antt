@@ -1,4 +1,4 @@
--- One step of a scan and one of emptying, with the laws that take the loops from their start to their end.
+-- One step of a scan and one of emptying, with the laws that take the loops from their start to their end: `view-end`, `empty-next`.
 use Rattle.basics.specs.Core.{ℕ, zero, suc, _+_, _≤_, _<_, min, _≡_, refl, sym, ap, _∙_, ⊎-elim, Bool, true, false, cond, true≢false, List, [], _∷_}
 use Rattle.basics.specs.Core.{length, getD, take, set, replicate, length-take, length-replicate, List·getD-eq-default, length-front, getD-take}
 use Rattle.basics.specs.Core.{zero-min, min-zero, suc-min-suc, min-le-left, min-le-right, le-refl, not-suc-le-zero, le-of-suc-le-suc, add-one, arith}
@@ -109,7 +109,8 @@ module _ (c : ℕ) (xs : List Seat) where
       let inside : place < seats = place-inside (isOf c) (seatsOf xs) e in
       let own : isOf c (getD xs place emptySeat) ≡ true = ap (isOf c) (seat-in place inside) ∙ at-place (isOf c) emptySeat (seatsOf xs) e in
       let last : turns ≡ suc place = omega arith in
-      ap viewAt last ∙ next-view place (passed-is place (le-refl place)) ∙ rw own (ap (λ (s : Seat). record { at = place; end = place; n = seats; len = length xs; seat = s }) (seat-in place inside)))
+      ap viewAt last ∙ next-view place (passed-is place (le-refl place)) ∙
+      rw own (ap (λ (s : Seat). record { at = place; end = place; n = seats; len = length xs; seat = s }) (seat-in place inside)))
       (λ (e : occurs (isOf c) (seatsOf xs) ≡ false).
       let none : place ≡ seats = place-beyond (isOf c) (seatsOf xs) e in
       let last : turns ≡ place = omega arith in

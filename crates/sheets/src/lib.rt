@@ -37,7 +37,7 @@ fn write_slot(card: &[u8], h: Header, n: u64, l: u64, row: &mut [u8])
     fill_slot(n as usize, rest, low, high, row);
 }
 
-// Writes the sheet of a plan. Each slot's part is lent to the slot filler, which sees that slot alone.
+// Writes the sheet of a plan. Each slot's part is lent to `write_slot`, and by it to the slot filler, which sees that slot alone.
 pub fn write_sheet(card: &[u8], h: Header, plan: &[u8], sheet: &mut [u8])
     requires { ⌜ SheetRoom (now card) h (now plan) (now sheet) ⌝ }
     ensures { λ _. ⌜ now (sheet .exit) ≡ writtenOver (sheetOf (instanceOf (now (card .entry))) (now (plan .entry))) (now (sheet .entry)) ⌝ }

@@ -1,4 +1,4 @@
--- What an act makes of a view of the list is what it makes of the list.
+-- What an act makes of a view of the list is what it makes of the list: `seating-acts`, `submission-acts`, `least-shown`, `lowest-shown`.
 use Rattle.basics.specs.Core.{ℕ, _≡_, refl, sym, ap, _∙_, Bool, true, not, List, _++_, map, length, getD, set, take-append-drop, List·getD-map}
 use Rattle.basics.specs.Core.{le-refl, set-append-left, set-out, eqb, not-false}
 use Rattle.basics.specs.Tests.{or-right}
@@ -7,7 +7,8 @@ use Rattle.model.specs.declared.Answer.{Answer}
 use Rattle.model.specs.declared.Answer.the-variants.{Cost, Refused}
 use Rattle.model.specs.declared.Seat.{Seat}
 use Rattle.model.specs.declared.Sitting.{Sitting}
-use Rattle.model.specs.Acts.{Act, seatCandidate, submitSheet, readLeast, readLowest, Event, nothingDone, seatingDone, submissionMarked, submissionRefused, actSpec}
+use Rattle.model.specs.Acts.{Act, seatCandidate, submitSheet, readLeast, readLowest, Event, nothingDone, seatingDone, submissionMarked}
+use Rattle.model.specs.Acts.{submissionRefused, actSpec}
 use Rattle.model.specs.SittingState.{Place, isFor, emptyPlace, factsOf, seatsOf, beyondSeats, isOf, lowestOf, placeOf, stateOf}
 use Rattle.model.specs.SittingState.{emptySeat, seatedRecord, markedRecord, seatsAfter}
 use Rattle.model.specs.Sittings.{answerTo, eventWith, eventOf, eventIn, told, toldBy, replyOf, seatsAtExit}
@@ -54,7 +55,7 @@ module _ (z : Sitting) (xs : List Seat) where
       (rw (told-agree a _ _ agree, same), same)
 
   -- An act that asks for no empty record is shown by any other view.
-  pub submission-shown : (d : ℕ) (card sheet : List ℕ) (w : View) → Shown z xs w (submitSheet d card sheet)
+  submission-shown : (d : ℕ) (card sheet : List ℕ) (w : View) → Shown z xs w (submitSheet d card sheet)
   unfolding eventSeen replySeen seen told eventOf answerTo actSpec
   submission-shown d card sheet w = shown (submitSheet d card sheet)
 

@@ -1,4 +1,4 @@
--- What an opening does, decided without the list of seats, is what it does with the list.
+-- What an opening does, decided without the list of seats, is what it does with the list: `opening-reply`, `opening-seats`.
 use Rattle.basics.specs.Core.{ℕ, _≡_, refl, sym, ap, List, [], _∷_, _++_, map, length, replicate}
 use Rattle.model.specs.declared.Answer.{Answer}
 use Rattle.model.specs.declared.Answer.the-variants.{Cost, Refused}

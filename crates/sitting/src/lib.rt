@@ -69,7 +69,7 @@ fn is_unopened(sitting: Sitting) -> bool
     sitting.state != 2
 }
 
-// An act that changes no record and gives the sitting back.
+// A refused act: it changes no record, and gives back the sitting that is given here.
 fn unchanged(len: usize, x: Refusal, sitting: Sitting) -> Outcome
     ensures { λ r. ⌜ r ≡ unchangedOf len x sitting ⌝ }
 {

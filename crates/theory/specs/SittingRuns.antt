@@ -7,7 +7,8 @@ use Rattle.model.specs.declared.Seat.{Seat}
 use Rattle.model.specs.declared.Sitting.{Sitting}
 use Rattle.model.specs.Acts.{Act, openSitting, isUnopened, Event, nothingDone, openingDone, actSpec}
 use Rattle.model.specs.SittingState.{factsOf, after, phaseOf, seatsOf, placeOf, stateOf}
-use Rattle.model.specs.Sittings.{next, answerTo, eventWith, eventOf, told, toldBy, replyWith, replyOf, seatsAtExit, eventIn, toldInTurn, StartsAfresh, from-unopened, from-opening}
+use Rattle.model.specs.Sittings.{next, answerTo, eventWith, eventOf, told, toldBy, replyWith, replyOf, seatsAtExit, eventIn, toldInTurn, StartsAfresh}
+use Rattle.model.specs.Sittings.{from-unopened, from-opening}
 use Rattle.model.specs.Sittings.{phaseIn, factsIn, toldFrom}
 use Rattle.laws.specs.SittingLaws.{concerned, events-agree, told-agree}
 use Rattle.laws.specs.SittingRecords.{state-after}

@@ -12,7 +12,8 @@ slice-aggregate-search-2 c = sym (length-take-le _ _ (search work-long))
 returns : tie.Need-returns
 returns c =
     let found = c .before .before .before .before .before .before in
-    least-written (found .before .before .before .before .before .before .before .pre) (found .search .ensures .0) (c .plan-cost .ensures) (found .search .ensures .1)
+    let given = found .before .before .before .before .before .before .before .pre in
+    least-written given (found .search .ensures .0) (c .plan-cost .ensures) (found .search .ensures .1)
 
 pub plan-over-spec : {M : Type 1} → statement M
 plan-over-spec =
