@@ -5,8 +5,9 @@ pub use Rattle.std.proofs.Common.{◌∙◌, ap, ap₂, subst, sym, true≢false
 pub use Rattle.std.proofs.Math.Path.{fun_ext}
 pub use Rattle.std.proofs.Math.Bool.{and-false, and-true, or-false, or-true}
 pub use Rattle.std.proofs.lemmas.Bool.{false≢true, eqb-false, lt-leb, not-false, not-true}
-pub use Rattle.std.proofs.Math.Logic.{iff_trans, ⊎_map}
-unfoldable pub use Rattle.std.proofs.Math.Option.{option_elim}
+pub use Rattle.std.proofs.Math.Logic.{⊎_map}
+pub use mathlib.Core.Logic.Iff.{trans as iff_trans}
+unfoldable pub use mathlib.Core.Option.{Option-elim as option_elim}
 pub use Rattle.std.proofs.Math.Option.{Option, get_or as option_get_or, none-ne-some, some-injective, none, some}
 unfoldable pub use mathlib.Core.List.{flat_map, head_d}
 pub use mathlib.Core.List.Memᴰ.{append_cases as mem_append_cases}

@@ -1,4 +1,6 @@
 // Writing bytes into a lent area. A function that writes from a place on returns the place after what it wrote.
+#![tactic(auto)]
+
 ghost use Rattle.basics.specs.Core.{◌≡◌, [], ◌∷◌, length, replicate};
 ghost use Rattle.basics.specs.Bytes.{bytes_of};
 ghost use Rattle.basics.specs.Rows.{element_bytes};

@@ -1,4 +1,6 @@
 // The show card: a cursor that takes numbers from its bytes, and the checks behind refusals 1 to 8.
+#![tactic(auto)]
+
 ghost use Rattle.basics.specs.Core.{◌≡◌, ◌+◌, ◌≤◌, length};
 ghost use Rattle.basics.specs.Lists.{same_list};
 ghost use Rattle.model.specs.Instance.{instance_of, head_length, load_place, mark_of, card_mark, version_of, rack_number};

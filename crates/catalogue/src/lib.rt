@@ -1,4 +1,6 @@
 // The catalogue module's table (document 02, §5): a constant, and the call that writes its first entries as a card's fields.
+#![tactic(auto)]
+
 ghost use Rattle.basics.specs.Core.{◌≡◌, take};
 ghost use Rattle.basics.specs.Lists.{written_over};
 ghost use Rattle.basics.specs.Rows.{element_bytes};

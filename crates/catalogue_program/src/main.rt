@@ -1,5 +1,7 @@
 // The generator of the catalogue module's table (document 02, §5): prints F(0) to F(200), one a line. Its stored output, the file `stdout`
 // beside src, is what the constant in crates/catalogue is made from.
+#![tactic(auto)]
+
 ghost use Rattle.basics.specs.Core.{◌≡◌, ◌≤◌, length};
 ghost use Rattle.basics.specs.Lists.{written_over};
 ghost use Rattle.basics.specs.Writing.{Room, Written};

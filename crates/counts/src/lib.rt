@@ -1,4 +1,6 @@
 // Counts of active modules: the planners' lists of allowed counts, the rounded count, and the operating cost of a count.
+#![tactic(auto)]
+
 ghost use Rattle.basics.specs.Core.{◌≡◌, ◌^◌, ◌≤◌, length};
 ghost use Rattle.basics.specs.Lists.{written_over};
 ghost use Rattle.model.specs.Instance.{instance_of};

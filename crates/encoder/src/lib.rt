@@ -1,5 +1,7 @@
 // The encoder of show cards (document 01, 'The show card'): the length of a card and its head from plain fields, and the numbers of its table and
 // of its loads. A function that writes from a place on, the head from 0, returns the place after what it wrote.
+#![tactic(auto)]
+
 ghost use Rattle.basics.specs.Core.{◌≡◌, ◌++◌};
 ghost use Rattle.basics.specs.Bytes.{bytes_of};
 ghost use Rattle.basics.specs.Writing.{Room, Written};

@@ -1,5 +1,7 @@
 // Where the points of a sheet went (document 02, §7): the counts of a sheet, the modules that go on without need, and the explanation, which
 // answers every input.
+#![tactic(auto)]
+
 ghost use Rattle.basics.specs.Core.{◌≡◌, ◌-◌, ◌≤◌, length, replicate};
 ghost use Rattle.basics.specs.Lists.{written_over};
 ghost use Rattle.model.specs.declared.Answer.TheVariants.{Cost};

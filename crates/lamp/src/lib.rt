@@ -1,4 +1,6 @@
 // The public calls: numbers and byte slices over the C boundary. Each answers every input, with the answer of the call below it.
+#![tactic(auto)]
+
 ghost use Rattle.basics.specs.Core.{◌≡◌, []};
 ghost use Rattle.model.specs.Planners.{exact, coarse, listed};
 ghost use Rattle.model.specs.Calls.{NumbersOf, Gives, check_card, running_cost, plan_show, make_sheet, mark_sheet, round_count, practice_card, catalogue_table};

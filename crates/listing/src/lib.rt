@@ -1,4 +1,6 @@
 // The program's text: each function writes a part of it into a lent area from a place on, and returns the place after it.
+#![tactic(auto)]
+
 ghost use Rattle.basics.specs.Core.{◌≡◌, ◌<◌, length};
 ghost use Rattle.basics.specs.Lists.{written_over};
 ghost use Rattle.basics.specs.Writing.{Room, Written};

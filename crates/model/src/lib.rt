@@ -1,4 +1,6 @@
 // What the planner answers: types, and the number of a refusal. What every call must answer is defined in specs/.
+#![tactic(auto)]
+
 ghost use Rattle.basics.specs.Core.{◌≡◌};
 ghost use Rattle.model.specs.Answers.{refusal_number};
 

@@ -1,4 +1,6 @@
 // The program: reads a card from standard input, and prints its exact plan or its refusal.
+#![tactic(auto)]
+
 ghost use Rattle.basics.specs.Core.{◌≡◌, length};
 ghost use Rattle.basics.specs.Lists.{written_over};
 ghost use Rattle.model.specs.Listing.{exact_listing, printed};

@@ -1,5 +1,7 @@
 // The exact and the coarse planner: one search, over the counts that are allowed the planner, and their call, which answers every input. The plan
 // over a list of counts (`plan_over`) and the test on the buffers (`either_short`) serve the planner over a list too.
+#![tactic(auto)]
+
 ghost use Rattle.basics.specs.Core.{◌≡◌, length, replicate};
 ghost use Rattle.basics.specs.Lists.{written_over};
 ghost use Rattle.model.specs.Instance.{instance_of};

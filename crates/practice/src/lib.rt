@@ -1,4 +1,6 @@
 // Practice cards (document 02, §1): the generator, and the card of the show that it draws from a start.
+#![tactic(auto)]
+
 ghost use Rattle.basics.specs.Core.{◌≡◌, ◌+◌};
 ghost use Rattle.basics.specs.Writing.{Written};
 ghost use Rattle.model.specs.Instance.{table_bytes, load_bytes, card_bytes};

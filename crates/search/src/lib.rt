@@ -1,5 +1,7 @@
 // The search over a list of allowed counts (thesis 4.2, 5.1), by thresholds: a round forward and backward through the slots for each binary
 // digit of the places. A place is an index of the list, and level j lies between place j and place j + 1.
+#![tactic(auto)]
+
 ghost use Rattle.basics.specs.Core.{◌-◌, min, ◌≡◌, length, replicate};
 ghost use Rattle.model.specs.Instance.{instance_of};
 ghost use Rattle.counts.specs.AllowedCounts.{powers_up_to};

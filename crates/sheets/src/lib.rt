@@ -1,4 +1,6 @@
 // The sheet of a plan, and the marking of a sheet that is handed in.
+#![tactic(auto)]
+
 ghost use Rattle.basics.specs.Core.{◌≤◌, ◌≡◌, length};
 ghost use Rattle.basics.specs.Lists.{tabulate, written_over};
 ghost use Rattle.model.specs.Instance.{instance_of};

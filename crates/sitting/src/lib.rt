@@ -1,6 +1,8 @@
 // The rules of a sitting (document 02, §4), decided on plain numbers: what each act answers, which record of the list of seats it changes
 // and how, and the sitting that it gives back. The list itself is lent to the crates around this one. In a sitting's field `state`, 1
 // stands for open and 2 for closed.
+#![tactic(auto)]
+
 ghost use Rattle.basics.specs.Core.{◌≡◌};
 ghost use Rattle.model.specs.Acts.{is_unopened};
 ghost use Rattle.model.specs.SittingState.{phase_of};

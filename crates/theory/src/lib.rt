@@ -1,1 +1,2 @@
 // The theorems about the definitions of model and thresholds. No code: see specs/.
+#![tactic(auto)]
