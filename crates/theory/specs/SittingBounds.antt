@@ -189,7 +189,7 @@ unfolding MarksAtLeast effect_of event_with act_spec
 none_below_least card f (open_sitting d a c p w) lent (Cost n) e k = tt
 none_below_least card f (seat_candidate d c) lent (Cost n) e k = tt
 none_below_least card f (close_sitting d) lent (Cost n) e k = tt
-none_below_least card f (submit_sheet d c s) (lent, rest) (Cost n) e k = either (eqb d k) (rw (sym lent) (submitted_least f d c s e))
+none_below_least card f (submit_sheet d c s) lent (Cost n) e k = either (eqb d k) (rw (sym lent.0) (submitted_least f d c s e))
   where
     either : {l : ℕ} (b : Bool) → l ≤ n → Each (λ m. l ≤ m) (cond b (n ∷ []) [])
     either true h = (h, tt)
