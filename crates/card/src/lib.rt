@@ -21,13 +21,13 @@ const MODULES_PLACE: usize = 5;
 const HEAD_LENGTH: u64 = 17;
 
 // A place in a card.
-#[derive(Drop)]
+#[derive(Clone, Copy)]
 struct Cursor {
     at: usize,
 }
 
 // A number taken from a card, and the place after it.
-#[derive(Drop)]
+#[derive(Clone, Copy)]
 struct Number {
     value: u64,
     next: Cursor,
@@ -85,18 +85,18 @@ impl Cursor {
 }
 
 // The numbers of a card's head, and once the card has been accepted the lowest step of its table, till then 0.
-#[derive(Drop)]
+#[derive(Clone, Copy)]
 pub struct Header {
     pub modules: u64,
-    pub topStep: u64,
+    pub top_step: u64,
     pub slots: u64,
-    pub powerUp: u64,
-    pub powerDown: u64,
-    pub lowestStep: u64,
+    pub power_up: u64,
+    pub power_down: u64,
+    pub lowest_step: u64,
 }
 
 // The answer of the check: the header of an accepted card, or the lowest refusal.
-#[derive(Drop)]
+#[derive(Clone, Copy)]
 pub enum Checked {
     Valid(Header),
     Invalid(Refusal),
@@ -179,11 +179,11 @@ fn read_header(card: &[u8]) -> Header
     let power_down = at_down.four(card);
     Header {
         modules: modules.value,
-        topStep: top_step.value,
+        top_step: top_step.value,
         slots: slots.value,
-        powerUp: power_up.value,
-        powerDown: power_down.value,
-        lowestStep: 0,
+        power_up: power_up.value,
+        power_down: power_down.value,
+        lowest_step: 0,
     }
 }
 

@@ -9,13 +9,13 @@ ghost use Rattle.model.specs.Instance.{load_place, front_bytes};
 ghost use Rattle.encoder.specs.Heads.{head_of};
 
 // The fields of a show other than its table and its loads.
-#[derive(Drop)]
+#[derive(Clone, Copy)]
 pub struct Fields {
     pub modules: u32,
-    pub topStep: u32,
+    pub top_step: u32,
     pub slots: u32,
-    pub powerUp: u32,
-    pub powerDown: u32,
+    pub power_up: u32,
+    pub power_down: u32,
 }
 
 // The length of a card.

@@ -16,7 +16,7 @@ use planners::PlannerKind;
 
 // What every call but the explanation and the acts of a sitting returns: a refusal's number and cost 0, or number 0 and the cost.
 #[repr(C)]
-#[derive(Drop)]
+#[derive(Clone, Copy)]
 pub struct LampAnswer {
     pub number: u64,
     pub cost: u64,

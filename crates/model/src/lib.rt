@@ -5,7 +5,7 @@ ghost use Rattle.basics.specs.Core.{◌≡◌};
 ghost use Rattle.model.specs.Answers.{refusal_number};
 
 // One variant for each number: document 01's table in section 'Refused', 1 to 13, and then the numbers of document 02.
-#[derive(Drop)]
+#[derive(Clone, Copy)]
 pub enum Refusal {
     // 1, 'not a card'
     NotACard,
@@ -72,7 +72,7 @@ pub fn refusal_number(x: Refusal) -> u64
 }
 
 // The answer of a call: a cost (the rounded count in its place), or a refusal.
-#[derive(Drop)]
+#[derive(Clone, Copy)]
 pub enum Answer {
     Cost(u64),
     Refused(Refusal),
@@ -81,7 +81,7 @@ pub enum Answer {
 // A seat of a sitting (02 §4), a record without padding: a candidate's number, 0 in an empty record, and the lowest cost marked so far,
 // which there is if `marked` is not 0.
 #[repr(C)]
-#[derive(Drop)]
+#[derive(Clone, Copy)]
 pub struct Seat {
     pub lowest: u64,
     pub candidate: u16,
@@ -91,7 +91,7 @@ pub struct Seat {
 
 // A sitting (02 §4), which the host keeps and hands to each act: `state` is 1 while it is open and 2 once it is closed.
 #[repr(C)]
-#[derive(Drop)]
+#[derive(Clone, Copy)]
 pub struct Sitting {
     pub state: u64,
     pub allowance: u64,
@@ -102,7 +102,7 @@ pub struct Sitting {
 // What an act of a sitting returns: a refusal's number, or 0, the cost, whether the cost is a lowest cost, and the sitting as the act
 // leaves it.
 #[repr(C)]
-#[derive(Drop)]
+#[derive(Clone, Copy)]
 pub struct Reply {
     pub number: u64,
     pub cost: u64,
@@ -113,7 +113,7 @@ pub struct Reply {
 // What the explanation of a sheet returns (02 §7): a refusal's number and three times 0, or number 0 and where the points above the least cost
 // went, in the paragraph's words: spread, swaps, counts.
 #[repr(C)]
-#[derive(Drop)]
+#[derive(Clone, Copy)]
 pub struct Points {
     pub number: u64,
     pub spread: u64,

@@ -15,7 +15,7 @@ use card::{Checked, Header};
 use model::{Answer, Refusal};
 
 // The two planners of document 01.
-#[derive(Drop)]
+#[derive(Clone, Copy)]
 pub enum PlannerKind {
     Exact,
     Coarse,

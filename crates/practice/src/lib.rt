@@ -12,16 +12,16 @@ use encoder::Fields;
 use model::{Answer, Refusal};
 
 // What the first six draws of a start give, with the start and the state of the generator after them.
-#[derive(Drop)]
+#[derive(Clone, Copy)]
 struct FirstDraws {
     start: u32,
     fields: Fields,
-    firstEntry: u32,
+    first_entry: u32,
     state: u32,
 }
 
 // The place after the table, and the state of the generator after its draws.
-#[derive(Drop)]
+#[derive(Clone, Copy)]
 struct AfterTable {
     place: usize,
     state: u32,
@@ -49,15 +49,15 @@ fn draw_first(start: u32) -> FirstDraws
     let entry = xorshift(down);
     let fields = Fields {
         modules: 1 + modules % 200,
-        topStep: 1 + top % 200,
+        top_step: 1 + top % 200,
         slots: slots % 65,
-        powerUp: up % 1001,
-        powerDown: down % 1001,
+        power_up: up % 1001,
+        power_down: down % 1001,
     };
     FirstDraws {
         start,
         fields,
-        firstEntry: entry % 1001,
+        first_entry: entry % 1001,
         state: entry,
     }
 }

@@ -15,7 +15,7 @@ use card::Header;
 
 // What a slot says of a level: how much dearer the slots up to it make the place above the level than the place below it; and the side of the
 // level on which the least plan is in the slot, 2 above, 0 below, 1 where it is in the next slot.
-#[derive(Drop)]
+#[derive(Clone, Copy)]
 struct Verdict {
     lead: u64,
     side: u8,

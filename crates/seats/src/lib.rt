@@ -11,7 +11,7 @@ use model::Seat;
 // What a scan of the seats for a candidate tells: the first place of the candidate, which is the number of seats where there is none, how many
 // records are seats, how many the list has, and the candidate's record. `at` counts the seats that are passed so far, and the scan goes on until
 // it is `end`.
-#[derive(Drop)]
+#[derive(Clone, Copy)]
 pub struct View {
     pub at: usize,
     pub end: usize,

@@ -24,7 +24,7 @@ pub use submit::submitting;
 
 // What an act that may change the list of seats does: the place of a record, what it becomes, and the reply. Where no record changes, the
 // place is the length of the list.
-#[derive(Drop)]
+#[derive(Clone, Copy)]
 pub struct Outcome {
     pub at: usize,
     pub seat: Seat,
@@ -32,7 +32,7 @@ pub struct Outcome {
 }
 
 // What an opening does: how many records are emptied, and the reply.
-#[derive(Drop)]
+#[derive(Clone, Copy)]
 pub struct OpenOutcome {
     pub emptied: usize,
     pub reply: Reply,

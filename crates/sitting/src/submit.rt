@@ -11,7 +11,7 @@ use model::{Answer, Refusal, Seat, Sitting};
 use seats::View;
 
 // How a submission is answered, and the submissions used after it.
-#[derive(Drop)]
+#[derive(Clone, Copy)]
 struct Submission {
     pub answer: Answer,
     pub submissions: u64,
