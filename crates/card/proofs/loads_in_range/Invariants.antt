@@ -1,0 +1,10 @@
+use Rattle.basics.specs.Core.{◌-◌, leb}
+use Rattle.basics.specs.Tests.{Passed}
+use Rattle.model.specs.Instance.{instance_of}
+use Rattle.card.proofs.loads_in_range.Given as goal
+
+abbrev pub invariant-loop-t : goal.invariant-loop-t
+invariant-loop-t l = Passed l.slots (λ u. leb ((instance_of l.card).load u) l.most) l.t
+
+abbrev pub decreases-loop-t : goal.decreases-loop-t
+decreases-loop-t l = l.slots - l.t

@@ -1,0 +1,23 @@
+use Rattle.basics.specs.Core.{refl, arith}
+use Rattle.model.specs.Instance.{instance_of}
+use Rattle.card.proofs.FieldsRead.{read_at}
+use Rattle.card.proofs.read_header.Goals as goal
+
+pub returns : goal.returns
+unfolding instance_of
+returns c =
+    let m = c.one-modules.ensures in
+    let q = c.one-top_step.ensures in
+    let t = c.two-slots.ensures in
+    let u = c.four-power_up.ensures in
+    let d = c.four-power_down.ensures in
+    record {
+      modules_is = read_at m refl;
+      top_is = read_at q m.position;
+      slots_is = read_at t (omega arith);
+      up_is = read_at u (omega arith);
+      down_is = read_at d (omega arith);
+      modules_bound = m.bound;
+      top_bound = q.bound;
+      slots_bound = t.bound;
+    }
