@@ -1,8 +1,7 @@
-use Rattle.basics.specs.Core.{arith}
+use Rattle.basics.specs.Core.{arith, ◌∙◌, sym}
 use Rattle.basics.specs.Tests.{passed_none, passed_more, passed_all, passed_not}
 use Rattle.model.specs.CountRules.{gaps_grow_by}
 use Rattle.count_rules.proofs.Rules.{rising}
-use Rattle.basics.specs.Core.{◌∙◌, sym}
 use Rattle.count_rules.proofs.gaps_grow.Goals as goal
 
 pub loop-k-init : goal.loop-k-init
@@ -10,7 +9,7 @@ loop-k-init c = passed_none _ _
 
 pub gap_grows-requires : goal.gap_grows-requires
 gap_grows-requires c =
-    rising _ c.loop-k.k c.requires.0 c.requires.1 c.loop-k-test.true
+    rising _ c.loop-k.k c.requires.list_value c.requires.ratio_bound c.loop-k-test.true
 
 pub returns-then-not-gap_grows : goal.returns-then-not-gap_grows
 unfolding gaps_grow_by

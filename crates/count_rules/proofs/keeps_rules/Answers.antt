@@ -1,6 +1,5 @@
-use Rattle.basics.specs.Core.{◌∙◌, arith}
+use Rattle.basics.specs.Core.{◌∙◌, arith, sym}
 use Rattle.count_rules.proofs.Rules.{ends_two, ratio_most, wrong_ends, not_ascending, wrong_ratio, first_high, gaps_decide}
-use Rattle.basics.specs.Core.{◌∙◌, sym}
 use Rattle.count_rules.proofs.keeps_rules.Goals as goal
 
 pub returns-then-not-ends_at : goal.returns-then-not-ends_at
@@ -28,10 +27,10 @@ returns-then-ratio-list c =
 
 pub gaps_grow-requires : goal.gaps_grow-requires
 gaps_grow-requires c =
-    (
-      (sym c.strictly_ascends.ensures ∙ c.if-not-strictly_ascends.false,)
-      ratio_most _ (sym c.ratio_in_range.ensures ∙ c.if-not-ratio_in_range.false),
-    )
+    record {
+      list_value = sym c.strictly_ascends.ensures ∙ c.if-not-strictly_ascends.false;
+      ratio_bound = ratio_most _ (sym c.ratio_in_range.ensures ∙ c.if-not-ratio_in_range.false);
+    }
 
 pub returns : goal.returns
 returns c =

@@ -1,0 +1,27 @@
+use Rattle.basics.specs.Core.{◌≤◌, mul-le-mul, arith}
+use Rattle.basics.specs.Tests.{passed_none, passed_more, passed_all, passed_not}
+use Rattle.model.specs.Plans.{plan_serves}
+use Rattle.plans.proofs.Loads.{in_slots, no_more_slots, slot_load_there, serve_failed, serve_passed}
+use Rattle.plans.proofs.plan_serves.Goals as goal
+
+pub loop-t-init : goal.loop-t-init
+loop-t-init c = passed_none _ _
+
+pub overflow_mul-most : goal.overflow_mul-most
+overflow_mul-most c =
+    let n : c.wide.result ≤ 255 = omega (arith, c.shared_slice_known-in-loop-t-1.given c.loop-t.t) in
+    record { fits = omega (arith, mul-le-mul n c.requires.ready.header.top_bound) }
+
+pub load-requires : goal.load-requires
+load-requires c = search slot_load_there
+
+pub returns-then-most-load : goal.returns-then-most-load
+unfolding plan_serves
+returns-then-most-load c = passed_not c.loop-t.invariant (search in_slots) (search serve_failed)
+
+pub loop-t-preserved : goal.loop-t-preserved
+loop-t-preserved c = passed_more c.loop-t.invariant (search in_slots) (search serve_passed)
+
+pub returns : goal.returns
+unfolding plan_serves
+returns c = passed_all c.loop-t.invariant (search no_more_slots)
