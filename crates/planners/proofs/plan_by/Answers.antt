@@ -1,0 +1,24 @@
+use Rattle.basics.specs.Core.{arith}
+use Rattle.model.specs.Planners.{allowed_counts}
+use Rattle.planners.proofs.Fronts.{front_within, front_length}
+use Rattle.planners.proofs.Planning.{rack_fits_lem, kind_ready, kind_written}
+use Rattle.planners.proofs.plan_by.Goals as goal
+
+pub fill_counts-width-requires : goal.fill_counts-width-requires
+fill_counts-width-requires c = rack_fits_lem c.requires.ready (omega arith)
+
+pub slice_bounds-counts-end : goal.slice_bounds-counts-end
+slice_bounds-counts-end c =
+    let e = c.fill_counts-width.ensures in front_within (allowed_counts _ _) _ e.0 e.1
+
+pub slice_bounds-plan_over-end : goal.slice_bounds-plan_over-end
+slice_bounds-plan_over-end c =
+    let e = c.fill_counts-width.ensures in front_length (allowed_counts _ _) _ e.0 e.1
+
+pub plan_over-requires : goal.plan_over-requires
+plan_over-requires c = search kind_ready
+
+pub returns : goal.returns
+returns c =
+    let parts = let e = c.fill_counts-width.ensures in kind_written c.args.kind c.requires _ e.0 e.1 c.work_bytes-asked.ensures c.plan_over.ensures in
+    record { value = parts.0; plan_after = parts.1; work_after = parts.2 }

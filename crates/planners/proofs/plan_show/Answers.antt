@@ -1,0 +1,10 @@
+use Rattle.card.proofs.Groups.{ready}
+use Rattle.planners.proofs.Planning.{plan_refused}
+use Rattle.planners.proofs.plan_show.Goals as goal
+
+pub plan_show_on-requires : goal.plan_show_on-requires
+plan_show_on-requires c = search ready
+
+pub returns-in-Invalid : goal.returns-in-Invalid
+returns-in-Invalid c = let parts = plan_refused _ _ _ _ c.check.ensures c.x-1.given.1 in
+    record { value = parts.0; plan_after = parts.1; work_after = parts.2 }

@@ -1,0 +1,20 @@
+use Rattle.basics.specs.Tests.{passed_none, passed_more, passed_all, passed_not}
+use Rattle.model.specs.Sheets.{sheet_entries}
+use Rattle.sheets.proofs.SheetBytes.{entry_failed, entry_passed}
+use Rattle.sheets.proofs.sheet_entries.Goals as goal
+
+pub loop-x-init : goal.loop-x-init
+loop-x-init c = passed_none _ _
+
+pub returns-then-not-is_entry : goal.returns-then-not-is_entry
+unfolding sheet_entries
+returns-then-not-is_entry c =
+    passed_not c.loop-x.invariant c.loop-x-test.true (search entry_failed)
+
+pub loop-x-preserved : goal.loop-x-preserved
+loop-x-preserved c =
+    passed_more c.loop-x.invariant c.loop-x-test.true (search entry_passed)
+
+pub returns : goal.returns
+unfolding sheet_entries
+returns c = search passed_all

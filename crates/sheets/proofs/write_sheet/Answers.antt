@@ -1,0 +1,36 @@
+use Rattle.basics.specs.Core.{arith}
+use Rattle.plans.proofs.Loads.{in_slots, no_more_slots, slot_load_there}
+use Rattle.sheets.proofs.RowPlaces.{row_there, row_small, row_fits}
+use Rattle.sheets.proofs.Filled.{filled_none, filled_room, filled_more, filled_all}
+use Rattle.sheets.proofs.write_sheet.Goals as goal
+
+pub loop-t-init : goal.loop-t-init
+loop-t-init c = filled_none _ _ _
+
+pub load-l-requires : goal.load-l-requires
+load-l-requires c = search slot_load_there
+
+pub overflow_mul-start : goal.overflow_mul-start
+overflow_mul-start c =
+    let sized = c.requires.plan.sized in
+    record { fits = omega (arith, row_small sized.ready (in_slots sized c.loop-t-test.true)) }
+
+pub overflow_add-end : goal.overflow_add-end
+overflow_add-end c =
+    let sized = c.requires.plan.sized in
+    record { fits = omega (arith, row_small sized.ready (in_slots sized c.loop-t-test.true)) }
+
+pub write_slot-requires : goal.write_slot-requires
+write_slot-requires c =
+    let given = c.requires in
+    let below = in_slots given.plan.sized c.loop-t-test.true in
+    let inside = row_there given.plan.sized.ready below (filled_room c.loop-t.invariant given.room) in
+    search row_fits
+
+pub loop-t-preserved : goal.loop-t-preserved
+loop-t-preserved c =
+    let below = in_slots c.requires.plan.sized c.loop-t-test.true in
+    search filled_more
+
+pub returns : goal.returns
+returns c = filled_all c.loop-t.invariant c.requires.room (search no_more_slots)
