@@ -5,7 +5,7 @@ use Rattle.catalogue.proofs.catalogue_table.Goals as goal
 
 pub returns-then-not-rack_number : goal.returns-then-not-rack_number
 returns-then-not-rack_number c = let parts = top_refused _ _ (sym c.rack_number.ensures ∙ c.if-not-rack_number.true) in
-    record { value = parts.0; table_after = parts.1; writes_table = parts.2 }
+    record { value = parts.0; table_after = parts.1.0; writes_table = parts.1.1 }
 
 pub overflow_add-entries : goal.overflow_add-entries
 overflow_add-entries c =
@@ -19,7 +19,7 @@ overflow_mul-entries c =
 
 pub returns-then-table-entries : goal.returns-then-table-entries
 returns-then-table-entries c = let parts = short_refused _ _ (sym c.rack_number.ensures ∙ c.if-not-rack_number.false) c.if-table-entries.true in
-    record { value = parts.0; table_after = parts.1; writes_table = parts.2 }
+    record { value = parts.0; table_after = parts.1.0; writes_table = parts.1.1 }
 
 pub put_entries-requires : goal.put_entries-requires
 put_entries-requires c =
@@ -30,4 +30,4 @@ put_entries-requires c =
 pub returns : goal.returns
 returns c =
     let parts = table_given _ _ (sym c.rack_number.ensures ∙ c.if-not-rack_number.false) c.whole_table.ensures c.if-table-entries.false c.put_entries.ensures in
-    record { value = parts.0; table_after = parts.1; writes_table = parts.2 }
+    record { value = parts.0; table_after = parts.1.0; writes_table = parts.1.1 }

@@ -21,4 +21,4 @@ plan_over-requires c = search kind_ready
 pub returns : goal.returns
 returns c =
     let parts = let e = c.fill_counts-width.ensures in kind_written c.args.kind c.requires _ e.0 e.1 c.work_bytes-asked.ensures c.plan_over.ensures in
-    record { value = parts.0; plan_after = parts.1; work_after = parts.2 }
+    record { value = parts.0; plan_after = parts.1.0; work_after = parts.1.1 }

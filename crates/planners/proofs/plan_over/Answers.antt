@@ -11,4 +11,4 @@ slice_bounds-search-end-4 c = sym (length-take-le _ _ (search work_long))
 pub returns : goal.returns
 returns c =
     let parts = let given = c.requires in least_written given c.search.ensures.plan c.plan_cost.ensures c.search.ensures.work in
-    record { value = parts.0; plan_after = parts.1; work_after = parts.2 }
+    record { value = parts.0; plan_after = parts.1.0; work_after = parts.1.1 }

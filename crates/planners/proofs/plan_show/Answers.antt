@@ -7,4 +7,4 @@ plan_show_on-requires c = search ready
 
 pub returns-in-Invalid : goal.returns-in-Invalid
 returns-in-Invalid c = let parts = plan_refused _ _ _ _ c.check.ensures c.x-1.given.1 in
-    record { value = parts.0; plan_after = parts.1; work_after = parts.2 }
+    record { value = parts.0; plan_after = parts.1.0; work_after = parts.1.1 }

@@ -4,7 +4,7 @@ use Rattle.planners.proofs.plan_show_on.Goals as goal
 pub returns-then-short_for : goal.returns-then-short_for
 returns-then-short_for c =
     let parts = plan_short _ _ _ _ c.requires (kind_keeps c.args.kind _) c.short_for.ensures c.if-short_for.true in
-    record { value = parts.0; plan_after = parts.1; work_after = parts.2 }
+    record { value = parts.0; plan_after = parts.1.0; work_after = parts.1.1 }
 
 pub plan_by-requires : goal.plan_by-requires
 plan_by-requires c = search buffers_given
@@ -12,4 +12,4 @@ plan_by-requires c = search buffers_given
 pub returns : goal.returns
 returns c =
     let parts = plan_done _ _ _ _ c.requires (kind_keeps c.args.kind _) c.short_for.ensures c.if-short_for.false c.plan_by.ensures in
-    record { value = parts.0; plan_after = parts.1; work_after = parts.2 }
+    record { value = parts.0; plan_after = parts.1.0; work_after = parts.1.1 }

@@ -1,2 +1,0 @@
-pub mod Kit
-pub mod Walk
