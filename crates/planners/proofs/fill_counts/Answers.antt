@@ -4,13 +4,13 @@ use Rattle.planners.proofs.fill_counts.Goals as goal
 pub returns-in-Exact : goal.returns-in-Exact
 unfolding allowed_counts
 returns-in-Exact c = record {
-      value = rw c.enum_told-1.given.1 c.fill_all.ensures;
-      counts_after = rw c.enum_told-1.given.1 c.fill_all.ensures;
-    }
+  value = rw c.in-Exact.is c.fill_all.ensures.value;
+  counts_after = rw c.in-Exact.is c.fill_all.ensures.counts_after;
+}
 
 pub returns-in-Coarse : goal.returns-in-Coarse
 unfolding allowed_counts
 returns-in-Coarse c = record {
-      value = rw c.enum_told-in-Coarse-1.given.1 c.fill_coarse.ensures;
-      counts_after = rw c.enum_told-in-Coarse-1.given.1 c.fill_coarse.ensures;
-    }
+  value = rw c.in-Coarse.is c.fill_coarse.ensures.value;
+  counts_after = rw c.in-Coarse.is c.fill_coarse.ensures.counts_after;
+}

@@ -9,16 +9,16 @@ fill_counts-width-requires c = rack_fits_lem c.requires.ready (omega arith)
 
 pub slice_bounds-counts-end : goal.slice_bounds-counts-end
 slice_bounds-counts-end c =
-    let e = c.fill_counts-width.ensures in front_within (allowed_counts _ _) _ e.0 e.1
+    front_within (allowed_counts _ _) _ c.fill_counts-width.ensures.value c.fill_counts-width.ensures.counts_after
 
 pub slice_bounds-plan_over-end : goal.slice_bounds-plan_over-end
 slice_bounds-plan_over-end c =
-    let e = c.fill_counts-width.ensures in front_length (allowed_counts _ _) _ e.0 e.1
+    front_length (allowed_counts _ _) _ c.fill_counts-width.ensures.value c.fill_counts-width.ensures.counts_after
 
 pub plan_over-requires : goal.plan_over-requires
 plan_over-requires c = search kind_ready
 
 pub returns : goal.returns
 returns c =
-    let parts = let e = c.fill_counts-width.ensures in kind_written c.args.kind c.requires _ e.0 e.1 c.work_bytes-asked.ensures c.plan_over.ensures in
+    let parts = kind_written c.args.kind c.requires _ c.fill_counts-width.ensures.value c.fill_counts-width.ensures.counts_after c.work_bytes-asked.ensures (c.plan_over.ensures.value, (c.plan_over.ensures.plan_after, c.plan_over.ensures.work_after)) in
     record { value = parts.0; plan_after = parts.1.0; work_after = parts.1.1 }

@@ -1,5 +1,5 @@
 use Rattle.basics.specs.Core.{sym, length-take-le}
-use Rattle.planners.proofs.Searched.{plan_long, work_long, least_written}
+use Rattle.planners.proofs.Searched.{plan_long, work_long, least_written, made_ready}
 use Rattle.planners.proofs.plan_over.Goals as goal
 
 pub slice_bounds-search-end-2 : goal.slice_bounds-search-end-2
@@ -12,3 +12,6 @@ pub returns : goal.returns
 returns c =
     let parts = let given = c.requires in least_written given c.search.ensures.plan c.plan_cost.ensures c.search.ensures.work in
     record { value = parts.0; plan_after = parts.1.0; work_after = parts.1.1 }
+
+pub plan_cost-requires : goal.plan_cost-requires
+plan_cost-requires c = search made_ready

@@ -1,3 +1,4 @@
+use Rattle.basics.specs.Core.{refl}
 use Rattle.card.proofs.Groups.{ready}
 use Rattle.planners.proofs.Planning.{plan_refused}
 use Rattle.planners.proofs.plan_show.Goals as goal
@@ -6,5 +7,5 @@ pub plan_show_on-requires : goal.plan_show_on-requires
 plan_show_on-requires c = search ready
 
 pub returns-in-Invalid : goal.returns-in-Invalid
-returns-in-Invalid c = let parts = plan_refused _ _ _ _ c.check.ensures c.x-1.given.1 in
+returns-in-Invalid c = let parts = plan_refused _ _ _ _ c.in-Invalid.ensures refl in
     record { value = parts.0; plan_after = parts.1.0; work_after = parts.1.1 }

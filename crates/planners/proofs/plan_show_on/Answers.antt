@@ -11,5 +11,5 @@ plan_by-requires c = search buffers_given
 
 pub returns : goal.returns
 returns c =
-    let parts = plan_done _ _ _ _ c.requires (kind_keeps c.args.kind _) c.short_for.ensures c.if-short_for.false c.plan_by.ensures in
+    let parts = plan_done _ _ _ _ c.requires (kind_keeps c.args.kind _) c.short_for.ensures c.if-short_for.false (c.plan_by.ensures.value, (c.plan_by.ensures.plan_after, c.plan_by.ensures.work_after)) in
     record { value = parts.0; plan_after = parts.1.0; work_after = parts.1.1 }

@@ -4,8 +4,8 @@ use Rattle.planners.proofs.work_bytes.Goals as goal
 
 pub returns-in-Exact : goal.returns-in-Exact
 unfolding work_bytes
-returns-in-Exact c = rw c.enum_told-1.given.1 (search exact_size)
+returns-in-Exact c = rw c.in-Exact.is (search exact_size)
 
 pub returns-in-Coarse : goal.returns-in-Coarse
 unfolding work_bytes
-returns-in-Coarse c = rw c.enum_told-in-Coarse-1.given.1 (search coarse_size)
+returns-in-Coarse c = rw c.in-Coarse.is (search coarse_size)

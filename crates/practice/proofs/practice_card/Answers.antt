@@ -8,16 +8,16 @@ returns-then-start-eq0 c = let parts = zero_refused _ _ (omega arith) in
 
 pub returns-then-card-size : goal.returns-then-card-size
 returns-then-card-size c =
-    let parts = let drew = c.draw_first-first.ensures in let size = length_is drew.0 drew.1 c.card_length-size.ensures in short_refused _ _ c.if-start-eq0.false (omega arith) in
+    let parts = let drew = c.draw_first-first.ensures in let size = length_is drew.of_start drew.start_value c.card_length-size.ensures in short_refused _ _ c.if-start-eq0.false (omega arith) in
     record { value = parts.0; card_after = parts.1 }
 
 pub put_card-requires : goal.put_card-requires
 put_card-requires c =
     let drew = c.draw_first-first.ensures in
-    let size = length_is drew.0 drew.1 c.card_length-size.ensures in
-    card_room drew.0 drew.1 (omega arith)
+    let size = length_is drew.of_start drew.start_value c.card_length-size.ensures in
+    card_room drew.of_start drew.start_value (omega arith)
 
 pub returns : goal.returns
 returns c =
-    let parts = let drew = c.draw_first-first.ensures in let size = length_is drew.0 drew.1 c.card_length-size.ensures in card_given _ _ c.if-start-eq0.false (omega arith) (from_start drew.0 drew.1 c.put_card.ensures) in
+    let parts = let drew = c.draw_first-first.ensures in let size = length_is drew.of_start drew.start_value c.card_length-size.ensures in card_given _ _ c.if-start-eq0.false (omega arith) (from_start drew.of_start drew.start_value c.put_card.ensures) in
     record { value = parts.0; card_after = parts.1 }
