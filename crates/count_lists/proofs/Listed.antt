@@ -1,8 +1,7 @@
 -- The planner over a list, by its tests: what is a planner's in general is applied to it.
-use Rattle.basics.specs.Core.{ℕ, ◌*◌, ◌≡◌, refl, Bool, true, false, not, List, arith, length}
+use Rattle.basics.specs.Core.{ℕ, ◌*◌, ◌≡◌, refl, sym, ◌∙◌, Bool, true, false, List, arith, length}
 use mir.Syntax.{w64}
 use mir.Val.{Fits}
-use Rattle.basics.specs.Tests.{test_failed, test_passed}
 use Rattle.model.specs.declared.Refusal.TheVariants.{BufferTooShort, CountList}
 use Rattle.model.specs.declared.Answer.TheVariants.{Cost, Refused}
 use Rattle.model.specs.Instance.{instance_of}
@@ -24,12 +23,12 @@ module _ (l : List ℕ) (r : ℕ) {s : List ℕ} {h : Header} (ready : Ready s h
   same_rules : kept ≡ keeps_rules l r (instance_of s).modules
   same_rules = rw ready.header.modules_is at rules
 
-  pub broken : (p w : List ℕ) → not kept ≡ true → Planned k s p w (Refused CountList) p w
-  broken p w no-rules = plan_unlisted k s p w ready (test_failed same_rules no-rules)
+  pub broken : (p w : List ℕ) → kept ≡ false → Planned k s p w (Refused CountList) p w
+  broken p w no-rules = plan_unlisted k s p w ready (sym same_rules ∙ no-rules)
 
-  module _ (passed : not kept ≡ false) where
+  module _ (passed : kept ≡ true) where
     keeps : KeepsRules k (instance_of s)
-    keeps = test_passed same_rules passed
+    keeps = sym same_rules ∙ passed
 
     -- The work bytes asked for are one for each entry and slot, and no more than 64 bits can count.
     pub asked_fits : Fits w64 (length l * h.slots)

@@ -1,0 +1,13 @@
+use Rattle.calls.proofs.Making.{made_ready, made_written, made_kept}
+use Rattle.calls.proofs.make_sheet_on.Goals as goal
+
+pub write_sheet-requires : goal.write_sheet-requires
+write_sheet-requires c = search made_ready
+
+pub returns-in-Cost : goal.returns-in-Cost
+returns-in-Cost c =
+    let parts = made_written _ _ _ c.check_plan-answer.ensures c.in-Cost.is c.write_sheet.ensures in
+    record { value = parts.0; sheet_after = parts.1 }
+
+pub returns-in_default-clause-sheet_after : goal.returns-in_default-clause-sheet_after
+returns-in_default-clause-sheet_after c = (made_kept _ _ _ c.check_plan-answer.ensures c.in_default.is).1

@@ -1,0 +1,9 @@
+use Rattle.card.proofs.Groups.{ready}
+use Rattle.calls.proofs.Marking.{mark_refused}
+use Rattle.calls.proofs.mark_sheet.Goals as goal
+
+pub mark_sheet_on-requires : goal.mark_sheet_on-requires
+mark_sheet_on-requires c = search ready
+
+pub returns-in-Invalid : goal.returns-in-Invalid
+returns-in-Invalid c = search mark_refused

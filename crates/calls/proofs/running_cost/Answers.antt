@@ -1,0 +1,9 @@
+use Rattle.card.proofs.Groups.{ready}
+use Rattle.calls.proofs.RunningCost.{pair_refused}
+use Rattle.calls.proofs.running_cost.Goals as goal
+
+pub running_cost_on-requires : goal.running_cost_on-requires
+running_cost_on-requires c = search ready
+
+pub returns-in-Invalid : goal.returns-in-Invalid
+returns-in-Invalid c = search pair_refused

@@ -1,0 +1,11 @@
+use Rattle.card.proofs.Groups.{ready}
+use Rattle.planners.proofs.Planning.{plan_refused}
+use Rattle.basics.specs.Core.{refl}
+use Rattle.count_lists.proofs.plan_listed.Goals as goal
+
+pub plan_listed_on-requires : goal.plan_listed_on-requires
+plan_listed_on-requires c = search ready
+
+pub returns-in-Invalid : goal.returns-in-Invalid
+returns-in-Invalid c = let parts = plan_refused _ _ _ _ c.in-Invalid.ensures refl in
+    record { value = parts.0; plan_after = parts.1.0; work_after = parts.1.1 }
