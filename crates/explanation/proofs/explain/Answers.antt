@@ -1,0 +1,11 @@
+use Rattle.card.proofs.Groups.{ready}
+use Rattle.explanation.proofs.Explaining.{refused_card}
+use Rattle.basics.specs.Core.{refl}
+use Rattle.explanation.proofs.explain.Goals as goal
+
+pub explain_on-requires : goal.explain_on-requires
+explain_on-requires c = search ready
+
+pub returns-in-Invalid : goal.returns-in-Invalid
+returns-in-Invalid c = let parts = refused_card _ _ _ c.in-Invalid.ensures refl c.refused.ensures in
+    record { value = parts.0; work_after = parts.1 }

@@ -1,0 +1,4 @@
+use Rattle.explanation.proofs.refused.Goals as goal
+
+pub returns : goal.returns
+returns c = rw c.refusal_number.ensures

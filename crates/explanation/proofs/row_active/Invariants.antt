@@ -1,0 +1,10 @@
+use Rattle.basics.specs.Core.{◌-◌, length, get_or}
+use Rattle.basics.specs.Summing.{Summed}
+use Rattle.model.specs.Sheets.{active_of}
+use Rattle.explanation.proofs.row_active.Given as goal
+
+abbrev pub invariant-loop-k : goal.invariant-loop-k
+invariant-loop-k l = Summed (length l.row) (λ j. active_of (get_or l.row j 0)) l.k l.n
+
+abbrev pub decreases-loop-k : goal.decreases-loop-k
+decreases-loop-k l = length l.row - l.k
