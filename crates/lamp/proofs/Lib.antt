@@ -1,3 +1,1 @@
 mod Promised
-mod SittingSteps
-mod Readings

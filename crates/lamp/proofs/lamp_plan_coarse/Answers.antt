@@ -1,0 +1,7 @@
+use Rattle.model.specs.Planners.{coarse}
+use Rattle.lamp.proofs.Promised.{plans}
+use Rattle.lamp.proofs.lamp_plan_coarse.Goals as goal
+
+pub returns : goal.returns
+returns c = let parts = plans coarse _ _ _ (c.plan_show.ensures.value, (c.plan_show.ensures.plan_after, c.plan_show.ensures.work_after)) c.to_c.ensures in
+    record { outcome = parts.0; plan_bytes = parts.1.0; work_bytes = parts.1.1.0; own_sheet = parts.1.1.1.0; twice = parts.1.1.1.1 }

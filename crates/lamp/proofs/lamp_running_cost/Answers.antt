@@ -1,0 +1,5 @@
+use Rattle.lamp.proofs.Promised.{gives_as}
+use Rattle.lamp.proofs.lamp_running_cost.Goals as goal
+
+pub returns : goal.returns
+returns c = search gives_as
