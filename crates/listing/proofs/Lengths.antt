@@ -1,4 +1,5 @@
 -- How long the texts are at most.
+use Rattle.std.proofs.Common.{Fits, w8}
 use Rattle.basics.specs.Core.{ℕ, ◌+◌, ◌*◌, ◌^◌, ◌≤◌, ◌<◌, Bool, true, false, cond, List, arith, length, get_or, take, drop, length-append, length-take}
 use Rattle.basics.specs.Core.{get_or-take, get_or-drop}
 use Rattle.basics.specs.Parts.{get_or_within}
@@ -66,13 +67,13 @@ lines_length m n s few byte = rows_at_most (11 + m * 4) n (sheet_line m s) line
 
 -- The area that `write_listing` asks for has room for the listing.
 pub listing_room :
-    {m cost : ℕ} {p s out : List ℕ} → Printable m p s out → cost < 2 ^ 64 → ((k : ℕ) → get_or p k 0 < 256) →
-    ((k : ℕ) → get_or s k 0 < 256) → Room (listing m cost p s) 0 out
+    {m cost : ℕ} {p s out : List ℕ} → Printable m p s out → cost < 2 ^ 64 → ((k : ℕ) → Fits w8 (get_or p k 0)) →
+    ((k : ℕ) → Fits w8 (get_or s k 0)) → Room (listing m cost p s) 0 out
 unfolding listing
 listing_room {m} {cost} {p} {s} a top counts steps =
     let first = cost_length cost top in
-    let second = plan_length p counts in
-    let rest = lines_length m (length p) s a.rack.slots steps in
+    let second = plan_length p (λ k. (counts k).fits) in
+    let rest = lines_length m (length p) s a.rack.slots (λ k. (steps k).fits) in
     record { room = simp length-append (omega arith) }
 
 -- The area that `write_refusal` asks for has room for the line of every refusal.

@@ -1,4 +1,4 @@
-use Rattle.basics.specs.Writing.{rows_none, rows_room, rows_more, rows_all}
+use Rattle.basics.specs.Writing.{rows_none, rows_room, rows_more}
 use Rattle.listing.proofs.put_counts.Goals as goal
 
 pub loop-t-init : goal.loop-t-init
@@ -10,6 +10,3 @@ put_count-place-requires c =
 
 pub loop-t-preserved : goal.loop-t-preserved
 loop-t-preserved c = search rows_more
-
-pub returns : goal.returns
-returns c = search rows_all

@@ -10,19 +10,19 @@ put_slot_number-colon-requires c = search room_first
 pub put-steps-requires : goal.put-steps-requires
 unfolding slot_line
 put-steps-requires c =
-    room_first _ (room_rest c.requires.1 c.put_slot_number-colon.ensures)
+    room_first _ (room_rest c.requires.room c.put_slot_number-colon.ensures)
 
 pub put_steps-line_end-requires : goal.put_steps-line_end-requires
 unfolding slot_line
 put_steps-line_end-requires c =
-    let rest = room_rest c.requires.1 c.put_slot_number-colon.ensures in
+    let rest = room_rest c.requires.room c.put_slot_number-colon.ensures in
     room_first _ (room_rest rest c.put-steps.ensures)
 
 -- There is room for the last byte, whatever the byte is.
 pub put-requires : goal.put-requires
 unfolding slot_line
 put-requires c =
-    let rest = room_rest c.requires.1 c.put_slot_number-colon.ensures in
+    let rest = room_rest c.requires.room c.put_slot_number-colon.ensures in
     room_less (omega arith) (room_rest {b = newline} (room_rest rest c.put-steps.ensures) c.put_steps-line_end.ensures)
 
 pub returns : goal.returns

@@ -10,7 +10,7 @@ put_bytes-requires c =
     room_less (omega (arith, step_some step)) c.requires
 
 pub returns-then-step-eq255 : goal.returns-then-step-eq255
-returns-then-step-eq255 c = rw (step_off c.if1.true) c.put_bytes.ensures
+returns-then-step-eq255 c = rw (step_off c.if-step-eq255.true) c.put_bytes.ensures
 
 pub put_count-requires : goal.put_count-requires
 put_count-requires c = rw (step_on c.if-step-eq255.false) at c.requires

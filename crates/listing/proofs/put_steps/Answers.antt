@@ -1,5 +1,5 @@
 use Rattle.basics.specs.Parts.{get_or_within}
-use Rattle.basics.specs.Writing.{rows_none, rows_room, rows_more, rows_all}
+use Rattle.basics.specs.Writing.{rows_none, rows_room, rows_more}
 use Rattle.model.specs.Sheets.{off}
 use Rattle.listing.proofs.put_steps.Goals as goal
 
@@ -15,6 +15,3 @@ pub loop-k-preserved : goal.loop-k-preserved
 loop-k-preserved c =
     let below = c.loop-k-test.true in
     rows_more c.loop-k.invariant below (rw (get_or_within _ _ off 0 below) c.put_step-place.ensures)
-
-pub returns : goal.returns
-returns c = search rows_all

@@ -9,4 +9,6 @@ put_line-requires c = search refusal_room
 
 pub returns : goal.returns
 unfolding refused_line
-returns c = search written_start
+returns c =
+    let w = written_start c.put_line.ensures in
+    record { size = w.0; bytes = w.1 }

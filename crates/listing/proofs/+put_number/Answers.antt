@@ -1,0 +1,25 @@
+use Rattle.basics.specs.Core.{[], ◌∷◌, ◌%◌, arith}
+use Rattle.basics.specs.Writing.{room_less, room_first, room_rest, written_more}
+use Rattle.model.specs.Listing.{digit}
+use Rattle.listing.proofs.Digits.{decimal_one, decimal_more}
+use Rattle.listing.proofs.+put_number.Goals as goal
+
+pub put-requires : goal.put-requires
+put-requires t c = rw (decimal_one _ c.if-n-lt10.true) at c.requires
+
+pub returns-then-n-lt10 : goal.returns-then-n-lt10
+returns-then-n-lt10 t c = rw (decimal_one _ c.if-n-lt10.true) c.put.ensures
+
+pub put_number-last-requires : goal.put_number-last-requires
+put_number-last-requires t c =
+    (omega arith, room_first _ (rw (decimal_more _ c.if-n-lt10.false c.ranges.n.fits) at c.requires))
+
+-- There is room for the last digit, whatever the digit is.
+pub put-requires-2 : goal.put-requires-2
+put-requires-2 t c =
+    let whole = rw (decimal_more _ c.if-n-lt10.false c.ranges.n.fits) at c.requires in
+    room_less (omega arith) (room_rest {b = digit (c.args.n % 10) ∷ []} whole c.put_number-last.ensures)
+
+pub returns : goal.returns
+returns t c =
+    rw (decimal_more _ c.if-n-lt10.false c.ranges.n.fits) (written_more c.put_number-last.ensures c.put-2.ensures)
