@@ -50,7 +50,8 @@ def without_comments(text):
 
 def find(root):
     """The file of the constant, its text, and where the name, the length and the numbers of the constant stand in it."""
-    texts = {path: path.read_text(encoding="utf-8") for path in sorted((root / CRATE).rglob("*.rt"))}
+    files = [path for path in sorted((root / CRATE).rglob("*.rt")) if (root / CRATE / "out") not in path.parents]
+    texts = {path: path.read_text(encoding="utf-8") for path in files}
     places = [path for path, text in texts.items() for _ in NAME.finditer(without_comments(text))]
     if len(places) != 1:
         where = ", ".join(str(path.relative_to(root)) for path in places)

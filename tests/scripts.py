@@ -417,35 +417,38 @@ def all_typing_errors(place):
 # ---------------------------------------------------------------- bin/build and bin/lamp
 
 FAKE = """#!/bin/sh
-# Notes its name and words, says something, reads its input to the end, and then does what the file 'does' asks for.
-echo "${0##*/} $*" >>calls
+# Notes its name and words, and a crate's folder that it runs in, says something, reads its input to the end, and then does what the file
+# 'does' asks for. rt is called by a shell that bin/build starts, cargo by bin/build itself.
+top=. place='' builder=$PPID
+case $PWD in */crates/*) top=../.. place=" in ${PWD##*/}" && read -r _ _ _ builder _ <"/proc/$PPID/stat" ;; esac
+echo "${0##*/} $*$place" >>$top/calls
 echo "${0##*/} on standard output"
 echo "${0##*/} on standard error" >&2
-while read -r line; do echo "read $line" >>calls; done
-(: 3<&9) 2>/dev/null && echo "has the lock" >>calls
+while read -r line; do echo "read $line" >>$top/calls; done
+(: 3<&9) 2>/dev/null && echo "has the lock" >>$top/calls
 case "${0##*/} $1" in
-'rt check') product=target/bin/plan_program mode=755 ;;
-'rt staticlib') product=target/staticlib/liblamp.a mode=644 ;;
+'rt run') product=out/plan_program mode=755 ;;
+'rt lib') product=out/liblamp.a mode=644 ;;
 *) product=${CARGO_TARGET_DIR:-tool/target}/release/lamp mode=755 ;;
 esac
-write() { mkdir -p "${product%/*}" && rm -f "$product" && cp made "$product" && chmod "$mode" "$product"; }
-read -r does <does
+write() { mkdir -p "${product%/*}" && rm -f "$product" && cp $top/made "$product" && chmod "$mode" "$product"; }
+read -r does <$top/does
 case $does in
 write) write ;;
 leave) [ -e "$product" ] || write ;;
-edit) write && touch crates/plan_program/src/main.rt ;;
+edit) write && touch $top/crates/plan_program/src/main.rt ;;
 slowly) sleep 1 && write ;;
-nothing) ;;
+nothing) rm -f "$product" ;;
 half) write && exit 1 ;;
 fail) exit 1 ;;
-stop) write && kill -9 $PPID ;;
+stop) write && kill -9 "$builder" ;;
 esac
 """
-CHECK = "rt check plan_program"
-STATICLIB = "rt staticlib lamp"
+RUN = "rt run in plan_program"
+LIB = "rt lib in lamp"
 CARGO = "cargo build --release --offline --quiet --manifest-path tool/Cargo.toml"
 PRODUCTS = {"program": "target/bin/plan_program", "library": "target/staticlib/liblamp.a", "tool": "tool/target/release/lamp"}
-CALLS = {"program": CHECK, "library": STATICLIB, "tool": CARGO}
+CALLS = {"program": RUN, "library": LIB, "tool": CARGO}
 LATE, EARLY = time.time() - 100, time.time() - 10000
 RT = "to build it, rt, the Rattle toolchain, must be on the PATH\n"
 STALE = "is older than its sources, and a stale one may print a wrong key"
@@ -462,7 +465,8 @@ class Tree(Place):
         put(self.builders / "cargo", FAKE, 0o755)
         links(folder.with_name(folder.name + " more"), ("cp", "chmod", "sleep"))
         self.path = f"{self.builders}:{folder.with_name(folder.name + ' more')}:{path}"
-        for source in ("crates/plan_program/src/main.rt", "crates/plan_program/src/old.rt", "crates.txt", "tool/Cargo.toml", "tool/src/main.rs"):
+        sources = ("crates/plan_program/src/main.rt", "crates/plan_program/src/old.rt", "crates/lamp/src/lib.rt", "crates.txt", "tool/Cargo.toml", "tool/src/main.rs")
+        for source in sources:
             put(folder / source, "text\n")
         put(folder / "made", "#!/bin/sh\necho cost 1\n", 0o755)
         self.does("write")
@@ -503,7 +507,7 @@ class Tree(Place):
 
 
 def build_when_needed(tree):
-    for what, call in (("program", CHECK), ("library", STATICLIB)):
+    for what, call in (("program", RUN), ("library", LIB)):
         product = PRODUCTS[what]
         tree.have()
         message = tree.builds(f"a missing {what}", what, [call])
@@ -513,7 +517,7 @@ def build_when_needed(tree):
         equal("no mark is left", (tree.folder / (product + ".unfinished")).exists(), False)
         tree.have(what)
         equal("it is silent", tree.builds(f"a newer {what}", what, []), "")
-        for source in ("crates/plan_program/src/main.rt", "crates.txt", "crates/plan_program", "crates"):
+        for source in ("crates/plan_program/src/main.rt", "crates.txt", "crates/plan_program/src", "crates"):
             tree.have(what)
             tree.touch(source)
             tree.builds(f"a {what} older than {source}", what, [call])
@@ -527,26 +531,29 @@ def build_when_needed(tree):
         tree.builds(f"an empty {what}", what, [call])
     tree.have("program")
     (tree.folder / PRODUCTS["program"]).chmod(0o644)
-    tree.builds("a program that cannot be run", "program", [CHECK])
+    tree.builds("a program that cannot be run", "program", [RUN])
     tree.have()
-    tree.builds("two at once", "program library", [CHECK, STATICLIB])
+    tree.builds("two at once", "program library", [RUN, LIB])
     tree.have("program")
     tree.touch("tool/src/main.rs")
     tree.builds("a newer source of the tool alone", "program", [])
 
 
 def build_that_leaves_the_product(tree):
-    """rt leaves a product that would be the same, and it must not seem old for ever; but rt does not look whether it is there."""
+    """rt leaves what it built in out/ where that would be the same: it must not seem old for ever, and it is taken again where it is missing.
+    The folder out/ is no source, nor is the crate's folder, which rt changes by making it."""
     tree.does("leave")
     tree.have("program")
     tree.touch("crates.txt")
-    put(tree.folder / "target/stamp/plan_program", "stamp")
-    tree.builds("a program that stays as it is", "program", [CHECK])
+    tree.builds("a program that stays as it is", "program", [RUN])
     tree.builds("the program that stayed", "program", [])
-    equal("its stamp is kept", (tree.folder / "target/stamp/plan_program").exists(), True)
     tree.have()
-    tree.builds("a program that is missing", "program", [CHECK])
-    equal("its stamp is removed", (tree.folder / "target/stamp/plan_program").exists(), False)
+    tree.builds("a program that is missing", "program", [RUN])
+    tree.have("program")
+    tree.touch("crates/plan_program/out/plan_program")
+    tree.touch("crates/plan_program/out")
+    tree.touch("crates/plan_program")
+    tree.builds("a program older than what rt keeps", "program", [])
     tree.does("write")
 
 
@@ -555,27 +562,27 @@ def build_that_fails(tree):
         tree.have("program")
         tree.touch("crates.txt")
         tree.does(word)
-        message = tree.builds(f"a build that does {word}", "program", [CHECK], 2)
+        message = tree.builds(f"a build that does {word}", "program", [RUN], 2)
         equal("it says so", message.endswith(f"bin/build: the build of the program failed with status {status}\n"), True)
-        tree.builds(f"after one that does {word}", "program", [CHECK], 2)
+        tree.builds(f"after one that does {word}", "program", [RUN], 2)
         tree.does("write")
-        tree.builds(f"a good build after one that does {word}", "program", [CHECK])
+        tree.builds(f"a good build after one that does {word}", "program", [RUN])
         tree.builds("then it is there", "program", [])
     tree.have()
     tree.does("nothing")
-    message = tree.builds("a build that writes nothing", "program", [CHECK], 2)
+    message = tree.builds("a build that writes nothing", "program", [RUN], 2)
     equal("it says so", message.endswith("bin/build: the build of the program ended well and did not write target/bin/plan_program\n"), True)
     tree.have("program")
     tree.touch("crates.txt")
     tree.does("stop")
-    tree.builds("a build that is killed", "program", [CHECK], -9)
+    tree.builds("a build that is killed", "program", [RUN], -9)
     tree.does("write")
-    tree.builds("after one that was killed", "program", [CHECK])
+    tree.builds("after one that was killed", "program", [RUN])
     tree.does("edit")
     tree.have()
-    tree.builds("a source that changes meanwhile", "program", [CHECK])
+    tree.builds("a source that changes meanwhile", "program", [RUN])
     tree.does("write")
-    tree.builds("it is noticed", "program", [CHECK])
+    tree.builds("it is noticed", "program", [RUN])
     tree.builds("and built once", "program", [])
 
 
@@ -625,7 +632,7 @@ def build_without_sources(folder, path):
 
 def build_tool(tree):
     tree.have()
-    message = tree.builds("a missing tool and library", "tool", [STATICLIB, CARGO])
+    message = tree.builds("a missing tool and library", "tool", [LIB, CARGO])
     equal("what it says", [line for line in message.splitlines() if line.startswith("bin/")][1], "bin/build: building the tool")
     tree.builds("a tool that is there", "tool", [])
     tree.have("library")
@@ -637,7 +644,7 @@ def build_tool(tree):
         tree.builds("the tool again", "tool", [])
     tree.have("library", "tool")
     tree.touch("crates.txt")
-    tree.builds("a tool and an older library", "tool", [STATICLIB, CARGO])
+    tree.builds("a tool and an older library", "tool", [LIB, CARGO])
     tree.have("library", "tool")
     put(tree.folder / "tool/target/release/deps/other")
     tree.builds("what cargo writes is no source", "tool", [])
@@ -668,7 +675,7 @@ def build_use(tree):
     link = tree.folder.with_name("a link to build")
     link.symlink_to(tree.folder / "bin" / "build")
     equal("a link from another folder", tree.run(link, "program", cwd=tree.folder.parent)[:2], (0, NOTHING))
-    equal("what is called", tree.calls(), [CHECK])
+    equal("what is called", tree.calls(), [RUN])
 
 
 def build_at_the_same_time(tree):
@@ -680,7 +687,7 @@ def build_at_the_same_time(tree):
     with concurrent.futures.ThreadPoolExecutor(2) as pool:
         found = list(pool.map(lambda _: tree.run("bin/build", "program"), range(2)))
     equal("two builds at the same time", [status for status, _, _ in found], [0, 0])
-    equal("one builds", tree.calls(), [CHECK])
+    equal("one builds", tree.calls(), [RUN])
     equal("one waits", sum("waiting for another build to end\n" in message for _, _, message in found), 1)
     tree.does("write")
 
@@ -697,7 +704,7 @@ def plan_builds(tree):
     status, out, message = tree.run("bin/plan", data=A_CARD)
     equal("built, then planned", (status, out), (0, A_LISTING))
     equal("what it says", message.splitlines()[0], f"bin/build: proving and building the program; {ONCE}")
-    equal("the card is not read by the build", tree.calls(), [CHECK])
+    equal("the card is not read by the build", tree.calls(), [RUN])
     equal("planned again", tree.run("bin/plan", data=A_CARD), PLANNED)
     equal("nothing is built again", tree.calls(), [])
     tree.touch("crates/plan_program/src/main.rt")
@@ -715,7 +722,7 @@ def lamp_runs(tree):
     tree.have()
     status, out, message = tree.run("bin/lamp", "key", "a b", "", data=b"input\n")
     equal("lamp: built, then run", (status, out), (1, b"<key><a b><>input\n"))
-    equal("what is called", tree.calls(), [STATICLIB, CARGO])
+    equal("what is called", tree.calls(), [LIB, CARGO])
     found = tree.run("bin/lamp", "key", data=b"input\n", path=tree.without)
     equal("lamp without rt and cargo", found, (1, b"<key>input\n", ""))
     link = tree.folder.with_name("a link to lamp")
@@ -754,9 +761,9 @@ def others_build(tree, folder):
         equal(f"{script} with an archive", (tree.run(command, path=path)[0], tree.calls()), (0, []))
         tree.touch("crates.txt")
         equal(f"{script} with an old archive and no rt", tree.run(command, path=without)[0], 2)
-        equal(f"{script} with an old archive", (tree.run(command, path=path)[0], tree.calls()), (0, [STATICLIB]))
+        equal(f"{script} with an old archive", (tree.run(command, path=path)[0], tree.calls()), (0, [LIB]))
         tree.have()
-        equal(f"{script} without an archive", (tree.run(command, path=path)[0], tree.calls()), (0, [STATICLIB]))
+        equal(f"{script} without an archive", (tree.run(command, path=path)[0], tree.calls()), (0, [LIB]))
 
 
 # ---------------------------------------------------------------- where a machine allows it

@@ -96,7 +96,7 @@ def new_number():
     for file, part in parts.items():
         if part not in texts[file]:
             sys.exit(f"test_words.py: a new number is not written to {file}")
-    texts[MODEL] += f"refusalNumber OneMore = {number}\n"
+    texts[MODEL] += f"refusal_number OneMore = {number}\n"
     texts[ARGUMENT] += f"| {number} | none | `OneMore` | `{name}` |\n"
     expect("a new number everywhere", texts, [], 0, f"words: {number} refusals, 0 faults")
 

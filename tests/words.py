@@ -112,7 +112,7 @@ def compare(root, name, rows, write):
 def compare_lists(root, rows):
     """The numbers that the calls give, as crate model has them, and the table of ARGUMENT with its constants. Nothing writes these."""
     places = {
-        "crates/model/specs/Answers.antt": (r"refusalNumber \w+ = (\d+)()", [(str(row.number), "") for row in rows]),
+        "crates/model/specs/Answers.antt": (r"refusal_number \w+ = (\d+)()", [(str(row.number), "") for row in rows]),
         "docs/ARGUMENT.md": (r"\| (\d+) \|.* `(LAMP_\w+)` \|", [(str(row.number), row.name) for row in rows]),
     }
     faults = []
