@@ -249,7 +249,7 @@ def try_changes(root):
     with tempfile.TemporaryDirectory() as folder:
         copy = pathlib.Path(folder)
         for crate in (CRATE, OUTPUT.parent):
-            shutil.copytree(root / crate, copy / crate)
+            shutil.copytree(root / crate, copy / crate, ignore=shutil.ignore_patterns("out"))
         path, text, found = find(copy)
         numbers, output, second = constant(copy)[2], copy / OUTPUT, copy / CRATE / "second.rt"
         tried = sum(must_fail(copy, output, content, entry) for entry, content in changed_outputs(stored(copy)))
