@@ -8,7 +8,7 @@ ghost use Rattle.basics.specs.Writing.{Room, Written};
 ghost use Rattle.model.specs.Catalogue.{catalogue_entry, catalogue_top};
 ghost use Rattle.model.specs.Listing.{entry_line, catalogue_lines};
 
-use libc::STDOUT_FILENO;
+use std::io;
 
 // F(k), by the rule.
 fn entry(k: u64) -> u64
@@ -46,8 +46,8 @@ fn write_lines(out: &mut [u8]) -> usize
     place
 }
 
-fn main() {
-    let mut text = io::buffer();
+fn main(rt: HostRuntime) -> io::Result<()> {
+    let mut text = [0u8; 4096];
     let size = write_lines(&mut text);
-    io::write_all(STDOUT_FILENO, &text[..size]);
+    rt.write_all(&text[..size])
 }

@@ -7,15 +7,22 @@ ghost use Rattle.model.specs.Listing.{exact_listing, printed};
 ghost use Rattle.plan_program.specs.Program.{TextArea, AcceptedText, PlannedText};
 
 use card::{Checked, Header};
-use libc::{STDIN_FILENO, STDOUT_FILENO};
 use model::Answer;
 use planners::PlannerKind;
+use std::io::{self, Read};
 
 // An area for a plan.
 fn plan_area() -> [u8; 1024]
     ensures { 1024 ≡ length result }
 {
     [0; 1024]
+}
+
+// An area for work bytes, or for a sheet.
+fn large_area() -> [u8; 65536]
+    ensures { 65536 ≡ length result }
+{
+    [0; 65536]
 }
 
 // An area for the text.
@@ -34,7 +41,7 @@ fn print_plan(card: &[u8], h: Header, plan: &[u8], cost: u64, out: &mut [u8]) ->
     let modules = h.modules;
     let slots = h.slots as usize;
     let entries = modules as usize * slots;
-    let mut sheet = io::large_buffer();
+    let mut sheet = large_area();
     calls::make_sheet_on(card, h, &plan[..slots], &mut sheet);
     listing::write_listing(out, modules, cost, &plan[..slots], &sheet[..entries])
 }
@@ -46,7 +53,7 @@ fn print_accepted(card: &[u8], h: Header, out: &mut [u8]) -> usize
     ensures bytes { out.new ≡ written_over (printed card.now) out.old }
 {
     let mut plan = plan_area();
-    let mut work = io::large_buffer();
+    let mut work = large_area();
     let planned = planners::plan_show_on(PlannerKind::Exact, card, h, &mut plan, &mut work);
     match planned {
         Answer::Cost(cost) => print_plan(card, h, &plan, cost, out),
@@ -66,11 +73,18 @@ fn print_card(card: &[u8], out: &mut [u8]) -> usize
     }
 }
 
-// Reads until 2,870 bytes are there, one more than the longest card has, or the input ends.
-fn main() {
+// Reads until 2,870 bytes are there, one more than the longest card has, or the input ends; a failed read counts as the end.
+fn main(rt: HostRuntime) -> io::Result<()> {
     let mut card = [0u8; 2870];
-    let n = io::read_full(STDIN_FILENO, &mut card);
+    let mut input = rt.stdin();
+    let mut n = 0;
+    while n < card.len() {
+        match input.read(&mut card[n..]) {
+            Ok(0) | Err(_) => break,
+            Ok(more) => n += more,
+        }
+    }
     let mut text = text_area();
     let size = print_card(&card[..n], &mut text);
-    io::write_all(STDOUT_FILENO, &text[..size]);
+    rt.write_all(&text[..size])
 }
