@@ -418,9 +418,10 @@ def all_typing_errors(place):
 
 FAKE = """#!/bin/sh
 # Notes its name and words, and a crate's folder that it runs in, says something, reads its input to the end, and then does what the file
-# 'does' asks for. rt is called by a shell that bin/build starts, cargo by bin/build itself.
+# 'does' asks for. A shell may stand between bin/build and what it calls: the builder is the first of those by that name.
 top=. place='' builder=$PPID
-case $PWD in */crates/*) top=../.. place=" in ${PWD##*/}" && read -r _ _ _ builder _ <"/proc/$PPID/stat" ;; esac
+case $PWD in */crates/*) top=../.. place=" in ${PWD##*/}" ;; esac
+while read -r _ _ _ parent _ <"/proc/$builder/stat" && read -r _ name _ <"/proc/$parent/stat" && [ "$name" = '(build)' ]; do builder=$parent; done
 echo "${0##*/} $*$place" >>$top/calls
 echo "${0##*/} on standard output"
 echo "${0##*/} on standard error" >&2

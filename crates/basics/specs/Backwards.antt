@@ -1,5 +1,6 @@
 -- Values that are found from the end: 0 after the last of n places, and at each place what a step makes of the value at the next.
-use Rattle.basics.specs.Core.{ℕ, zero, suc, ◌-◌, ◌≤◌, ◌<◌, ◌≡◌, ap, ◌∙◌, sub_self, arith}
+use Rattle.std.specs.Prelude.{ℕ, zero, suc, ◌-◌, ◌≤◌, ◌<◌, ◌≡◌}
+use Rattle.basics.specs.Core.{ap, ◌∙◌, sub_self, arith}
 
 module _ (n : ℕ) (step : ℕ → ℕ → ℕ) where
   -- The value at the place that is d before the end.

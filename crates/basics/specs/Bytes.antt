@@ -1,8 +1,9 @@
 -- Little-endian numbers of any width: read from a list of bytes, `little_endian`, and written, `bytes_of`. The laws hold for every width; a number
 -- that fits its bytes is read back from them, `little_bytes`.
-use Rattle.basics.specs.Core.{ℕ, zero, suc, ◌+◌, ◌*◌, ◌/◌, ◌%◌, ◌^◌, ◌≤◌, ◌<◌, ◌≡◌, refl, ◌∙◌, List, [], ◌∷◌, ◌++◌, zero-add, one-mul, suc-add}
+use Rattle.std.specs.Prelude.{ℕ, zero, suc, ◌+◌, ◌*◌, ◌/◌, ◌%◌, ◌^◌, ◌≤◌, ◌<◌, ◌≡◌, refl, List, [], ◌∷◌, ◌++◌, length, get_or, take, drop}
+use Rattle.basics.specs.Core.{◌∙◌, zero-add, one-mul, suc-add}
 use Rattle.basics.specs.Core.{pow-zero, pow-suc, add-zero, add_assoc, mul_comm, div-one, div-add-mod, div-lt_iff_lt-mul, div-div-eq-div-mul}
-use Rattle.basics.specs.Core.{arith, length, get_or, take, drop, get_or-take, get_or-drop, get_or-append-add}
+use Rattle.basics.specs.Core.{arith, get_or-take, get_or-drop, get_or-append-add}
 
 -- The number in the w bytes of s from place p on, least byte first.
 unfoldable pub little_endian : ℕ → List ℕ → ℕ → ℕ

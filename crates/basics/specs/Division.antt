@@ -1,5 +1,6 @@
 -- Bounds of quotient and remainder, where the divisor may be 0, and a product as the sum of two parts.
-use Rattle.basics.specs.Core.{ℕ, zero, suc, ◌+◌, ◌-◌, ◌*◌, ◌/◌, ◌%◌, ◌≤◌, ◌<◌, ◌≡◌, ap, sym, ◌∙◌, ⊎_elim, add-mul, sub-add_cancel, mod-zero}
+use Rattle.std.specs.Prelude.{ℕ, zero, suc, ◌+◌, ◌-◌, ◌*◌, ◌/◌, ◌%◌, ◌≤◌, ◌<◌, ◌≡◌}
+use Rattle.basics.specs.Core.{ap, sym, ◌∙◌, ⊎_elim, add-mul, sub-add_cancel, mod-zero}
 use Rattle.basics.specs.Core.{mod-lt, div-add-mod, le_of_lt, mul-le-mul_left, arith}
 use Rattle.basics.specs.Numbers.{le_or_lt}
 

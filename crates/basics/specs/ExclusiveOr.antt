@@ -1,5 +1,6 @@
 -- Exclusive or, beyond the toolchain's laws on it, and functions that it passes through.
-use Rattle.basics.specs.Core.{ℕ, zero, suc, ◌+◌, ◌*◌, ◌/◌, ◌%◌, ◌^◌, ◌<◌, ◌≡◌, refl, sym, ap, ap₂, ◌∙◌, add-zero, mod-lt, div-add-mod', arith}
+use Rattle.std.specs.Prelude.{ℕ, zero, suc, ◌+◌, ◌*◌, ◌/◌, ◌%◌, ◌^◌, ◌<◌, ◌≡◌, refl}
+use Rattle.basics.specs.Core.{sym, ap, ap₂, ◌∙◌, add-zero, mod-lt, div-add-mod', arith}
 use Rattle.std.proofs.Math.Arith.{bin_ind}
 use Rattle.std.proofs.Common.{pow_pos}
 use Rattle.std.specs.Int.Bits.{bit_xor, differ, xor_step, xor_self, xor_add_and}

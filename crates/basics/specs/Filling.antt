@@ -1,5 +1,6 @@
 -- Invariants of loops that fill a list, one store a turn: upwards from the first place, and downwards from the last.
-use Rattle.basics.specs.Core.{ℕ, ◌+◌, ◌≤◌, ◌<◌, ◌≡◌, refl, ◌∙◌, List, ⊎_elim, arith, length, get_or, set, length-set, get_or-set_same}
+use Rattle.std.specs.Prelude.{ℕ, ◌+◌, ◌≤◌, ◌<◌, ◌≡◌, refl, List, length, get_or, set}
+use Rattle.basics.specs.Core.{◌∙◌, ⊎_elim, arith, length-set, get_or-set_same}
 use Rattle.basics.specs.Core.{get_or-set_other}
 use Rattle.basics.specs.Numbers.{le_or_lt}
 use Rattle.basics.specs.Lists.{tabulate, equal_tabulate}

@@ -1,7 +1,8 @@
 -- Whether a test holds at an element of a list, at how many and at which place first, `occurs`, `count_of`, `first_place`; and a list changed at that
 -- place alone, `change_first`.
-use Rattle.basics.specs.Core.{ℕ, suc, ◌+◌, ◌<◌, ◌≡◌, refl, sym, ap, ◌∙◌, Bool, true, false, cond, ◌||◌, true≢false, List, [], ◌∷◌, map, ⊎_elim}
-use Rattle.basics.specs.Core.{zero-add, arith, length, get_or, set, ltb, lt-ltb, le-ltb}
+use Rattle.std.specs.Prelude.{ℕ, suc, ◌+◌, ◌<◌, ◌≡◌, refl, Bool, true, false, cond, ◌||◌, List, [], ◌∷◌, map, length, get_or, set, ltb}
+use Rattle.basics.specs.Core.{sym, ap, ◌∙◌, true≢false, ⊎_elim}
+use Rattle.basics.specs.Core.{zero-add, arith, lt-ltb, le-ltb}
 use Rattle.basics.specs.Numbers.{true_or_false}
 
 -- The test holds at an element of the list.

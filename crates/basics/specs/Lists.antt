@@ -1,7 +1,8 @@
 -- Lists made from functions of an index, lists in reverse, what a test keeps of a list, a list written over the front of another, and when two
 -- lists are the same.
-use Rattle.basics.specs.Core.{ℕ, zero, suc, ◌+◌, ◌*◌, ◌<◌, ◌≡◌, refl, sym, ap, ◌∙◌, ⊎_elim, List, [], ◌∷◌, ◌++◌, head_d, reverse, reverse-cons}
-use Rattle.basics.specs.Core.{Bool, true, false, cond, ◌&&◌, false≢true, eqb, length, get_or, drop, replicate, length-append, length-replicate}
+use Rattle.std.specs.Prelude.{ℕ, zero, suc, ◌+◌, ◌*◌, ◌<◌, ◌≡◌, refl, List, [], ◌∷◌, ◌++◌, reverse, Bool, true, false, cond, ◌&&◌, eqb, length, get_or, drop, replicate}
+use Rattle.basics.specs.Core.{sym, ap, ◌∙◌, ⊎_elim, head_d, reverse-cons}
+use Rattle.basics.specs.Core.{false≢true, length-append, length-replicate}
 use Rattle.basics.specs.Core.{length-reverse, get_or-replicate, get_or-append, get_or-append-add, get_or_at, ext_get_or, not-suc-le-zero}
 use Rattle.basics.specs.Core.{le_of_suc-le-suc, le_dest, eq-or-lt_of_le, mul-le-mul_right, arith, eq-eqb, eqb-true}
 use Rattle.basics.specs.Tests.{and_left, and_right}

@@ -1,8 +1,9 @@
 -- What holds of each element of a list, members of lists, and lists whose elements stand in order.
-use Rattle.basics.specs.Core.{ℕ, zero, suc, ◌+◌, ◌≤◌, ◌<◌, ◌≡◌, refl, sym, ap, ◌∙◌, subst, Bool, true, false, cond, ⊎_elim, List, [], ◌∷◌, ◌++◌}
-use Rattle.basics.specs.Core.{map, flat_map, Memᴰ, mem_head, mem_tail, mem_not_nil, mem_cases_cons}
+use Rattle.std.specs.Prelude.{ℕ, zero, suc, ◌+◌, ◌≤◌, ◌<◌, ◌≡◌, refl, Bool, true, false, cond, List, [], ◌∷◌, ◌++◌, map, length, get_or}
+use Rattle.basics.specs.Core.{sym, ap, ◌∙◌, subst, ⊎_elim}
+use Rattle.basics.specs.Core.{flat_map, Memᴰ, mem_head, mem_tail, mem_not_nil, mem_cases_cons}
 use Rattle.basics.specs.Core.{mem_append_cases, mem_append_left, mem_append_right, not-suc-le-zero, le_of_suc-le-suc, le_of_lt}
-use Rattle.basics.specs.Core.{le_trans, add-one, arith, length, get_or, length-append, get_or-append}
+use Rattle.basics.specs.Core.{le_trans, add-one, arith, length-append, get_or-append}
 use Rattle.basics.specs.Numbers.{le_or_lt}
 use Rattle.basics.specs.Rising.{rises_to}
 use Rattle.basics.specs.Tests.{all_of, and_left, and_right}

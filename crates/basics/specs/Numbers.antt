@@ -1,5 +1,6 @@
 -- Cases on two numbers and on a test.
-use Rattle.basics.specs.Core.{ℕ, ◌≤◌, ◌<◌, ◌≡◌, refl, Bool, true, false, ◌⊎◌, inl, inr, lt_of_not-le}
+use Rattle.std.specs.Prelude.{ℕ, ◌≤◌, ◌<◌, ◌≡◌, refl, Bool, true, false, ◌⊎◌}
+use Rattle.basics.specs.Core.{inl, inr, lt_of_not-le}
 use Rattle.std.proofs.Math.Decide.{dec_le}
 
 -- Of two numbers, the first is at most the second, or the second is below the first.

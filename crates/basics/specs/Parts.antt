@@ -1,6 +1,7 @@
 -- Lists of which a part was lent and has come back, and the loop invariant of those filled part by part.
-use Rattle.basics.specs.Core.{ℕ, zero, suc, ◌+◌, ◌-◌, ◌≤◌, ◌<◌, ◌≡◌, refl, ap, sym, ◌∙◌, ⊎_elim, List, [], ◌∷◌, ◌++◌, length, get_or, take, drop}
-use Rattle.basics.specs.Core.{replicate, length-replicate, get_or-replicate, get_or-append, length-take-le, get_or-append-add, get_or-take}
+use Rattle.std.specs.Prelude.{ℕ, zero, suc, ◌+◌, ◌-◌, ◌≤◌, ◌<◌, ◌≡◌, refl, List, [], ◌∷◌, ◌++◌, length, get_or, take, drop, replicate}
+use Rattle.basics.specs.Core.{ap, sym, ◌∙◌, ⊎_elim}
+use Rattle.basics.specs.Core.{length-replicate, get_or-replicate, get_or-append, length-take-le, get_or-append-add, get_or-take}
 use Rattle.basics.specs.Core.{get_or-drop, not-suc-le-zero, sub-zero, add-sub_cancel_left, le_dest, arith}
 use borrow.Rule.Slice.PartMut.{mid_of, put_mid, mid_len, same_len_mid, drop_put}
 use Rattle.basics.specs.Numbers.{le_or_lt}

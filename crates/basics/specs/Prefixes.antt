@@ -1,5 +1,6 @@
 -- Lists made from functions of an index, one element longer, and what `keep` leaves of them.
-use Rattle.basics.specs.Core.{ℕ, zero, suc, ◌<◌, ◌≡◌, refl, ap, Bool, true, false, cond, List, [], ◌∷◌, ◌++◌, arith}
+use Rattle.std.specs.Prelude.{ℕ, zero, suc, ◌<◌, ◌≡◌, refl, Bool, true, false, cond, List, [], ◌∷◌, ◌++◌}
+use Rattle.basics.specs.Core.{ap, arith}
 use Rattle.basics.specs.Lists.{tabulate, keep}
 
 -- A table of one element more is the table and then that element.

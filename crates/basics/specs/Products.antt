@@ -1,5 +1,6 @@
 -- Order laws for products, and what a straight line that rises gradually is at most at a point further on, `line_moved`.
-use Rattle.basics.specs.Core.{ℕ, zero, suc, ◌+◌, ◌*◌, ◌≤◌, ◌<◌, ◌≡◌, ap, ⊎_elim, le_of_lt, le_dest, mul-le-mul_left, le_of_mul-le-mul_left}
+use Rattle.std.specs.Prelude.{ℕ, zero, suc, ◌+◌, ◌*◌, ◌≤◌, ◌<◌, ◌≡◌}
+use Rattle.basics.specs.Core.{ap, ⊎_elim, le_of_lt, le_dest, mul-le-mul_left, le_of_mul-le-mul_left}
 use Rattle.basics.specs.Core.{arith}
 use Rattle.basics.specs.Numbers.{le_or_lt}
 

@@ -1,6 +1,7 @@
 -- The least value of a function over a range of indices, and the first index of a range that passes a test.
-use Rattle.basics.specs.Core.{ℕ, zero, suc, ◌+◌, ◌≤◌, ◌<◌, min, ◌≡◌, refl, sym, ◌∙◌, Bool, true, false, cond, true≢false, ⊎_elim, min-le_left}
-use Rattle.basics.specs.Core.{min-le_right, le_trans, arith, eqb, eqb-true, eqb-false, eq-eqb}
+use Rattle.std.specs.Prelude.{ℕ, zero, suc, ◌+◌, ◌≤◌, ◌<◌, min, ◌≡◌, refl, Bool, true, false, cond, eqb}
+use Rattle.basics.specs.Core.{sym, ◌∙◌, true≢false, ⊎_elim, min-le_left}
+use Rattle.basics.specs.Core.{min-le_right, le_trans, arith, eqb-true, eqb-false, eq-eqb}
 use Rattle.basics.specs.Numbers.{le_or_lt}
 
 -- The least of f k, f (k + 1), .., f (k + n).

@@ -1,6 +1,7 @@
 -- A function that rises from each index to the next rises to every later one, `rises_to`; and a number between the first and a later value of any
 -- function lies between two neighbouring values, `between`.
-use Rattle.basics.specs.Core.{ℕ, zero, suc, ◌+◌, ◌≤◌, ◌<◌, ◌≡◌, ⊎_elim, le_refl, le_trans, add-one, arith}
+use Rattle.std.specs.Prelude.{ℕ, zero, suc, ◌+◌, ◌≤◌, ◌<◌, ◌≡◌}
+use Rattle.basics.specs.Core.{⊎_elim, le_refl, le_trans, add-one, arith}
 use Rattle.basics.specs.Numbers.{le_or_lt}
 
 -- What rises from each index to the next rises from each to every later one.

@@ -1,7 +1,8 @@
 -- Rows of m entries each, one after the other at the front of a list; and numbers of w bytes each, one after the other, which are read back:
 -- `little_numbers`.
-use Rattle.basics.specs.Core.{ℕ, suc, ◌+◌, ◌*◌, ◌^◌, ◌≤◌, ◌<◌, ◌≡◌, sym, ap, ◌∙◌, List, ◌++◌, append_assoc, zero-add, mul-le-mul_left, add-one}
-use Rattle.basics.specs.Core.{arith, length, get_or, take, drop, length-append, length-drop, get_or-append, take_at, drop_at, drop-drop}
+use Rattle.std.specs.Prelude.{ℕ, suc, ◌+◌, ◌*◌, ◌^◌, ◌≤◌, ◌<◌, ◌≡◌, List, ◌++◌, length, get_or, take, drop}
+use Rattle.basics.specs.Core.{sym, ap, ◌∙◌, append_assoc, zero-add, mul-le-mul_left, add-one}
+use Rattle.basics.specs.Core.{arith, length-append, length-drop, get_or-append, take_at, drop_at, drop-drop}
 use Rattle.basics.specs.Core.{length-take-le, get_or-take}
 use Rattle.std.proofs.Math.Arith.{digits_lt}
 use borrow.Rule.Slice.PartMut.{put_mid}

@@ -1,5 +1,6 @@
 -- A loop that adds one term a turn.
-use Rattle.basics.specs.Core.{ℕ, ◌+◌, ◌*◌, ◌≤◌, ◌<◌, ◌≡◌, refl, mul-le-mul_right, add-one, arith}
+use Rattle.std.specs.Prelude.{ℕ, ◌+◌, ◌*◌, ◌≤◌, ◌<◌, ◌≡◌, refl}
+use Rattle.basics.specs.Core.{mul-le-mul_right, add-one, arith}
 use Rattle.basics.specs.Sums.{sum, sum_at_most}
 
 -- The state of the loop: after k of n turns the total is the sum of the first k terms.

@@ -1,5 +1,6 @@
 -- Sums of a function over the indices below a bound.
-use Rattle.basics.specs.Core.{ℕ, zero, suc, ◌+◌, ◌*◌, ◌≤◌, ◌<◌, ◌≡◌, refl, add-suc, add-zero, zero-add, suc-mul, zero-mul, le_refl, one-add}
+use Rattle.std.specs.Prelude.{ℕ, zero, suc, ◌+◌, ◌*◌, ◌≤◌, ◌<◌, ◌≡◌, refl}
+use Rattle.basics.specs.Core.{add-suc, add-zero, zero-add, suc-mul, zero-mul, le_refl, one-add}
 use Rattle.basics.specs.Core.{arith}
 
 -- The sum f 0 + .. + f (n - 1).

@@ -1,7 +1,8 @@
 -- A test at every index below a bound, or at one, and at every element of a list; laws of tests; and a loop that tests one index after the other,
 -- `Passed`.
-use Rattle.basics.specs.Core.{ℕ, zero, suc, ◌+◌, ◌≤◌, ◌<◌, ◌≡◌, refl, sym, ◌∙◌, Bool, true, false, not, ◌&&◌, ◌||◌, true≢false, List, [], ◌∷◌}
-use Rattle.basics.specs.Core.{◌⊎◌, inl, inr, ⊎_elim, not-suc-le-zero, le_refl, add-one, arith, not-true, not-false}
+use Rattle.std.specs.Prelude.{ℕ, zero, suc, ◌+◌, ◌≤◌, ◌<◌, ◌≡◌, refl, Bool, true, false, not, ◌&&◌, ◌||◌, List, [], ◌∷◌, ◌⊎◌}
+use Rattle.basics.specs.Core.{sym, ◌∙◌, true≢false}
+use Rattle.basics.specs.Core.{inl, inr, ⊎_elim, not-suc-le-zero, le_refl, add-one, arith, not-true, not-false}
 use Rattle.basics.specs.Numbers.{le_or_lt, true_or_false}
 
 -- The test f holds at each of 0 to n - 1.

@@ -1,5 +1,5 @@
 -- Texts as the codes of their characters.
-use Rattle.basics.specs.Core.{ℕ, List, [], ◌∷◌}
+use Rattle.std.specs.Prelude.{ℕ, List, [], ◌∷◌}
 use Prim.Native.Char.{code}
 use Prim.Native.String.{String, [] as empty, ◌∷◌ as ◌then◌}
 

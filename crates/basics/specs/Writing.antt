@@ -1,6 +1,7 @@
 -- Texts written one after the other into a list of bytes.
-use Rattle.basics.specs.Core.{ℕ, zero, suc, ◌+◌, ◌*◌, ◌≤◌, ◌<◌, ◌≡◌, refl, sym, ◌∙◌, ap, List, [], ◌∷◌, ◌++◌, append_assoc, le_refl, add-zero}
-use Rattle.basics.specs.Core.{zero-add, add-one, arith, length, get_or, set, take, drop, length-append, length-set, take-append-drop, set_split}
+use Rattle.std.specs.Prelude.{ℕ, zero, suc, ◌+◌, ◌*◌, ◌≤◌, ◌<◌, ◌≡◌, refl, List, [], ◌∷◌, ◌++◌, length, get_or, set, take, drop}
+use Rattle.basics.specs.Core.{sym, ◌∙◌, ap, append_assoc, le_refl, add-zero}
+use Rattle.basics.specs.Core.{zero-add, add-one, arith, length-append, length-set, take-append-drop, set_split}
 use Rattle.basics.specs.Core.{take_at, drop-drop, drop-append-add, length-take-le, take-suc, take-length}
 use Rattle.basics.specs.Lists.{rows, written_over}
 use Rattle.basics.specs.Rising.{rises_to}

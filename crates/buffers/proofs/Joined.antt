@@ -1,5 +1,6 @@
 -- A number of v + w bytes is written as its v lowest bytes and then as the w bytes of what is left of it.
-use Rattle.basics.specs.Core.{ℕ, ◌+◌, ◌/◌, ◌^◌, List, arith}
+use Rattle.std.specs.Prelude.{ℕ, ◌+◌, ◌/◌, ◌^◌, List}
+use Rattle.basics.specs.Core.{arith}
 use Rattle.basics.specs.Bytes.{bytes_of, bytes_join, length_bytes}
 use Rattle.basics.specs.Writing.{Room, Written, room_less, written_more}
 

@@ -1,7 +1,7 @@
 // Writing bytes into a lent area. A function that writes from a place on returns the place after what it wrote.
 #![tactic(auto)]
 
-ghost use Rattle.basics.specs.Core.{◌≡◌, [], ◌∷◌, length, replicate};
+ghost use Rattle.std.specs.Prelude.{◌≡◌, [], ◌∷◌, length, replicate};
 ghost use Rattle.basics.specs.Bytes.{bytes_of};
 ghost use Rattle.basics.specs.Rows.{element_bytes};
 ghost use Rattle.basics.specs.Writing.{Room, Written};

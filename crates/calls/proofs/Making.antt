@@ -1,5 +1,6 @@
 -- The answer of the sheet call, by its tests on the buffer and the plan, and the sheet buffer at exit.
-use Rattle.basics.specs.Core.{ℕ, ◌*◌, ◌≤◌, ◌<◌, ◌≡◌, refl, sym, ap, ◌∙◌, true, false, List, arith, length, lt-ltb, le-ltb, eq-eqb, ne_eqb, leb-true}
+use Rattle.std.specs.Prelude.{ℕ, ◌*◌, ◌≤◌, ◌<◌, ◌≡◌, refl, true, false, List, length}
+use Rattle.basics.specs.Core.{sym, ap, ◌∙◌, arith, lt-ltb, le-ltb, eq-eqb, ne_eqb, leb-true}
 use Rattle.basics.specs.Tests.{every_at}
 use Rattle.basics.specs.Lists.{written_over}
 use Rattle.model.specs.declared.Refusal.{Refusal}

@@ -1,5 +1,6 @@
 -- The answer of marking, by its tests.
-use Rattle.basics.specs.Core.{ℕ, ◌*◌, ◌≡◌, sym, ap, ◌∙◌, true, false, List, length, eq-eqb, ne_eqb}
+use Rattle.std.specs.Prelude.{ℕ, ◌*◌, ◌≡◌, true, false, List, length}
+use Rattle.basics.specs.Core.{sym, ap, ◌∙◌, eq-eqb, ne_eqb}
 use Rattle.model.specs.declared.Refusal.{Refusal}
 use Rattle.model.specs.declared.Refusal.TheVariants.{WrongLength, EntryRange, LoadNotServed}
 use Rattle.model.specs.declared.Answer.TheVariants.{Cost, Refused}

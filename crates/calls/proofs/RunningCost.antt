@@ -1,5 +1,6 @@
 -- The answer of the call for the running cost, by its tests.
-use Rattle.basics.specs.Core.{ℕ, ◌*◌, ◌≤◌, ◌<◌, ◌≡◌, sym, ap, ◌∙◌, List, mul-le-mul, arith, le-leb, lt-leb}
+use Rattle.std.specs.Prelude.{ℕ, ◌*◌, ◌≤◌, ◌<◌, ◌≡◌, List}
+use Rattle.basics.specs.Core.{sym, ap, ◌∙◌, mul-le-mul, arith, le-leb, lt-leb}
 use mir.Syntax.{w64}
 use mir.Val.{Fits}
 use Rattle.model.specs.declared.Refusal.{Refusal}

@@ -2,7 +2,7 @@
 // out. On an accepted card the work is done by a function that takes the card's header.
 #![tactic(auto)]
 
-ghost use Rattle.basics.specs.Core.{◌≡◌};
+ghost use Rattle.std.specs.Prelude.{◌≡◌};
 ghost use Rattle.model.specs.Calls.{answer, check_card, running_cost, make_sheet, mark_sheet, round_count, sheet_at_exit};
 ghost use Rattle.card.specs.Checking.{Ready};
 

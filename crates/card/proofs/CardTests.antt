@@ -1,5 +1,6 @@
 -- What the tests of a card look at, and the refusal that each way through the checks gives.
-use Rattle.basics.specs.Core.{ℕ, ◌≤◌, ◌<◌, ◌≡◌, refl, sym, ◌∙◌, Bool, true, false, ◌&&◌, List, length, leb, lt-ltb, le-ltb, ltb-false, le-leb, lt-leb}
+use Rattle.std.specs.Prelude.{ℕ, ◌≤◌, ◌<◌, ◌≡◌, refl, Bool, true, false, ◌&&◌, List, length, leb}
+use Rattle.basics.specs.Core.{sym, ◌∙◌, lt-ltb, le-ltb, ltb-false, le-leb, lt-leb}
 use Rattle.basics.specs.Core.{eq-eqb, ne_eqb, eqb-true, not-false}
 use Rattle.basics.specs.Lists.{same_list}
 use Rattle.basics.specs.Tests.{or_left}

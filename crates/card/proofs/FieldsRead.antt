@@ -1,5 +1,6 @@
 -- Taking a number in one byte, and in twice as many bytes: one law over the width.
-use Rattle.basics.specs.Core.{ℕ, ◌+◌, ◌*◌, ◌^◌, ◌<◌, ◌≡◌, sym, ◌∙◌, ap, List, mul-le-mul_left, arith, get_or}
+use Rattle.std.specs.Prelude.{ℕ, ◌+◌, ◌*◌, ◌^◌, ◌<◌, ◌≡◌, List, get_or}
+use Rattle.basics.specs.Core.{sym, ◌∙◌, ap, mul-le-mul_left, arith}
 use lib.Pow.{pow-add}
 use Rattle.basics.specs.Bytes.{little_endian, little_one, little_join}
 use Rattle.card.specs.Fields.{ReadAt}

@@ -1,5 +1,6 @@
 -- An accepted card is as long as its header says, so it has each entry of its table and each load.
-use Rattle.basics.specs.Core.{ℕ, ◌≤◌, ◌<◌, List, arith}
+use Rattle.std.specs.Prelude.{ℕ, ◌≤◌, ◌<◌, List}
+use Rattle.basics.specs.Core.{arith}
 use Rattle.model.specs.Instance.{instance_of}
 use Rattle.laws.specs.Acceptance.{card_size}
 use Rattle.card.specs.declared.Header.{Header}

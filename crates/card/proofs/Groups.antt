@@ -1,5 +1,6 @@
 -- The card's answer from its three groups of refusals.
-use Rattle.basics.specs.Core.{ℕ, ◌≡◌, refl, sym, ◌∙◌, ap, List, arith}
+use Rattle.std.specs.Prelude.{ℕ, ◌≡◌, refl, List}
+use Rattle.basics.specs.Core.{sym, ◌∙◌, ap, arith}
 use Rattle.model.specs.declared.Refusal.{Refusal}
 use Rattle.model.specs.declared.Answer.{Answer}
 use Rattle.model.specs.declared.Answer.TheVariants.{Cost, Refused}

@@ -1,5 +1,6 @@
 -- The lowest step of a convex table, found by going up as long as the table falls.
-use Rattle.basics.specs.Core.{ℕ, ◌+◌, ◌≤◌, ◌<◌, max, ◌≡◌, sym, ◌∙◌, List, ⊎_elim, le_of_lt, max-eq_left, max-eq_right, arith}
+use Rattle.std.specs.Prelude.{ℕ, ◌+◌, ◌≤◌, ◌<◌, max, ◌≡◌, List}
+use Rattle.basics.specs.Core.{sym, ◌∙◌, ⊎_elim, le_of_lt, max-eq_left, max-eq_right, arith}
 use Rattle.basics.specs.Numbers.{le_or_lt}
 use Rattle.basics.specs.Ranges.{LeastAt}
 use Rattle.model.specs.Instance.{instance_of}

@@ -1,5 +1,6 @@
 -- The mark, one byte at a time.
-use Rattle.basics.specs.Core.{ℕ, ◌≤◌, ◌≡◌, ◌∙◌, false, ◌&&◌, and-true, List, [], ◌∷◌, not-suc-le-zero, arith, length, get_or, eqb, eq-eqb, ne_eqb}
+use Rattle.std.specs.Prelude.{ℕ, ◌≤◌, ◌≡◌, false, ◌&&◌, List, [], ◌∷◌, length, get_or, eqb}
+use Rattle.basics.specs.Core.{◌∙◌, and-true, not-suc-le-zero, arith, eq-eqb, ne_eqb}
 use Rattle.basics.specs.Lists.{same_list}
 use Rattle.basics.specs.Bytes.{little_one}
 use Rattle.model.specs.Instance.{head_length, mark_of, card_mark}

@@ -1,5 +1,6 @@
 -- The sizes that a header gives are those of its card, and small.
-use Rattle.basics.specs.Core.{ℕ, ◌+◌, ◌*◌, ◌≤◌, ◌≡◌, List, mul-le-mul, arith}
+use Rattle.std.specs.Prelude.{ℕ, ◌+◌, ◌*◌, ◌≤◌, ◌≡◌, List}
+use Rattle.basics.specs.Core.{mul-le-mul, arith}
 use mir.Syntax.{w64}
 use mir.Val.{Fits}
 use Rattle.model.specs.Instance.{instance_of}

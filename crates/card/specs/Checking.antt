@@ -1,5 +1,5 @@
 -- What checking a card gives, `checked_of`, and an accepted card with its header, `Ready`, which the crates above ask for.
-use Rattle.basics.specs.Core.{ℕ, ◌+◌, ◌≤◌, ◌≡◌, Bool, true, ◌&&◌, List}
+use Rattle.std.specs.Prelude.{ℕ, ◌+◌, ◌≤◌, ◌≡◌, Bool, true, ◌&&◌, List}
 use Rattle.model.specs.declared.Answer.{Answer}
 use Rattle.model.specs.declared.Answer.TheVariants.{Cost, Refused}
 use Rattle.model.specs.Instance.{instance_of, rack_number, convex}

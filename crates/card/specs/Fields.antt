@@ -1,5 +1,5 @@
 -- What reading a card's bytes gives: numbers, the header, entries of the table and loads.
-use Rattle.basics.specs.Core.{ℕ, ◌+◌, ◌^◌, ◌≤◌, ◌<◌, ◌≡◌, List, length}
+use Rattle.std.specs.Prelude.{ℕ, ◌+◌, ◌^◌, ◌≤◌, ◌<◌, ◌≡◌, List, length}
 use Rattle.basics.specs.Bytes.{little_endian}
 use Rattle.model.specs.Instance.{instance_of, load_place}
 use Rattle.card.specs.declared.Header.{Header}

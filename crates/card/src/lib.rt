@@ -1,7 +1,7 @@
 // The show card: a cursor that takes numbers from its bytes, and the checks behind refusals 1 to 8.
 #![tactic(auto)]
 
-ghost use Rattle.basics.specs.Core.{◌≡◌, ◌+◌, ◌≤◌, length};
+ghost use Rattle.std.specs.Prelude.{◌≡◌, ◌+◌, ◌≤◌, length};
 ghost use Rattle.basics.specs.Lists.{same_list};
 ghost use Rattle.model.specs.Instance.{instance_of, head_length, load_place, mark_of, card_mark, version_of, rack_number};
 ghost use Rattle.model.specs.Instance.{convex_at, convex, table_in_range, loads_in_range};

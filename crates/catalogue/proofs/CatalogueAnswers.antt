@@ -1,5 +1,6 @@
 -- The answer of the catalogue call, by the top step and the length of its area, the area at exit, and what its bytes are in a card.
-use Rattle.basics.specs.Core.{ℕ, suc, ◌+◌, ◌≤◌, ◌<◌, ◌≡◌, refl, sym, ap, ◌∙◌, true, false, List, arith, length, take, take_at, length-take-le, lt-ltb}
+use Rattle.std.specs.Prelude.{ℕ, suc, ◌+◌, ◌≤◌, ◌<◌, ◌≡◌, refl, true, false, List, length, take}
+use Rattle.basics.specs.Core.{sym, ap, ◌∙◌, arith, take_at, length-take-le, lt-ltb}
 use Rattle.basics.specs.Core.{le-ltb}
 use Rattle.basics.specs.Lists.{written_over}
 use Rattle.basics.specs.Rows.{element_bytes, length_numbers, taken_bytes}

@@ -1,5 +1,5 @@
 -- What writing the first entries of a table asks for.
-use Rattle.basics.specs.Core.{ℕ, ◌*◌, ◌≤◌, List, length}
+use Rattle.std.specs.Prelude.{ℕ, ◌*◌, ◌≤◌, List, length}
 
 -- A table has at least so many entries, and an area has room for them, four bytes each.
 pub record EntriesRoom (entries : ℕ) (table out : List ℕ) : Type 0 where

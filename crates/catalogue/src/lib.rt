@@ -1,7 +1,7 @@
 // The catalogue module's table (document 02, §5): a constant, and the call that writes its first entries as a card's fields.
 #![tactic(auto)]
 
-ghost use Rattle.basics.specs.Core.{◌≡◌, take};
+ghost use Rattle.std.specs.Prelude.{◌≡◌, take};
 ghost use Rattle.basics.specs.Lists.{written_over};
 ghost use Rattle.basics.specs.Rows.{element_bytes};
 ghost use Rattle.model.specs.Answers.{number_of};

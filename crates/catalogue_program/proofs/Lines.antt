@@ -1,5 +1,5 @@
 -- The rule's numbers and the lines that they are printed on.
-use Rattle.basics.specs.Core.{ℕ, ◌≡◌, refl, length}
+use Rattle.std.specs.Prelude.{ℕ, ◌≡◌, refl, length}
 use Rattle.basics.specs.Lists.{rows}
 use Rattle.model.specs.Catalogue.{catalogue_entry}
 use Rattle.model.specs.Listing.{digits, decimal, catalogue_lines}

@@ -2,7 +2,7 @@
 // beside src, is what the constant in crates/catalogue is made from.
 #![tactic(auto)]
 
-ghost use Rattle.basics.specs.Core.{◌≡◌, ◌≤◌, length};
+ghost use Rattle.std.specs.Prelude.{◌≡◌, ◌≤◌, length};
 ghost use Rattle.basics.specs.Lists.{written_over};
 ghost use Rattle.basics.specs.Writing.{Room, Written};
 ghost use Rattle.model.specs.Catalogue.{catalogue_entry, catalogue_top};

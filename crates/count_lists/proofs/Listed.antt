@@ -1,5 +1,6 @@
 -- The planner over a list, by its tests: what is a planner's in general is applied to it.
-use Rattle.basics.specs.Core.{ℕ, ◌*◌, ◌≡◌, refl, sym, ◌∙◌, Bool, true, false, List, arith, length}
+use Rattle.std.specs.Prelude.{ℕ, ◌*◌, ◌≡◌, refl, Bool, true, false, List, length}
+use Rattle.basics.specs.Core.{sym, ◌∙◌, arith}
 use mir.Syntax.{w64}
 use mir.Val.{Fits}
 use Rattle.model.specs.declared.Refusal.TheVariants.{BufferTooShort, CountList}

@@ -1,5 +1,6 @@
 -- A list as it is copied, and as the front of a longer one.
-use Rattle.basics.specs.Core.{ℕ, ◌≤◌, ◌≡◌, refl, sym, ◌∙◌, List, ◌++◌, arith, length, get_or, take, drop}
+use Rattle.std.specs.Prelude.{ℕ, ◌≤◌, ◌≡◌, refl, List, ◌++◌, length, get_or, take, drop}
+use Rattle.basics.specs.Core.{sym, ◌∙◌, arith}
 use Rattle.basics.specs.Lists.{equal_tabulate, written_over}
 use Rattle.basics.specs.Filling.{Upto, upto_all}
 use Rattle.planners.proofs.Fronts.{front_is, front_within, front_length}

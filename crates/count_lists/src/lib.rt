@@ -1,7 +1,7 @@
 // The planner over a list of allowed counts with a ratio (document 02, §8), which answers every input: the search is that of the other planners.
 #![tactic(auto)]
 
-ghost use Rattle.basics.specs.Core.{◌≡◌, length, replicate};
+ghost use Rattle.std.specs.Prelude.{◌≡◌, length, replicate};
 ghost use Rattle.basics.specs.Lists.{written_over};
 ghost use Rattle.model.specs.Instance.{instance_of};
 ghost use Rattle.model.specs.Plans.{least_plan, least_cost};

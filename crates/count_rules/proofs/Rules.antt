@@ -1,6 +1,7 @@
 -- The rules for a list of allowed counts and its ratio, test by test.
-use Rattle.basics.specs.Core.{ℕ, ◌+◌, ◌-◌, ◌*◌, ◌≤◌, ◌<◌, ◌≡◌, true, false, List, le_of_lt, mul-le-mul_left, mul-le-mul_right, arith, length, get_or}
-use Rattle.basics.specs.Core.{leb, eqb, ltb-true, leb-true, le-leb, lt-leb, eq-eqb, ne_eqb}
+use Rattle.std.specs.Prelude.{ℕ, ◌+◌, ◌-◌, ◌*◌, ◌≤◌, ◌<◌, ◌≡◌, true, false, List, length, get_or, leb, eqb}
+use Rattle.basics.specs.Core.{le_of_lt, mul-le-mul_left, mul-le-mul_right, arith}
+use Rattle.basics.specs.Core.{ltb-true, leb-true, le-leb, lt-leb, eq-eqb, ne_eqb}
 use Rattle.basics.specs.Tests.{and_left, and_right, every_at}
 use Rattle.model.specs.CountRules.{strictly_ascends, gaps_grow_by, ends_at, ratio_in_range, keeps_rules}
 use Rattle.count_rules.specs.RuleRequires.{Rising}

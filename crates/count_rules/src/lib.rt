@@ -1,7 +1,7 @@
 // The rules for a list of allowed counts and its ratio (document 02, §8).
 #![tactic(auto)]
 
-ghost use Rattle.basics.specs.Core.{◌-◌, ◌*◌, ◌≤◌, ◌≡◌, true, leb};
+ghost use Rattle.std.specs.Prelude.{◌-◌, ◌*◌, ◌≤◌, ◌≡◌, true, leb};
 ghost use Rattle.model.specs.CountRules.{strictly_ascends, gaps_grow_by, ends_at, ratio_in_range, keeps_rules};
 ghost use Rattle.count_rules.specs.RuleRequires.{Rising};
 

@@ -1,7 +1,8 @@
 -- The allowed counts as they are written over a list: all of them, or 0 at the first place, the powers of two after it, and m if it is
 -- no power.
-use Rattle.basics.specs.Core.{ℕ, zero, suc, ◌+◌, ◌-◌, ◌^◌, ◌≤◌, ◌<◌, ◌≡◌, sym, ◌∙◌, ap, List, [], ◌∷◌, ◌++◌, append_assoc, add-one, arith, length}
-use Rattle.basics.specs.Core.{get_or, take, drop, set, length-set, length-append, get_or-append, length-take-le, take-suc-set, drop-set-lt}
+use Rattle.std.specs.Prelude.{ℕ, zero, suc, ◌+◌, ◌-◌, ◌^◌, ◌≤◌, ◌<◌, ◌≡◌, List, [], ◌∷◌, ◌++◌, length, get_or, take, drop, set}
+use Rattle.basics.specs.Core.{sym, ◌∙◌, ap, append_assoc, add-one, arith}
+use Rattle.basics.specs.Core.{length-set, length-append, get_or-append, length-take-le, take-suc-set, drop-set-lt}
 use Rattle.basics.specs.Core.{drop-cons, set_at, eq-eqb, ne_eqb}
 use borrow.Rule.Slice.PartMut.{put_mid, mid_of, mid_len, Post-is}
 use Rattle.basics.specs.Lists.{tabulate, length_tabulate, get_or_tabulate, written_over}

@@ -1,7 +1,8 @@
 -- The coarse counts of a rack of at most 200: 0, the powers of two up to m, and m if it is no power. The number of powers is read
 -- off the leading zeros. What holds of one rack and the next is a test that antt computes for each rack.
-use Rattle.basics.specs.Core.{ℕ, zero, suc, ◌-◌, ◌^◌, ◌≤◌, ◌<◌, ◌≡◌, refl, sym, ◌∙◌, Bool, true, cond, ◌&&◌, ◌||◌, or-true, List, [], ◌∷◌, ◌++◌}
-use Rattle.basics.specs.Core.{add-one, arith, get_or, eqb, leb, ltb, eq-eqb, ne_eqb, leb-true, ltb-true}
+use Rattle.std.specs.Prelude.{ℕ, zero, suc, ◌-◌, ◌^◌, ◌≤◌, ◌<◌, ◌≡◌, refl, Bool, true, cond, ◌&&◌, ◌||◌, List, [], ◌∷◌, ◌++◌, get_or, eqb, leb, ltb}
+use Rattle.basics.specs.Core.{sym, ◌∙◌, or-true}
+use Rattle.basics.specs.Core.{add-one, arith, eq-eqb, ne_eqb, leb-true, ltb-true}
 use lib.Count.{count_leading_zeros}
 use Rattle.basics.specs.Tests.{every, every_at, and_left, and_right}
 use Rattle.basics.specs.Lists.{tabulate, get_or_tabulate, keep, same_list, same_list_equal}

@@ -1,5 +1,6 @@
 -- A load shared by n modules: quotient and remainder stay in the table, and the cost is the definition's.
-use Rattle.basics.specs.Core.{ℕ, ◌+◌, ◌-◌, ◌*◌, ◌/◌, ◌%◌, ◌^◌, ◌≤◌, ◌<◌, ◌≡◌, sym, ◌∙◌, List, le_of_lt, sub-zero, pos_of_ne-zero, mod-lt}
+use Rattle.std.specs.Prelude.{ℕ, ◌+◌, ◌-◌, ◌*◌, ◌/◌, ◌%◌, ◌^◌, ◌≤◌, ◌<◌, ◌≡◌, List}
+use Rattle.basics.specs.Core.{sym, ◌∙◌, le_of_lt, sub-zero, pos_of_ne-zero, mod-lt}
 use Rattle.basics.specs.Core.{div-le_of_le-mul, mul-le-mul, arith, eq-eqb}
 use mir.Syntax.{w64}
 use mir.Val.{Fits}

@@ -1,5 +1,5 @@
 -- The lists of allowed counts as they are written to memory, and what writing them asks for.
-use Rattle.basics.specs.Core.{ℕ, ◌+◌, ◌-◌, ◌^◌, ◌≤◌, ◌<◌, List, length}
+use Rattle.std.specs.Prelude.{ℕ, ◌+◌, ◌-◌, ◌^◌, ◌≤◌, ◌<◌, List, length}
 use Rattle.std.specs.Int.Count.{count_leading_zeros}
 use Rattle.basics.specs.Lists.{tabulate}
 

@@ -1,5 +1,5 @@
 -- What serving a load with a count asks for.
-use Rattle.basics.specs.Core.{ℕ, ◌*◌, ◌≤◌, List}
+use Rattle.std.specs.Prelude.{ℕ, ◌*◌, ◌≤◌, List}
 use Rattle.model.specs.Instance.{instance_of}
 use Rattle.card.specs.declared.Header.{Header}
 use Rattle.card.specs.Checking.{Ready}

@@ -1,7 +1,7 @@
 // Counts of active modules: the planners' lists of allowed counts, the rounded count, and the operating cost of a count.
 #![tactic(auto)]
 
-ghost use Rattle.basics.specs.Core.{◌≡◌, ◌^◌, ◌≤◌, length};
+ghost use Rattle.std.specs.Prelude.{◌≡◌, ◌^◌, ◌≤◌, length};
 ghost use Rattle.basics.specs.Lists.{written_over};
 ghost use Rattle.model.specs.Instance.{instance_of};
 ghost use Rattle.model.specs.Counts.{operating_cost, all_counts, coarse_counts, rounded_count, printed_cases, case_value};

@@ -1,6 +1,7 @@
 -- A card is written part by part: its head, its table and its loads. Where there is room for the card, there is room for each part behind the ones
 -- before it.
-use Rattle.basics.specs.Core.{ℕ, ◌≡◌, List, ◌++◌, append_assoc}
+use Rattle.std.specs.Prelude.{ℕ, ◌≡◌, List, ◌++◌}
+use Rattle.basics.specs.Core.{append_assoc}
 use Rattle.basics.specs.Writing.{Room, Written, room_first, room_rest, written_more}
 use Rattle.model.specs.Instance.{Instance, front_bytes, size_bytes, price_bytes, table_bytes, load_bytes, card_bytes}
 use Rattle.encoder.specs.declared.Fields.{Fields}

@@ -1,6 +1,6 @@
 -- The head of a card (document 01, 'The show card'): the bytes before its table, from plain fields, `head_of`; and when these fields are those of a
 -- show, `FieldsOf`.
-use Rattle.basics.specs.Core.{ℕ, ◌≡◌, List, ◌++◌}
+use Rattle.std.specs.Prelude.{ℕ, ◌≡◌, List, ◌++◌}
 use Rattle.basics.specs.Bytes.{bytes_of}
 use Rattle.model.specs.Instance.{Instance, front_bytes}
 use Rattle.encoder.specs.declared.Fields.{Fields}

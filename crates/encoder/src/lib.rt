@@ -2,7 +2,7 @@
 // of its loads. A function that writes from a place on, the head from 0, returns the place after what it wrote.
 #![tactic(auto)]
 
-ghost use Rattle.basics.specs.Core.{◌≡◌, ◌++◌};
+ghost use Rattle.std.specs.Prelude.{◌≡◌, ◌++◌};
 ghost use Rattle.basics.specs.Bytes.{bytes_of};
 ghost use Rattle.basics.specs.Writing.{Room, Written};
 ghost use Rattle.model.specs.Instance.{load_place, front_bytes};

@@ -1,6 +1,6 @@
 -- The loop that counts the modules which go on beyond the rises of the counts.
-use Rattle.basics.specs.Core.{ℕ, suc, ◌+◌, ◌-◌, ◌*◌, ◌≤◌, ◌<◌, ◌≡◌, ap, sym, ◌∙◌, List, mul-le-mul, mul-le-mul_right, sub-le, add-one, arith, length}
-use Rattle.basics.specs.Core.{get_or}
+use Rattle.std.specs.Prelude.{ℕ, suc, ◌+◌, ◌-◌, ◌*◌, ◌≤◌, ◌<◌, ◌≡◌, List, length, get_or}
+use Rattle.basics.specs.Core.{ap, sym, ◌∙◌, mul-le-mul, mul-le-mul_right, sub-le, add-one, arith}
 use mir.Syntax.{w64}
 use mir.Val.{Fits}
 use borrow.Rule.Slice.PartMut.{mid_of}

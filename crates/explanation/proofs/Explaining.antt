@@ -1,5 +1,6 @@
 -- The explanation of a sheet, by its tests: the numbers that it returns, and its work buffer at exit.
-use Rattle.basics.specs.Core.{ℕ, ◌≤◌, ◌<◌, ◌≡◌, sym, ap, ◌∙◌, List, arith, length, replicate}
+use Rattle.std.specs.Prelude.{ℕ, ◌≤◌, ◌<◌, ◌≡◌, List, length, replicate}
+use Rattle.basics.specs.Core.{sym, ap, ◌∙◌, arith}
 use Rattle.basics.specs.Lists.{written_over}
 use Rattle.model.specs.declared.Refusal.{Refusal}
 use Rattle.model.specs.declared.Refusal.TheVariants.{BufferTooShort}

@@ -1,5 +1,6 @@
 -- A row's bytes: which count as active, and which as going on.
-use Rattle.basics.specs.Core.{ℕ, ◌≤◌, ◌<◌, ◌≡◌, ◌∙◌, Bool, true, false, cond, List, arith, length, get_or, eq-eqb, ne_eqb}
+use Rattle.std.specs.Prelude.{ℕ, ◌≤◌, ◌<◌, ◌≡◌, Bool, true, false, cond, List, length, get_or}
+use Rattle.basics.specs.Core.{◌∙◌, arith, eq-eqb, ne_eqb}
 use Rattle.model.specs.Sheets.{off, is_off, active_of}
 use Rattle.theory.specs.RowCosts.{at_most_one}
 use Rattle.explanation.specs.Exchanges.{start_of}

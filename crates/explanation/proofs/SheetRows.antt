@@ -1,5 +1,6 @@
 -- The rows of a sheet, as they are lent: their active modules are the sheet's counts, and those that go on are the sheet's.
-use Rattle.basics.specs.Core.{ℕ, suc, ◌+◌, ◌-◌, ◌*◌, ◌≤◌, ◌<◌, ◌≡◌, ap, ap₂, List, arith, length, get_or}
+use Rattle.std.specs.Prelude.{ℕ, suc, ◌+◌, ◌-◌, ◌*◌, ◌≤◌, ◌<◌, ◌≡◌, List, length, get_or}
+use Rattle.basics.specs.Core.{ap, ap₂, arith}
 use borrow.Rule.Slice.PartMut.{mid_of}
 use Rattle.basics.specs.Sums.{sum_ext}
 use Rattle.basics.specs.Lists.{get_or_tabulate}

@@ -1,5 +1,6 @@
 -- The switching cost of a sheet is that of its counts and the switching price for each module that goes on beyond their rises.
-use Rattle.basics.specs.Core.{ℕ, zero, suc, ◌+◌, ◌-◌, ◌*◌, ◌≤◌, ◌<◌, ◌≡◌, refl, ap, sym, List, sub-zero, one-add, arith}
+use Rattle.std.specs.Prelude.{ℕ, zero, suc, ◌+◌, ◌-◌, ◌*◌, ◌≤◌, ◌<◌, ◌≡◌, refl, List}
+use Rattle.basics.specs.Core.{ap, sym, sub-zero, one-add, arith}
 use Rattle.basics.specs.Sums.{sum, sum_ext, sum_add, sum_join}
 use Rattle.model.specs.Instance.{Instance}
 use Rattle.model.specs.Sheets.{state_at, active_at, counts_of, sheet_switching_cost}

@@ -1,6 +1,7 @@
 -- The three numbers of a sheet that serves, from its cost, the modules that go on beyond the rises of its counts, the cost of its counts as a
 -- plan, and the exact planner's cost.
-use Rattle.basics.specs.Core.{ℕ, ◌+◌, ◌-◌, ◌*◌, ◌≤◌, ◌≡◌, sym, ap, ◌∙◌, List, mul-le-mul, mul_comm, sub-le, le_trans, arith, length, eqb-true}
+use Rattle.std.specs.Prelude.{ℕ, ◌+◌, ◌-◌, ◌*◌, ◌≤◌, ◌≡◌, List, length}
+use Rattle.basics.specs.Core.{sym, ap, ◌∙◌, mul-le-mul, mul_comm, sub-le, le_trans, arith, eqb-true}
 use mir.Syntax.{w64}
 use mir.Val.{Fits}
 use Rattle.basics.specs.Sums.{sum_at_most}

@@ -1,5 +1,6 @@
 -- The loop that writes the counts of a sheet.
-use Rattle.basics.specs.Core.{ℕ, suc, ◌+◌, ◌-◌, ◌*◌, ◌≤◌, ◌<◌, ◌≡◌, ap, ◌∙◌, List, arith, length, set}
+use Rattle.std.specs.Prelude.{ℕ, suc, ◌+◌, ◌-◌, ◌*◌, ◌≤◌, ◌<◌, ◌≡◌, List, length, set}
+use Rattle.basics.specs.Core.{ap, ◌∙◌, arith}
 use mir.Syntax.{w64}
 use mir.Val.{Fits}
 use borrow.Rule.Slice.PartMut.{mid_of}

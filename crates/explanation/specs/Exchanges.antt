@@ -1,6 +1,6 @@
 -- What the functions of this crate count in the rows of a sheet: the active modules, and the modules that go on beyond the rise of the count,
 -- `exchanged`.
-use Rattle.basics.specs.Core.{ℕ, suc, ◌-◌, cond, List, length, get_or}
+use Rattle.std.specs.Prelude.{ℕ, suc, ◌-◌, cond, List, length, get_or}
 use Rattle.basics.specs.Sums.{sum}
 use Rattle.model.specs.Instance.{Instance}
 use Rattle.model.specs.Sheets.{is_off, state_at, active_of, active_at}

@@ -1,5 +1,5 @@
 -- What the functions of this crate ask for.
-use Rattle.basics.specs.Core.{ℕ, ◌≤◌, ◌≡◌, true, List, length}
+use Rattle.std.specs.Prelude.{ℕ, ◌≤◌, ◌≡◌, true, List, length}
 use Rattle.model.specs.Instance.{instance_of}
 use Rattle.model.specs.Sheets.{serves, sheet_cost, counts_of}
 use Rattle.model.specs.Planners.{exact, work_bytes}

@@ -2,7 +2,7 @@
 // answers every input.
 #![tactic(auto)]
 
-ghost use Rattle.basics.specs.Core.{◌≡◌, ◌-◌, ◌≤◌, length, replicate};
+ghost use Rattle.std.specs.Prelude.{◌≡◌, ◌-◌, ◌≤◌, length, replicate};
 ghost use Rattle.basics.specs.Lists.{written_over};
 ghost use Rattle.model.specs.declared.Answer.TheVariants.{Cost};
 ghost use Rattle.model.specs.Instance.{instance_of};

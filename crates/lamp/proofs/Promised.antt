@@ -1,5 +1,6 @@
 -- What the exports promise beyond the answer of the call below them.
-use Rattle.basics.specs.Core.{ℕ, ◌≡◌, refl, sym, ap, ◌∙◌, Bool, true, false, cond, List, take, eqb, ne_eqb}
+use Rattle.std.specs.Prelude.{ℕ, ◌≡◌, refl, Bool, true, false, cond, List, take, eqb}
+use Rattle.basics.specs.Core.{sym, ap, ◌∙◌, ne_eqb}
 use Rattle.model.specs.declared.Answer.{Answer}
 use Rattle.model.specs.declared.Answer.TheVariants.{Cost, Refused}
 use Rattle.model.specs.declared.Refusal.{Refusal}

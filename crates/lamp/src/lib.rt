@@ -1,7 +1,7 @@
 // The public calls: numbers and byte slices over the C boundary. Each answers every input, with the answer of the call below it.
 #![tactic(auto)]
 
-ghost use Rattle.basics.specs.Core.{◌≡◌, []};
+ghost use Rattle.std.specs.Prelude.{◌≡◌, []};
 ghost use Rattle.model.specs.Planners.{exact, coarse, listed};
 ghost use Rattle.model.specs.Calls.{NumbersOf, Gives, check_card, running_cost, plan_show, make_sheet, mark_sheet, round_count, practice_card, catalogue_table};
 ghost use Rattle.model.specs.Calls.{plan_at_exit, work_at_exit, sheet_at_exit, card_at_exit, table_at_exit, act_in, explain_sheet};

@@ -1,6 +1,7 @@
 -- The bounds of a show that is in order, `InBounds`, by `in_bounds`; and what an accepted card is known to hold: its show is in order,
 -- `accepted_in_order`, and within these bounds, `accepted_bounds`, and the card has its length, `card_size`.
-use Rattle.basics.specs.Core.{ℕ, ◌+◌, ◌*◌, ◌≤◌, ◌<◌, ◌≡◌, true, false, not, List, arith, length, leb, eqb, leb-true, ltb-false, eqb-true, not-false}
+use Rattle.std.specs.Prelude.{ℕ, ◌+◌, ◌*◌, ◌≤◌, ◌<◌, ◌≡◌, true, false, not, List, length, leb, eqb}
+use Rattle.basics.specs.Core.{arith, leb-true, ltb-false, eqb-true, not-false}
 use Rattle.basics.specs.Tests.{every_at, and_left, and_right}
 use Rattle.model.specs.Instance.{Instance, instance_of, load_place, card_length, rack_number, convex, table_in_range, prices_in_range, loads_in_range}
 use Rattle.model.specs.Specs.{card_tests, ShowInOrder}

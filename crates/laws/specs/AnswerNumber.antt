@@ -1,5 +1,6 @@
 -- The number of an answer tells a success from a refusal.
-use Rattle.basics.specs.Core.{◌≤◌, ◌≡◌, refl, arith}
+use Rattle.std.specs.Prelude.{◌≤◌, ◌≡◌, refl}
+use Rattle.basics.specs.Core.{arith}
 use Rattle.model.specs.declared.Refusal.{Refusal}
 use Rattle.model.specs.declared.Refusal.TheVariants.{NotACard, Version, RackSize, SlotCount, CardLength, PriceRange, NotConvex, LoadRange}
 use Rattle.model.specs.declared.Refusal.TheVariants.{NotMonotone, BufferTooShort, WrongLength, EntryRange, LoadNotServed, ZeroStart}

@@ -1,6 +1,7 @@
 -- Cards whose table is known as bytes: what is read from it, `table_read`; when the card is accepted, `accepted_by_others`; and that a head, a
 -- table and loads make such a card, `table_behind`.
-use Rattle.basics.specs.Core.{ℕ, ◌+◌, ◌*◌, ◌^◌, ◌≤◌, ◌<◌, ◌≡◌, sym, ◌∙◌, true, List, [], ◌∷◌, ◌++◌, append-nil, ◌↔◌, arith, length, drop}
+use Rattle.std.specs.Prelude.{ℕ, ◌+◌, ◌*◌, ◌^◌, ◌≤◌, ◌<◌, ◌≡◌, true, List, [], ◌∷◌, ◌++◌, ◌↔◌, length, drop}
+use Rattle.basics.specs.Core.{sym, ◌∙◌, append-nil, arith}
 use Rattle.basics.specs.Core.{get_or-append, take_at, drop_at, le-leb}
 use Rattle.basics.specs.Tests.{and_both}
 use Rattle.basics.specs.Bytes.{little_same, little_drop, little_take}

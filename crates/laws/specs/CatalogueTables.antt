@@ -1,6 +1,7 @@
 -- The catalogue module's table (document 02, §5): each test of a whole table, turned into the fact at each entry, `entry_is`, `entry_convex`,
 -- `entry_rises`, and what follows for cards, `catalogue_card`.
-use Rattle.basics.specs.Core.{ℕ, zero, suc, ◌+◌, ◌-◌, ◌*◌, ◌/◌, ◌^◌, ◌≤◌, ◌<◌, ◌≡◌, refl, sym, ◌∙◌, true, List, mul-le-mul, arith, eqb-true, le-leb}
+use Rattle.std.specs.Prelude.{ℕ, zero, suc, ◌+◌, ◌-◌, ◌*◌, ◌/◌, ◌^◌, ◌≤◌, ◌<◌, ◌≡◌, refl, true, List}
+use Rattle.basics.specs.Core.{sym, ◌∙◌, mul-le-mul, arith, eqb-true, le-leb}
 use Rattle.basics.specs.Tests.{every_at, every_all}
 use Rattle.model.specs.Instance.{instance_of, table_of, table_in_range}
 use Rattle.model.specs.Catalogue.{catalogue_entry, catalogue_top, catalogue_size, entry_of, follows_rule, TestedTable, catalogue_bytes}

@@ -1,7 +1,8 @@
 -- Which counts are in the list of all counts and in that of the coarse ones (document 01, 'The plans'): `all_member`, `coarse_member`; and that
 -- both lists ascend: `all_in_order`, `coarse_in_order`.
-use Rattle.basics.specs.Core.{ℕ, zero, suc, ◌+◌, ◌^◌, ◌≤◌, ◌<◌, ◌≡◌, Bool, true, false, not, or-true, List, ◌↔◌, ◌⊎◌, inl, inr, ⊎_map, arith, get_or}
-use Rattle.basics.specs.Core.{eqb, eqb-true, eq-eqb, not-true, not-false}
+use Rattle.std.specs.Prelude.{ℕ, zero, suc, ◌+◌, ◌^◌, ◌≤◌, ◌<◌, ◌≡◌, Bool, true, false, not, List, ◌↔◌, ◌⊎◌, get_or, eqb}
+use Rattle.basics.specs.Core.{or-true, inl, inr, ⊎_map, arith}
+use Rattle.basics.specs.Core.{eqb-true, eq-eqb, not-true, not-false}
 use Rattle.basics.specs.Tests.{every_fails, every_not, or_cases}
 use Rattle.basics.specs.Lists.{keep, length_tabulate, get_or_tabulate}
 use Rattle.basics.specs.Members.{InOrder, member_at, place_of, to_keep, from_keep, rising_in_order, in_order_keep}

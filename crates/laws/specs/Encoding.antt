@@ -1,7 +1,8 @@
 -- The card that is written for a show, `card_bytes`: its length, `card_bytes_length`; that a show whose fields fit is read back from it,
 -- `card_bytes_show`; and that it is accepted exactly if the show is in order, `card_bytes_accepted`.
-use Rattle.basics.specs.Core.{ℕ, ◌+◌, ◌*◌, ◌^◌, ◌≤◌, ◌<◌, ◌≡◌, refl, sym, ap, ◌∙◌, List, [], ◌++◌, append-nil, ◌↔◌, mul-le-mul, arith, leb, length}
-use Rattle.basics.specs.Core.{take, length-append, take_at, le-ltb, eq-eqb}
+use Rattle.std.specs.Prelude.{ℕ, ◌+◌, ◌*◌, ◌^◌, ◌≤◌, ◌<◌, ◌≡◌, refl, List, [], ◌++◌, ◌↔◌, leb, length, take}
+use Rattle.basics.specs.Core.{sym, ap, ◌∙◌, append-nil, mul-le-mul, arith}
+use Rattle.basics.specs.Core.{length-append, take_at, le-ltb, eq-eqb}
 use Rattle.basics.specs.Tests.{every_same}
 use Rattle.basics.specs.Lists.{same_list}
 use Rattle.basics.specs.Bytes.{little_endian, bytes_of, little_bytes, little_after}

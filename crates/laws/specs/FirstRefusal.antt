@@ -1,6 +1,7 @@
 -- Laws of `first_of`, the first of some tests that applies: test by test, of two lists joined, of tests none of which applies, `NoneApplies`, and of
 -- two lists that agree as far as the first test that applies, `Alike`.
-use Rattle.basics.specs.Core.{ℕ, ◌≡◌, refl, sym, ◌∙◌, true, false, true≢false, List, [], ◌∷◌, ◌++◌, ⊎_elim}
+use Rattle.std.specs.Prelude.{ℕ, ◌≡◌, refl, true, false, List, [], ◌∷◌, ◌++◌}
+use Rattle.basics.specs.Core.{sym, ◌∙◌, true≢false, ⊎_elim}
 use Rattle.basics.specs.Numbers.{true_or_false}
 use Rattle.basics.specs.Members.{Each}
 use Rattle.model.specs.declared.Refusal.{Refusal}

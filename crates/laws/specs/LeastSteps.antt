@@ -1,6 +1,7 @@
 -- G and the active step (document 02, §2). On any table: what they are, `active_least`, `active_cost`, and that G never falls, `least_never_falls`.
 -- On a convex one: the active step is the greater of the step and the lowest step, `active_greater`, and G is convex, `least_convex`.
-use Rattle.basics.specs.Core.{ℕ, ◌+◌, ◌-◌, ◌≤◌, ◌<◌, max, ◌≡◌, sym, ap, ◌∙◌, ⊎_elim, le_of_lt, max-eq_left, max-eq_right, arith}
+use Rattle.std.specs.Prelude.{ℕ, ◌+◌, ◌-◌, ◌≤◌, ◌<◌, max, ◌≡◌}
+use Rattle.basics.specs.Core.{sym, ap, ◌∙◌, ⊎_elim, le_of_lt, max-eq_left, max-eq_right, arith}
 use Rattle.basics.specs.Numbers.{le_or_lt}
 use Rattle.basics.specs.Rising.{rises_to}
 use Rattle.basics.specs.Ranges.{first_over, LeastAt, least_at_unique, least_over_below, least_index_lem, least_index_value}

@@ -1,5 +1,6 @@
 -- Calls on a card: the card's own tests come first.
-use Rattle.basics.specs.Core.{ℕ, ◌≡◌, refl, sym, ◌∙◌, List, ◌++◌}
+use Rattle.std.specs.Prelude.{ℕ, ◌≡◌, refl, List, ◌++◌}
+use Rattle.basics.specs.Core.{sym, ◌∙◌}
 use Rattle.model.specs.declared.Refusal.{Refusal}
 use Rattle.model.specs.declared.Answer.{Answer}
 use Rattle.model.specs.declared.Answer.TheVariants.{Cost, Refused}

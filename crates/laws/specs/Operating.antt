@@ -1,5 +1,6 @@
 -- The operating cost of a count as one formula, `operating_formula`, and a bound for it, `operating_bound`; and the row of a plan, byte by byte.
-use Rattle.basics.specs.Core.{ℕ, zero, suc, ◌+◌, ◌-◌, ◌*◌, ◌/◌, ◌%◌, ◌≤◌, ◌<◌, ◌≡◌, sym, cond, eqb, eqb-suc-zero, length, lt-ltb, le-ltb, ne_eqb}
+use Rattle.std.specs.Prelude.{ℕ, zero, suc, ◌+◌, ◌-◌, ◌*◌, ◌/◌, ◌%◌, ◌≤◌, ◌<◌, ◌≡◌, cond, eqb, length}
+use Rattle.basics.specs.Core.{sym, eqb-suc-zero, lt-ltb, le-ltb, ne_eqb}
 use Rattle.basics.specs.Core.{le_trans, zero-mul, mod-zero, div-le_of_le-mul, mul-le-mul_left, arith}
 use Rattle.basics.specs.Products.{mul_le_mul_some}
 use Rattle.basics.specs.Division.{remainder_le, quotient_lt, part_and_rest}

@@ -1,7 +1,8 @@
 -- The practice show of a start (document 02, §1): the bounds of its fields, that its table never falls, `practice_never_falls`, that its card is
 -- accepted, `practice_accepted`, and how long the card is at most, `practice_length`. All of it is proved for every start, by the way the show is
 -- made.
-use Rattle.basics.specs.Core.{ℕ, zero, suc, ◌+◌, ◌*◌, ◌%◌, ◌≤◌, ◌<◌, ◌≡◌, true, List, mod-lt, add-one, arith, leb, length, le-leb, ne_eqb, le-ltb}
+use Rattle.std.specs.Prelude.{ℕ, zero, suc, ◌+◌, ◌*◌, ◌%◌, ◌≤◌, ◌<◌, ◌≡◌, true, List, leb, length}
+use Rattle.basics.specs.Core.{mod-lt, add-one, arith, le-leb, ne_eqb, le-ltb}
 use Rattle.basics.specs.Tests.{and_both, every_all}
 use Rattle.model.specs.declared.Answer.TheVariants.{Cost}
 use Rattle.model.specs.Instance.{card_bytes, card_length, rack_number, prices_in_range, table_in_range, convex, convex_at, loads_in_range}

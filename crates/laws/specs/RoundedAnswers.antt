@@ -1,6 +1,7 @@
 -- The answer of the rounded count's call, by its tests, and that it is what the course book's list of cases gives (document 02, §6):
 -- `answered_by_cases`.
-use Rattle.basics.specs.Core.{ℕ, ◌≤◌, ◌<◌, ◌≡◌, sym, ap, true, false, cond, ⊎_elim, leb, le-leb, lt-leb}
+use Rattle.std.specs.Prelude.{ℕ, ◌≤◌, ◌<◌, ◌≡◌, true, false, cond, leb}
+use Rattle.basics.specs.Core.{sym, ap, ⊎_elim, le-leb, lt-leb}
 use Rattle.basics.specs.Numbers.{le_or_lt, true_or_false}
 use Rattle.model.specs.declared.Refusal.TheVariants.{RackSize, EntryRange}
 use Rattle.model.specs.declared.Answer.TheVariants.{Cost, Refused}

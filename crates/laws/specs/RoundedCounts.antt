@@ -1,8 +1,9 @@
 -- The rounded count is the smallest allowed count not below a count (document 01, 'The plans'): `rounded_least`. In a rack of at most 200 the
 -- course book's list of cases gives it too (02 §6): `rounded_by_cases_lem`.
-use Rattle.basics.specs.Core.{ℕ, zero, suc, ◌+◌, ◌^◌, ◌≤◌, ◌<◌, min, ◌≡◌, refl, sym, ◌∙◌, and-false, List, [], ◌∷◌, ◌⊎◌, inl, inr, ⊎_elim, le_refl}
-use Rattle.basics.specs.Core.{le_of_lt, le_antisymm, eq-or-lt_of_le, one-le-pow, pow-le-pow_right, zero-min, min-eq_left, min-eq_right, arith, get_or}
-use Rattle.basics.specs.Core.{leb, leb-true, le-leb, lt-leb}
+use Rattle.std.specs.Prelude.{ℕ, zero, suc, ◌+◌, ◌^◌, ◌≤◌, ◌<◌, min, ◌≡◌, refl, List, [], ◌∷◌, ◌⊎◌, get_or, leb}
+use Rattle.basics.specs.Core.{sym, ◌∙◌, and-false, inl, inr, ⊎_elim, le_refl}
+use Rattle.basics.specs.Core.{le_of_lt, le_antisymm, eq-or-lt_of_le, one-le-pow, pow-le-pow_right, zero-min, min-eq_left, min-eq_right, arith}
+use Rattle.basics.specs.Core.{leb-true, le-leb, lt-leb}
 use Rattle.basics.specs.Numbers.{le_or_lt}
 use Rattle.basics.specs.Lists.{keep, head_is_first}
 use Rattle.basics.specs.Members.{in_order_le, in_order_keep}

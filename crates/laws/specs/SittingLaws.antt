@@ -2,8 +2,9 @@
 -- `AgreeAt`: in the phase, and once opened in the allowance, the submissions used, the least cost, whether a seat is empty, and the seat of the one
 -- candidate that it is about: `answers_agree`, `told_agree`, `events_agree`. Also what a refused act does, `refused_does`, and how a submission on
 -- an accepted card is answered, `submission_on_card`.
-use Rattle.basics.specs.Core.{ℕ, ◌≡◌, refl, sym, ap, ◌∙◌, Bool, true, false, cond, not, ◌&&◌, ◌||◌, List, [], ◌++◌, Option, option_get_or, option_elim}
-use Rattle.basics.specs.Core.{leb, eqb, not-true, not-false}
+use Rattle.std.specs.Prelude.{ℕ, ◌≡◌, refl, Bool, true, false, cond, not, ◌&&◌, ◌||◌, List, [], ◌++◌, leb, eqb}
+use Rattle.basics.specs.Core.{sym, ap, ◌∙◌, Option, option_get_or, option_elim}
+use Rattle.basics.specs.Core.{not-true, not-false}
 use Rattle.basics.specs.Tests.{and_left, and_right, or_left}
 use Rattle.model.specs.declared.Refusal.{Refusal}
 use Rattle.model.specs.declared.Answer.{Answer}

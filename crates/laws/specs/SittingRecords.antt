@@ -1,5 +1,6 @@
 -- The records of a sitting hold its state (document 02, §4): what an event makes of the records holds what it makes of the state, `state_after`.
-use Rattle.basics.specs.Core.{ℕ, ◌≤◌, ◌<◌, ◌≡◌, refl, ap, ◌∙◌, Bool, List, [], ◌∷◌, ◌++◌, map, append-nil, ⊎_elim, arith, length, take, drop}
+use Rattle.std.specs.Prelude.{ℕ, ◌≤◌, ◌<◌, ◌≡◌, refl, Bool, List, [], ◌∷◌, ◌++◌, map, length, take, drop}
+use Rattle.basics.specs.Core.{ap, ◌∙◌, append-nil, ⊎_elim, arith}
 use Rattle.basics.specs.Core.{length-take, length-map, drop_of_length-le, take_at, take_all}
 use Rattle.basics.specs.Numbers.{le_or_lt}
 use Rattle.basics.specs.FirstPlace.{change_first, length_change, change_map}

@@ -1,7 +1,8 @@
 -- Tables: what convex and never falling mean, that tables which agree pass the same tests, what follows from a step at which a convex table no
 -- longer falls, and the line that supports it.
-use Rattle.basics.specs.Core.{ℕ, zero, suc, ◌+◌, ◌-◌, ◌*◌, ◌≤◌, ◌<◌, ◌≡◌, ap, true, ◌↔◌, ⊎_elim, leb-true, le-leb, add-zero, le_dest, le_of_lt}
-use Rattle.basics.specs.Core.{mul-le-mul_left, arith, leb}
+use Rattle.std.specs.Prelude.{ℕ, zero, suc, ◌+◌, ◌-◌, ◌*◌, ◌≤◌, ◌<◌, ◌≡◌, true, ◌↔◌, leb}
+use Rattle.basics.specs.Core.{ap, ⊎_elim, leb-true, le-leb, add-zero, le_dest, le_of_lt}
+use Rattle.basics.specs.Core.{mul-le-mul_left, arith}
 use Rattle.basics.specs.Numbers.{le_or_lt}
 use Rattle.basics.specs.Tests.{every_at, every_all, every_same}
 use Rattle.model.specs.Instance.{convex_at, convex, never_falls, table_in_range}

@@ -1,6 +1,7 @@
 -- Laws of decimal numbers: what their digits are, and how many they have.
-use Rattle.basics.specs.Core.{ℕ, zero, suc, ◌*◌, ◌/◌, ◌%◌, ◌^◌, ◌≤◌, ◌<◌, ◌≡◌, Bool, true, false, cond, ⊎_elim, [], ◌∷◌, ◌++◌, pow-suc, arith, ltb}
-use Rattle.basics.specs.Core.{length, length-append, lt-ltb, le-ltb}
+use Rattle.std.specs.Prelude.{ℕ, zero, suc, ◌*◌, ◌/◌, ◌%◌, ◌^◌, ◌≤◌, ◌<◌, ◌≡◌, Bool, true, false, cond, [], ◌∷◌, ◌++◌, ltb, length}
+use Rattle.basics.specs.Core.{⊎_elim, pow-suc, arith}
+use Rattle.basics.specs.Core.{length-append, lt-ltb, le-ltb}
 use Rattle.basics.specs.Numbers.{le_or_lt}
 use Rattle.model.specs.Listing.{digit, digits, decimal}
 

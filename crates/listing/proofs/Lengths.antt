@@ -1,6 +1,7 @@
 -- How long the texts are at most.
 use Rattle.std.proofs.Common.{Fits, w8}
-use Rattle.basics.specs.Core.{ℕ, ◌+◌, ◌*◌, ◌^◌, ◌≤◌, ◌<◌, Bool, true, false, cond, List, arith, length, get_or, take, drop, length-append, length-take}
+use Rattle.std.specs.Prelude.{ℕ, ◌+◌, ◌*◌, ◌^◌, ◌≤◌, ◌<◌, Bool, true, false, cond, List, length, get_or, take, drop}
+use Rattle.basics.specs.Core.{arith, length-append, length-take}
 use Rattle.basics.specs.Core.{get_or-take, get_or-drop}
 use Rattle.basics.specs.Parts.{get_or_within}
 use Rattle.basics.specs.Text.{text}

@@ -1,5 +1,6 @@
 -- The rows of a sheet that `put_sheet` lends one by one.
-use Rattle.basics.specs.Core.{ℕ, ◌+◌, ◌-◌, ◌*◌, ◌≡◌, List, arith, take, drop}
+use Rattle.std.specs.Prelude.{ℕ, ◌+◌, ◌-◌, ◌*◌, ◌≡◌, List, take, drop}
+use Rattle.basics.specs.Core.{arith}
 use Rattle.model.specs.Listing.{slot_line}
 use Rattle.listing.specs.Texts.{sheet_line}
 

@@ -1,5 +1,6 @@
 -- The text of a step, by the code's test for off, and that it is not empty.
-use Rattle.basics.specs.Core.{ℕ, ◌≤◌, ◌≡◌, Bool, true, false, cond, arith, length, eq-eqb, ne_eqb}
+use Rattle.std.specs.Prelude.{ℕ, ◌≤◌, ◌≡◌, Bool, true, false, cond, length}
+use Rattle.basics.specs.Core.{arith, eq-eqb, ne_eqb}
 use Rattle.basics.specs.Text.{text}
 use Rattle.model.specs.Sheets.{off, is_off}
 use Rattle.model.specs.Listing.{decimal, step_text}

@@ -1,5 +1,5 @@
 -- The parts of the program's text that the model does not name, and what the public functions ask for.
-use Rattle.basics.specs.Core.{ℕ, ◌+◌, ◌*◌, ◌≤◌, ◌≡◌, List, ◌++◌, length, get_or, take, drop}
+use Rattle.std.specs.Prelude.{ℕ, ◌+◌, ◌*◌, ◌≤◌, ◌≡◌, List, ◌++◌, length, get_or, take, drop}
 use Rattle.basics.specs.Lists.{rows}
 use Rattle.basics.specs.Text.{text}
 use Rattle.model.specs.Sheets.{off}

@@ -1,7 +1,7 @@
 // The program's text: each function writes a part of it into a lent area from a place on, and returns the place after it.
 #![tactic(auto)]
 
-ghost use Rattle.basics.specs.Core.{◌≡◌, ◌<◌, length};
+ghost use Rattle.std.specs.Prelude.{◌≡◌, ◌<◌, length};
 ghost use Rattle.basics.specs.Lists.{written_over};
 ghost use Rattle.basics.specs.Writing.{Room, Written};
 ghost use Rattle.model.specs.Listing.{decimal, plan_line, slot_line, listing, refused_line};

@@ -1,5 +1,6 @@
 -- What the planners give two cards (specs/RelatedExamples): the cost and the plan, with all buffers that are long enough.
-use Rattle.basics.specs.Core.{refl, sym, [], ◌∷◌, flat_map, length}
+use Rattle.std.specs.Prelude.{refl, [], ◌∷◌, length}
+use Rattle.basics.specs.Core.{sym, flat_map}
 use Rattle.basics.specs.Core.{le-ltb}
 use Rattle.basics.specs.Tests.{every, all_of}
 use Rattle.basics.specs.Sums.{sum}

@@ -1,6 +1,7 @@
 -- A sitting (document 02, §4: 'A desk for the sitting'): its acts, what each may meet and what each does. The paper's doer is the caller
 -- here, and a hand-in is a submission. `act_spec` has the specification of every act.
-use Rattle.basics.specs.Core.{ℕ, Bool, true, false, cond, not, ◌&&◌, ◌||◌, List, [], ◌∷◌, ◌++◌, Option, option_get_or, option_elim, leb, eqb}
+use Rattle.std.specs.Prelude.{ℕ, Bool, true, false, cond, not, ◌&&◌, ◌||◌, List, [], ◌∷◌, ◌++◌, leb, eqb}
+use Rattle.basics.specs.Core.{Option, option_get_or, option_elim}
 use Rattle.model.specs.declared.Refusal.{Refusal}
 use Rattle.model.specs.declared.Refusal.TheVariants.{BufferTooShort, NotPermitted, SeatUnavailable, AllowanceSpent}
 use Rattle.model.specs.Answers.{refusal_number}

@@ -1,5 +1,5 @@
 -- The number of each refusal, `refusal_number`, and the number and the cost of an answer (document 01, 'Refused'; 02 §1, §4, §8).
-use Rattle.basics.specs.Core.{ℕ}
+use Rattle.std.specs.Prelude.{ℕ}
 use Rattle.model.specs.declared.Refusal.{Refusal}
 use Rattle.model.specs.declared.Refusal.TheVariants.{NotACard, Version, RackSize, SlotCount, CardLength, PriceRange, NotConvex}
 use Rattle.model.specs.declared.Refusal.TheVariants.{LoadRange, NotMonotone, BufferTooShort, WrongLength, EntryRange, LoadNotServed}

@@ -1,6 +1,6 @@
 -- Every call with its specification, `spec_of`, and what follows from it: the answer, and the bytes of each lent buffer at exit (document 01,
 -- 'Refused', 'The plans'; 02 §1, §2, §4, §5, §7, §8).
-use Rattle.basics.specs.Core.{ℕ, ◌≡◌, List, [], ◌∷◌, ◌++◌, map, get_or, leb, eqb}
+use Rattle.std.specs.Prelude.{ℕ, ◌≡◌, List, [], ◌∷◌, ◌++◌, map, get_or, leb, eqb}
 use Rattle.model.specs.declared.Refusal.TheVariants.{RackSize, BufferTooShort, EntryRange, LoadNotServed, ZeroStart}
 use Rattle.model.specs.declared.Answer.{Answer}
 use Rattle.model.specs.declared.Answer.TheVariants.{Cost}

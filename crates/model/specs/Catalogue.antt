@@ -1,6 +1,6 @@
 -- The catalogue module's table (document 02, §5): its rule, `catalogue_entry`, the tests of a whole table, `TestedTable`, and its entries as a
 -- card's fields, `catalogue_bytes`.
-use Rattle.basics.specs.Core.{ℕ, ◌+◌, ◌-◌, ◌*◌, ◌/◌, ◌≡◌, Bool, true, List, length, get_or, eqb}
+use Rattle.std.specs.Prelude.{ℕ, ◌+◌, ◌-◌, ◌*◌, ◌/◌, ◌≡◌, Bool, true, List, length, get_or, eqb}
 use Rattle.basics.specs.Tests.{every}
 use Rattle.model.specs.Instance.{table_fields, convex, never_falls}
 

@@ -1,6 +1,7 @@
 -- Examples of document 02, §5: the catalogue module's table, the call that writes it, and the lines of its generator. Beside them answers of wrong
 -- programs, which differ, and bytes that the call does not write, of which `WritesTable` is false.
-use Rattle.basics.specs.Core.{ℕ, ◌≡◌, refl, Bool, cond, List, [], ◌∷◌, ◌++◌, arith, length, take, drop, set}
+use Rattle.std.specs.Prelude.{ℕ, ◌≡◌, refl, Bool, cond, List, [], ◌∷◌, ◌++◌, length, take, drop, set}
+use Rattle.basics.specs.Core.{arith}
 use Rattle.basics.specs.Lists.{tabulate}
 use Rattle.basics.specs.Text.{text}
 use Rattle.basics.specs.Bytes.{little_endian}

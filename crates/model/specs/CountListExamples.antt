@@ -1,5 +1,6 @@
 -- Examples of document 02, §8: a plan limited to a list of counts with a ratio. Beside them answers of wrong programs, which differ.
-use Rattle.basics.specs.Core.{ℕ, ◌*◌, cond, List, [], ◌∷◌, length, take, replicate, arith}
+use Rattle.std.specs.Prelude.{ℕ, ◌*◌, cond, List, [], ◌∷◌, length, take, replicate}
+use Rattle.basics.specs.Core.{arith}
 use Prim.Native.String.{String}
 use Rattle.model.specs.Counts.{all_counts, coarse_counts}
 use Rattle.model.specs.Instance.{instance_of}

@@ -1,5 +1,5 @@
 -- A list of allowed counts that a customer gives, with its ratio, and the rules for both (document 02, §8).
-use Rattle.basics.specs.Core.{ℕ, ◌+◌, ◌-◌, ◌*◌, Bool, ◌&&◌, List, length, get_or, leb, ltb, eqb}
+use Rattle.std.specs.Prelude.{ℕ, ◌+◌, ◌-◌, ◌*◌, Bool, ◌&&◌, List, length, get_or, leb, ltb, eqb}
 use Rattle.basics.specs.Tests.{every}
 
 -- The gap after entry j (from 0): how much higher the next entry is. Where it is not higher, the gap is 0.

@@ -1,6 +1,7 @@
 -- Counts of active modules: their operating cost, which counts are allowed, and the rounded count, also by the course book's list (document
 -- 01, 'Running cost of a count', 'The plans'; 02 §2, §6).
-use Rattle.basics.specs.Core.{ℕ, ◌+◌, ◌-◌, ◌*◌, ◌/◌, ◌%◌, ◌^◌, min, Bool, cond, ◌&&◌, ◌||◌, List, [], ◌∷◌, head_d, leb, eqb}
+use Rattle.std.specs.Prelude.{ℕ, ◌+◌, ◌-◌, ◌*◌, ◌/◌, ◌%◌, ◌^◌, min, Bool, cond, ◌&&◌, ◌||◌, List, [], ◌∷◌, leb, eqb}
+use Rattle.basics.specs.Core.{head_d}
 use Rattle.basics.specs.Tests.{any}
 use Rattle.basics.specs.Lists.{tabulate, keep}
 use Rattle.model.specs.Instance.{Instance}

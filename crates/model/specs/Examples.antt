@@ -1,7 +1,8 @@
 -- Document 01's starred examples, A to J: one table, one proof. Beside it tables of further rows by subject, and one of the answers of
 -- wrong programs, which differ.
-use Rattle.basics.specs.Core.{ℕ, ◌+◌, ◌-◌, ◌≡◌, refl, ap, sym, ◌∙◌, Bool, true, false, not, false≢true, List, [], ◌∷◌, ◌++◌, map, flat_map, head_d}
-use Rattle.basics.specs.Core.{length, get_or, take, drop, set, replicate, arith}
+use Rattle.std.specs.Prelude.{ℕ, ◌+◌, ◌-◌, ◌≡◌, refl, Bool, true, false, not, List, [], ◌∷◌, ◌++◌, map, length, get_or, take, drop, set, replicate}
+use Rattle.basics.specs.Core.{ap, sym, ◌∙◌, false≢true, flat_map, head_d}
+use Rattle.basics.specs.Core.{arith}
 use Prim.Native.String.{String}
 use Rattle.basics.specs.Tests.{every, all_of}
 use Rattle.basics.specs.Sums.{sum}

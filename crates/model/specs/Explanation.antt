@@ -1,5 +1,5 @@
 -- Where the points of a sheet went (document 02, §7): its cost above the least cost in three parts, and what each part being 0 says.
-use Rattle.basics.specs.Core.{ℕ, suc, ◌+◌, ◌-◌, ◌*◌, ◌≤◌, ◌<◌, ◌≡◌, true, cond, List, eqb}
+use Rattle.std.specs.Prelude.{ℕ, suc, ◌+◌, ◌-◌, ◌*◌, ◌≤◌, ◌<◌, ◌≡◌, true, cond, List, eqb}
 use Rattle.basics.specs.Sums.{sum}
 use Rattle.model.specs.Instance.{Instance}
 use Rattle.model.specs.Counts.{operating_cost, all_counts}

@@ -1,5 +1,6 @@
 -- Examples of document 02, §7: where the points of a sheet went. Beside them answers of wrong programs, which differ.
-use Rattle.basics.specs.Core.{ℕ, List, [], ◌∷◌, ◌++◌, take, set, replicate, arith}
+use Rattle.std.specs.Prelude.{ℕ, List, [], ◌∷◌, ◌++◌, take, set, replicate}
+use Rattle.basics.specs.Core.{arith}
 use Prim.Native.String.{String}
 use Rattle.basics.specs.Lists.{tabulate}
 use Rattle.basics.specs.Sums.{sum}

@@ -1,6 +1,6 @@
 -- A show, `Instance`, and its card (document 01, 'The show card'): the places of the fields, how they are read, `instance_of`, and written,
 -- `card_bytes`, the bounds of the numbers, and when a table is convex and when it never falls ('Running cost of a count').
-use Rattle.basics.specs.Core.{ℕ, ◌+◌, ◌-◌, ◌*◌, Bool, ◌&&◌, List, [], ◌∷◌, ◌++◌, take, drop, leb}
+use Rattle.std.specs.Prelude.{ℕ, ◌+◌, ◌-◌, ◌*◌, Bool, ◌&&◌, List, [], ◌∷◌, ◌++◌, take, drop, leb}
 use Rattle.basics.specs.Tests.{every}
 use Rattle.basics.specs.Lists.{rows}
 use Rattle.basics.specs.Bytes.{little_endian, bytes_of}

@@ -1,5 +1,5 @@
 -- The texts of the programs, as bytes of ASCII: the planner's (document 01, 'Program and listing') and the generator's (02 §5).
-use Rattle.basics.specs.Core.{ℕ, zero, suc, ◌+◌, ◌*◌, ◌/◌, ◌%◌, cond, List, [], ◌∷◌, ◌++◌, length, get_or, take, drop, replicate, ltb}
+use Rattle.std.specs.Prelude.{ℕ, zero, suc, ◌+◌, ◌*◌, ◌/◌, ◌%◌, cond, List, [], ◌∷◌, ◌++◌, length, get_or, take, drop, replicate, ltb}
 use Prim.Native.Char.{code}
 use Rattle.basics.specs.Lists.{rows}
 use Rattle.basics.specs.Text.{text}

@@ -1,5 +1,5 @@
 -- More light than the load (document 02, §2): what a module costs that gives the light of a step or more, and the step it is active at.
-use Rattle.basics.specs.Core.{ℕ, ◌-◌, eqb}
+use Rattle.std.specs.Prelude.{ℕ, ◌-◌, eqb}
 use Rattle.basics.specs.Ranges.{least_over, first_over}
 use Rattle.model.specs.Instance.{Instance}
 

@@ -1,6 +1,6 @@
 -- The planners as data, `Planner`, with a table for each thing in which they differ: the counts allowed, the work bytes, the rules of a list and
 -- the ratio; and the plan and the cost of each (document 01, 'The plans'; 02 §8).
-use Rattle.basics.specs.Core.{ℕ, ◌+◌, ◌*◌, Bool, true, List, length}
+use Rattle.std.specs.Prelude.{ℕ, ◌+◌, ◌*◌, Bool, true, List, length}
 use Rattle.model.specs.Instance.{Instance}
 use Rattle.model.specs.Counts.{all_counts, coarse_counts}
 use Rattle.model.specs.CountRules.{keeps_rules}

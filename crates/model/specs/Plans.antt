@@ -1,5 +1,6 @@
 -- Plans: the sheet and the cost of one, and the least plan over a list of allowed counts (document 01, 'The plans'; 02 §2).
-use Rattle.basics.specs.Core.{ℕ, zero, suc, ◌+◌, ◌/◌, ◌%◌, ◌≤◌, ◌<◌, ◌≡◌, Bool, true, cond, List, [], ◌∷◌, ◌++◌, map, flat_map, length, get_or, leb, ltb}
+use Rattle.std.specs.Prelude.{ℕ, zero, suc, ◌+◌, ◌/◌, ◌%◌, ◌≤◌, ◌<◌, ◌≡◌, Bool, true, cond, List, [], ◌∷◌, ◌++◌, map, length, get_or, leb, ltb}
+use Rattle.basics.specs.Core.{flat_map}
 use Rattle.basics.specs.Tests.{every}
 use Rattle.basics.specs.Lists.{tabulate, rows, keep}
 use Rattle.model.specs.Instance.{Instance}

@@ -1,5 +1,5 @@
 -- Practice shows from a number (document 02, §1): the generator, and the show that it draws.
-use Rattle.basics.specs.Core.{ℕ, zero, suc, ◌+◌, ◌*◌, ◌/◌, ◌%◌, ◌^◌}
+use Rattle.std.specs.Prelude.{ℕ, zero, suc, ◌+◌, ◌*◌, ◌/◌, ◌%◌, ◌^◌}
 use Rattle.std.specs.Int.Bits.{bit_xor}
 use Rattle.model.specs.Instance.{Instance}
 

@@ -3,7 +3,7 @@
 -- condition 3 with its ratio, and that no sheet that keeps to the list costs less (02 §8), of the practice call what 02 §1 says of its cards, of
 -- reading the least cost what §4 says of it, of the catalogue call what its bytes are in a card, and of the explanation of a sheet what §7 says of
 -- its three numbers.
-use Rattle.basics.specs.Core.{ℕ, ◌+◌, ◌*◌, ◌≤◌, ◌<◌, ◌≡◌, true, List, [], ◌∷◌, ◌++◌, ◌↔◌, length, get_or, take}
+use Rattle.std.specs.Prelude.{ℕ, ◌+◌, ◌*◌, ◌≤◌, ◌<◌, ◌≡◌, true, List, [], ◌∷◌, ◌++◌, ◌↔◌, length, get_or, take}
 use Rattle.model.specs.declared.Answer.TheVariants.{Cost}
 use Rattle.model.specs.declared.Sitting.{Sitting}
 use Rattle.model.specs.declared.Reply.{Reply}

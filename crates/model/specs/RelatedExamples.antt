@@ -1,6 +1,7 @@
 -- Examples for the definitions of RelatedShows: shows that stand in these relations, that no others do, and what the planners give a card and
 -- what they do not.
-use Rattle.basics.specs.Core.{ℕ, zero, suc, ◌≤◌, ◌≡◌, refl, sym, ap, ap₂, ◌∙◌, List, [], ◌∷◌, ◌++◌, reverse, length, get_or, take, arith}
+use Rattle.std.specs.Prelude.{ℕ, zero, suc, ◌≤◌, ◌≡◌, refl, List, [], ◌∷◌, ◌++◌, reverse, length, get_or, take}
+use Rattle.basics.specs.Core.{sym, ap, ap₂, ◌∙◌, arith}
 use Rattle.basics.specs.Lists.{tabulate, rows, equal_tabulate}
 use Rattle.basics.specs.Bytes.{little_endian, bytes_of}
 use Rattle.model.specs.Instance.{Instance, instance_of, card_bytes}

@@ -1,6 +1,6 @@
 -- Shows that document 02, §3, compares: when two agree, and when one is another played backwards, another on a rack with more modules, or
 -- two others joined; and the cost and the plan that a planner gives for a card.
-use Rattle.basics.specs.Core.{ℕ, ◌≤◌, ◌≡◌, List, ◌++◌, reverse, take}
+use Rattle.std.specs.Prelude.{ℕ, ◌≤◌, ◌≡◌, List, ◌++◌, reverse, take}
 use Rattle.basics.specs.Lists.{tabulate}
 use Rattle.model.specs.Answers.{number_of}
 use Rattle.model.specs.Instance.{Instance, instance_of}

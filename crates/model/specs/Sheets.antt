@@ -1,5 +1,5 @@
 -- Sheets: when one serves a show, what it costs, and its counts (document 01, 'Terms'; 02 §2).
-use Rattle.basics.specs.Core.{ℕ, zero, suc, ◌+◌, ◌*◌, Bool, cond, ◌&&◌, ◌||◌, List, length, get_or, leb, ltb, eqb}
+use Rattle.std.specs.Prelude.{ℕ, zero, suc, ◌+◌, ◌*◌, Bool, cond, ◌&&◌, ◌||◌, List, length, get_or, leb, ltb, eqb}
 use Rattle.basics.specs.Tests.{every}
 use Rattle.basics.specs.Sums.{sum}
 use Rattle.basics.specs.Lists.{tabulate}

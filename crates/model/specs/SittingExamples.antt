@@ -1,6 +1,7 @@
 -- Examples of the acts of a sitting (document 02, §4), most of them on card A, whose least cost is 32: tables of acts, a table of what wrong
 -- readings would answer, and a table of sequences of acts, among them a whole sitting, by the calls in turn and by its history.
-use Rattle.basics.specs.Core.{ℕ, List, [], ◌∷◌, ◌++◌, map, option_elim, set, replicate, arith}
+use Rattle.std.specs.Prelude.{ℕ, List, [], ◌∷◌, ◌++◌, map, set, replicate}
+use Rattle.basics.specs.Core.{option_elim, arith}
 use Prim.Native.String.{String}
 use Rattle.basics.specs.FirstPlace.{occurs, count_of, first_place, change_first}
 use Rattle.model.specs.declared.Seat.{Seat}

@@ -1,6 +1,7 @@
 -- The state of a sitting (document 02, §4), how an event changes it, and the records that hold it: the sitting that each act gives back and
 -- the lent list of seats.
-use Rattle.basics.specs.Core.{ℕ, ◌+◌, min, Bool, cond, not, List, ◌++◌, map, Option, none, some, get_or, take, drop, eqb}
+use Rattle.std.specs.Prelude.{ℕ, ◌+◌, min, Bool, cond, not, List, ◌++◌, map, get_or, take, drop, eqb}
+use Rattle.basics.specs.Core.{Option, none, some}
 use Rattle.basics.specs.FirstPlace.{occurs, first_place, change_first}
 use Rattle.model.specs.declared.Seat.{Seat}
 use Rattle.model.specs.declared.Sitting.{Sitting}

@@ -1,7 +1,8 @@
 -- What an act of a sitting answers and does by the facts of the sitting, and what it leaves: of the state, `next`, and of the records that the
 -- calls hand on, `reply_of` and `seats_at_exit` (document 02, §4). What a list of acts is told: by the calls in turn, `told_in_turn`, and by the history
 -- alone, `told_from`.
-use Rattle.basics.specs.Core.{ℕ, min, ◌≡◌, Bool, true, false, cond, List, [], ◌∷◌, head_d, flat_map, Option, none, some, length, leb, eqb}
+use Rattle.std.specs.Prelude.{ℕ, min, ◌≡◌, Bool, true, false, cond, List, [], ◌∷◌, length, leb, eqb}
+use Rattle.basics.specs.Core.{head_d, flat_map, Option, none, some}
 use Rattle.basics.specs.Lists.{keep}
 use Rattle.basics.specs.Members.{Each}
 use Rattle.basics.specs.FirstPlace.{occurs, count_of}

@@ -1,6 +1,6 @@
 -- What the specification of a call is made of: tests, each with its refusal, the cost of a success, and lent buffers (document 01, 'Refused',
 -- 'The plans'). The groups of tests that several calls make have names here; Calls has the specification of each call, Acts that of each act.
-use Rattle.basics.specs.Core.{ℕ, ◌*◌, ◌≡◌, Bool, false, cond, not, ◌&&◌, ◌||◌, List, [], ◌∷◌, ◌++◌, length, replicate, ltb, eqb}
+use Rattle.std.specs.Prelude.{ℕ, ◌*◌, ◌≡◌, Bool, false, cond, not, ◌&&◌, ◌||◌, List, [], ◌∷◌, ◌++◌, length, replicate, ltb, eqb}
 use Rattle.basics.specs.Lists.{same_list, written_over}
 use Rattle.model.specs.declared.Refusal.{Refusal}
 use Rattle.model.specs.declared.Refusal.TheVariants.{NotACard, Version, RackSize, SlotCount, CardLength, PriceRange, NotConvex}

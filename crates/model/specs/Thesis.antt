@@ -1,6 +1,6 @@
 -- The thesis's formulas in whole points: 2.2 and 2.3 for schedules, where 2.3 asks for the load or more, and 3.9 to 3.13 for counts, with G in
 -- place of F (02 §2).
-use Rattle.basics.specs.Core.{ℕ, zero, suc, ◌+◌, ◌-◌, ◌*◌, ◌≤◌, ◌<◌, List, get_or}
+use Rattle.std.specs.Prelude.{ℕ, zero, suc, ◌+◌, ◌-◌, ◌*◌, ◌≤◌, ◌<◌, List, get_or}
 use Rattle.basics.specs.Sums.{sum}
 use Rattle.model.specs.Instance.{Instance}
 use Rattle.model.specs.Counts.{operating_cost}

@@ -1,7 +1,7 @@
 // What the planner answers: types, and the number of a refusal. What every call must answer is defined in specs/.
 #![tactic(auto)]
 
-ghost use Rattle.basics.specs.Core.{◌≡◌};
+ghost use Rattle.std.specs.Prelude.{◌≡◌};
 ghost use Rattle.model.specs.Answers.{refusal_number};
 
 // One variant for each number: document 01's table in section 'Refused', 1 to 13, and then the numbers of document 02.

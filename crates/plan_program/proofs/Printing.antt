@@ -1,5 +1,6 @@
 -- What is printed for a card, by its answer and the planner's: the line of a refusal, or the listing of the plan and sheet in the areas.
-use Rattle.basics.specs.Core.{ℕ, ◌*◌, ◌≤◌, ◌≡◌, refl, sym, ◌∙◌, ap, List, arith, length, take, length-take, length-replicate}
+use Rattle.std.specs.Prelude.{ℕ, ◌*◌, ◌≤◌, ◌≡◌, refl, List, length, take}
+use Rattle.basics.specs.Core.{sym, ◌∙◌, ap, arith, length-take, length-replicate}
 use Rattle.model.specs.declared.Refusal.{Refusal}
 use Rattle.model.specs.declared.Answer.{Answer}
 use Rattle.model.specs.declared.Answer.TheVariants.{Cost, Refused}

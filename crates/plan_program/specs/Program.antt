@@ -1,5 +1,5 @@
 -- What the parts of the program ask for.
-use Rattle.basics.specs.Core.{ℕ, ◌≤◌, ◌≡◌, List, length, take}
+use Rattle.std.specs.Prelude.{ℕ, ◌≤◌, ◌≡◌, List, length, take}
 use Rattle.model.specs.Instance.{instance_of}
 use Rattle.model.specs.Planners.{exact, work_bytes, planned_by}
 use Rattle.card.specs.declared.Header.{Header}

@@ -1,7 +1,7 @@
 // The program: reads a card from standard input, and prints its exact plan or its refusal.
 #![tactic(auto)]
 
-ghost use Rattle.basics.specs.Core.{◌≡◌, length};
+ghost use Rattle.std.specs.Prelude.{◌≡◌, length};
 ghost use Rattle.basics.specs.Lists.{written_over};
 ghost use Rattle.model.specs.Listing.{exact_listing, printed};
 ghost use Rattle.plan_program.specs.Program.{TextArea, AcceptedText, PlannedText};

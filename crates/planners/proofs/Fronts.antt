@@ -1,5 +1,6 @@
 -- A list at the front of a longer one, where a filling function has left it.
-use Rattle.basics.specs.Core.{ℕ, ◌≤◌, ◌≡◌, sym, ◌∙◌, ap, List, arith, length, take, drop, length-append, take_at}
+use Rattle.std.specs.Prelude.{ℕ, ◌≤◌, ◌≡◌, List, length, take, drop}
+use Rattle.basics.specs.Core.{sym, ◌∙◌, ap, arith, length-append, take_at}
 use Rattle.basics.specs.Lists.{written_over}
 
 module _ (l old : List ℕ) {new : List ℕ} {r : ℕ} (size : r ≡ length l) (filled : new ≡ written_over l old) where

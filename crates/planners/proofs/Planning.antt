@@ -1,6 +1,7 @@
 -- A planner that keeps the rules: its counts as a list that is searched, its answer by the test on its buffers, and its buffers at exit.
-use Rattle.basics.specs.Core.{ℕ, ◌≤◌, ◌<◌, ◌≡◌, refl, sym, ap, ◌∙◌, Bool, true, false, ◌||◌, or-false, List, mul-le-mul_right, arith, length, take}
-use Rattle.basics.specs.Core.{replicate, ltb, ltb-false, lt-ltb, le-ltb}
+use Rattle.std.specs.Prelude.{ℕ, ◌≤◌, ◌<◌, ◌≡◌, refl, Bool, true, false, ◌||◌, List, length, take, replicate, ltb}
+use Rattle.basics.specs.Core.{sym, ap, ◌∙◌, or-false, mul-le-mul_right, arith}
+use Rattle.basics.specs.Core.{ltb-false, lt-ltb, le-ltb}
 use Rattle.basics.specs.Lists.{written_over}
 use Rattle.basics.specs.Tests.{or_left, or_right}
 use Rattle.model.specs.declared.Refusal.{Refusal}

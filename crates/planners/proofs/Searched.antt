@@ -1,5 +1,6 @@
 -- What the search over a list of allowed counts leaves in the buffers is the least plan over the list, and zeros.
-use Rattle.basics.specs.Core.{ℕ, ◌≤◌, ◌≡◌, sym, ◌∙◌, ap, List, ◌++◌, arith, length, take, drop, replicate, length-replicate, length-take-le}
+use Rattle.std.specs.Prelude.{ℕ, ◌≤◌, ◌≡◌, List, ◌++◌, length, take, drop, replicate}
+use Rattle.basics.specs.Core.{sym, ◌∙◌, ap, arith, length-replicate, length-take-le}
 use Rattle.basics.specs.Lists.{written_over}
 use Rattle.model.specs.Instance.{Instance, instance_of}
 use Rattle.model.specs.Thesis.{counts_cost}

@@ -1,5 +1,5 @@
 -- The planner of a kind, and what the planners ask for.
-use Rattle.basics.specs.Core.{ℕ, ◌≤◌, Bool, ◌||◌, List, length, ltb}
+use Rattle.std.specs.Prelude.{ℕ, ◌≤◌, Bool, ◌||◌, List, length, ltb}
 use Rattle.model.specs.Instance.{Instance, instance_of}
 use Rattle.model.specs.Planners.{Planner, exact, coarse, work_bytes}
 use Rattle.thresholds.specs.Places.{Ascending}

@@ -2,7 +2,7 @@
 // over a list of counts (`plan_over`) and the test on the buffers (`either_short`) serve the planner over a list too.
 #![tactic(auto)]
 
-ghost use Rattle.basics.specs.Core.{◌≡◌, length, replicate};
+ghost use Rattle.std.specs.Prelude.{◌≡◌, length, replicate};
 ghost use Rattle.basics.specs.Lists.{written_over};
 ghost use Rattle.model.specs.Instance.{instance_of};
 ghost use Rattle.model.specs.Plans.{least_plan, least_cost};

@@ -1,5 +1,6 @@
 -- A plan's slot: its load can be read, and its count serves it.
-use Rattle.basics.specs.Core.{ℕ, suc, ◌+◌, ◌*◌, ◌≤◌, ◌<◌, ◌≡◌, true, false, List, add-one, arith, length, get_or, leb, leb-true, le-leb, lt-leb}
+use Rattle.std.specs.Prelude.{ℕ, suc, ◌+◌, ◌*◌, ◌≤◌, ◌<◌, ◌≡◌, true, false, List, length, get_or, leb}
+use Rattle.basics.specs.Core.{add-one, arith, leb-true, le-leb, lt-leb}
 use Rattle.basics.specs.Tests.{every_at}
 use Rattle.model.specs.Instance.{Instance, instance_of}
 use Rattle.model.specs.Counts.{can_serve}

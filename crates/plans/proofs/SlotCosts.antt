@@ -1,5 +1,6 @@
 -- The cost of a slot by counts.
-use Rattle.basics.specs.Core.{ℕ, ◌+◌, ◌-◌, ◌*◌, ◌≤◌, ◌≡◌, refl, List, mul-le-mul, arith}
+use Rattle.std.specs.Prelude.{ℕ, ◌+◌, ◌-◌, ◌*◌, ◌≤◌, ◌≡◌, refl, List}
+use Rattle.basics.specs.Core.{mul-le-mul, arith}
 use Rattle.model.specs.Instance.{instance_of}
 use Rattle.model.specs.Counts.{operating_cost}
 use Rattle.model.specs.Thesis.{slot_cost}

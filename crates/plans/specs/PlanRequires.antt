@@ -1,5 +1,5 @@
 -- What the functions of this crate ask for.
-use Rattle.basics.specs.Core.{ℕ, ◌≤◌, ◌<◌, ◌≡◌, true, List, length, get_or}
+use Rattle.std.specs.Prelude.{ℕ, ◌≤◌, ◌<◌, ◌≡◌, true, List, length, get_or}
 use Rattle.model.specs.Instance.{instance_of}
 use Rattle.model.specs.Plans.{plan_serves}
 use Rattle.card.specs.declared.Header.{Header}

@@ -1,7 +1,7 @@
 // A plan that is handed in: its cost by counts, and the tests of its counts against the rack and the loads.
 #![tactic(auto)]
 
-ghost use Rattle.basics.specs.Core.{◌≡◌};
+ghost use Rattle.std.specs.Prelude.{◌≡◌};
 ghost use Rattle.model.specs.Instance.{instance_of};
 ghost use Rattle.model.specs.Plans.{plan_in_rack, plan_serves};
 ghost use Rattle.model.specs.Thesis.{slot_cost, counts_cost};

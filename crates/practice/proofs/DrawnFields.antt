@@ -1,5 +1,6 @@
 -- What the first draws and each next one give.
-use Rattle.basics.specs.Core.{ℕ, zero, suc, ◌+◌, ◌%◌, ◌≡◌, refl, ap, ◌∙◌, arith}
+use Rattle.std.specs.Prelude.{ℕ, zero, suc, ◌+◌, ◌%◌, ◌≡◌, refl}
+use Rattle.basics.specs.Core.{ap, ◌∙◌, arith}
 use Rattle.model.specs.Practice.{draw, drawn, practice_entry, practice_show}
 use Rattle.practice.specs.Drawing.{OfStart, next_difference}
 

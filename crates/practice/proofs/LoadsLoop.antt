@@ -1,5 +1,6 @@
 -- The loop that draws and writes the loads of a practice show.
-use Rattle.basics.specs.Core.{ℕ, suc, ◌+◌, ◌*◌, ◌%◌, ◌≤◌, ◌<◌, ◌≡◌, refl, List, add-zero, mul-le-mul, arith}
+use Rattle.std.specs.Prelude.{ℕ, suc, ◌+◌, ◌*◌, ◌%◌, ◌≤◌, ◌<◌, ◌≡◌, refl, List}
+use Rattle.basics.specs.Core.{add-zero, mul-le-mul, arith}
 use Rattle.basics.specs.Bytes.{bytes_of}
 use Rattle.basics.specs.Writing.{Room, Written, RowsWritten, rows_none, rows_room, rows_more, rows_all}
 use Rattle.model.specs.Instance.{load_bytes}

@@ -1,5 +1,6 @@
 -- The answer of the practice call, by the start and the length of its area, and the area at exit.
-use Rattle.basics.specs.Core.{ℕ, ◌≤◌, ◌<◌, ◌≡◌, sym, ◌∙◌, List, arith, length, eq-eqb, ne_eqb, lt-ltb}
+use Rattle.std.specs.Prelude.{ℕ, ◌≤◌, ◌<◌, ◌≡◌, List, length}
+use Rattle.basics.specs.Core.{sym, ◌∙◌, arith, eq-eqb, ne_eqb, lt-ltb}
 use Rattle.basics.specs.Writing.{Written, written_start}
 use Rattle.model.specs.declared.Refusal.TheVariants.{ZeroStart, BufferTooShort}
 use Rattle.model.specs.declared.Answer.{Answer}

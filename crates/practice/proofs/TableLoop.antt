@@ -1,5 +1,6 @@
 -- The loop that draws and writes the table of a practice show.
-use Rattle.basics.specs.Core.{ℕ, zero, suc, ◌+◌, ◌%◌, ◌≤◌, ◌<◌, ◌≡◌, refl, ap, ◌∙◌, List, add-one, arith}
+use Rattle.std.specs.Prelude.{ℕ, zero, suc, ◌+◌, ◌%◌, ◌≤◌, ◌<◌, ◌≡◌, refl, List}
+use Rattle.basics.specs.Core.{ap, ◌∙◌, add-one, arith}
 use Rattle.basics.specs.Bytes.{bytes_of}
 use Rattle.basics.specs.Writing.{Room, Written, RowsWritten, rows_none, rows_room, rows_more, rows_all}
 use Rattle.model.specs.Instance.{table_bytes}

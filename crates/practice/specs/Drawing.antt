@@ -1,5 +1,5 @@
 -- What the functions that draw and write a practice card ask for and give.
-use Rattle.basics.specs.Core.{ℕ, zero, suc, ◌+◌, ◌%◌, ◌≤◌, ◌≡◌, List}
+use Rattle.std.specs.Prelude.{ℕ, zero, suc, ◌+◌, ◌%◌, ◌≤◌, ◌≡◌, List}
 use Rattle.basics.specs.Writing.{Room}
 use Rattle.model.specs.Instance.{Instance, load_bytes}
 use Rattle.model.specs.Practice.{drawn, practice_entry, practice_show}

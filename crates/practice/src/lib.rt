@@ -1,7 +1,7 @@
 // Practice cards (document 02, §1): the generator, and the card of the show that it draws from a start.
 #![tactic(auto)]
 
-ghost use Rattle.basics.specs.Core.{◌≡◌, ◌+◌};
+ghost use Rattle.std.specs.Prelude.{◌≡◌, ◌+◌};
 ghost use Rattle.basics.specs.Writing.{Written};
 ghost use Rattle.model.specs.Instance.{table_bytes, load_bytes, card_bytes};
 ghost use Rattle.model.specs.Practice.{draw, drawn, practice_show};

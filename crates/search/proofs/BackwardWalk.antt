@@ -1,5 +1,6 @@
 -- Backward through the slots: the loop.
-use Rattle.basics.specs.Core.{ℕ, suc, ◌+◌, ◌-◌, ◌≤◌, ◌<◌, ◌≡◌, sym, ◌∙◌, List, arith, length, get_or, set}
+use Rattle.std.specs.Prelude.{ℕ, suc, ◌+◌, ◌-◌, ◌≤◌, ◌<◌, ◌≡◌, List, length, get_or, set}
+use Rattle.basics.specs.Core.{sym, ◌∙◌, arith}
 use Rattle.basics.specs.Filling.{Downto, downto_none, downto_more, downto_all}
 use Rattle.thresholds.specs.Thresholds.{raised_place, raised_at, in_slot, backward}
 use Rattle.thresholds.specs.ThresholdLaws.{raised_inside, raised_step, raised_end}

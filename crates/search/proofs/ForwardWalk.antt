@@ -1,5 +1,6 @@
 -- Forward through the slots: the loop, and what it hands to each slot.
-use Rattle.basics.specs.Core.{ℕ, ◌+◌, ◌-◌, ◌≤◌, ◌<◌, ◌≡◌, refl, sym, ap, ◌∙◌, List, ⊎_elim, mul-le-mul_left, le_trans, add-one, arith, length, set}
+use Rattle.std.specs.Prelude.{ℕ, ◌+◌, ◌-◌, ◌≤◌, ◌<◌, ◌≡◌, refl, List, length, set}
+use Rattle.basics.specs.Core.{sym, ap, ◌∙◌, ⊎_elim, mul-le-mul_left, le_trans, add-one, arith}
 use Rattle.basics.specs.Numbers.{le_or_lt}
 use Rattle.basics.specs.Lists.{tabulate}
 use Rattle.basics.specs.Filling.{Upto, upto_none, upto_more, upto_all}

@@ -1,6 +1,7 @@
 -- Levels of an accepted card's list of allowed counts, and what they cost.
-use Rattle.basics.specs.Core.{ℕ, ◌+◌, ◌-◌, ◌*◌, ◌≤◌, ◌<◌, ◌≡◌, ap, true, false, List, ⊎_elim, mul-le-mul, mul-le-mul_right, mul-zero, sub-le}
-use Rattle.basics.specs.Core.{le_trans, le_of_lt, arith, length, get_or-eq_default, le-leb, lt-leb}
+use Rattle.std.specs.Prelude.{ℕ, ◌+◌, ◌-◌, ◌*◌, ◌≤◌, ◌<◌, ◌≡◌, true, false, List, length}
+use Rattle.basics.specs.Core.{ap, ⊎_elim, mul-le-mul, mul-le-mul_right, mul-zero, sub-le}
+use Rattle.basics.specs.Core.{le_trans, le_of_lt, arith, get_or-eq_default, le-leb, lt-leb}
 use Rattle.basics.specs.Numbers.{le_or_lt}
 use Rattle.model.specs.Instance.{instance_of}
 use Rattle.model.specs.Counts.{can_serve}

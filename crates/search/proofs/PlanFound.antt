@@ -1,5 +1,6 @@
 -- The places found become counts, and these are the plan by thresholds.
-use Rattle.basics.specs.Core.{ℕ, ◌+◌, ◌≤◌, ◌<◌, ◌≡◌, refl, ap, ◌∙◌, List, ◌++◌, arith, length-take-le, length, get_or, set, take, drop, replicate}
+use Rattle.std.specs.Prelude.{ℕ, ◌+◌, ◌≤◌, ◌<◌, ◌≡◌, refl, List, ◌++◌, length, get_or, set, take, drop, replicate}
+use Rattle.basics.specs.Core.{ap, ◌∙◌, arith, length-take-le}
 use Rattle.basics.specs.Core.{length-append, length-drop, length-replicate}
 use Rattle.basics.specs.Lists.{tabulate, zeros_at}
 use Rattle.basics.specs.Filling.{Upto, upto_more, upto_all}

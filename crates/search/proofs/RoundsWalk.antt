@@ -1,5 +1,6 @@
 -- The rounds: the loop over the digits, what it hands to the two walks, and that the places stay in the list.
-use Rattle.basics.specs.Core.{ℕ, zero, suc, ◌+◌, ◌-◌, ◌^◌, ◌≤◌, ◌<◌, ◌≡◌, refl, ap, ◌∙◌, List, le_of_lt, arith, length}
+use Rattle.std.specs.Prelude.{ℕ, zero, suc, ◌+◌, ◌-◌, ◌^◌, ◌≤◌, ◌<◌, ◌≡◌, refl, List, length}
+use Rattle.basics.specs.Core.{ap, ◌∙◌, le_of_lt, arith}
 use lib.Pow.{pow_mono, pow_pos}
 use Rattle.model.specs.Instance.{Instance, instance_of}
 use Rattle.card.specs.declared.Header.{Header}

@@ -1,5 +1,6 @@
 -- Verdicts and places as the code makes them from tests that are 0 or 1.
-use Rattle.basics.specs.Core.{ℕ, ◌+◌, ◌-◌, ◌≤◌, ◌<◌, min, ◌≡◌, refl, le-leb, lt-leb}
+use Rattle.std.specs.Prelude.{ℕ, ◌+◌, ◌-◌, ◌≤◌, ◌<◌, min, ◌≡◌, refl}
+use Rattle.basics.specs.Core.{le-leb, lt-leb}
 use Rattle.thresholds.specs.Thresholds.{is_less, weighed, raised_place}
 
 -- A verdict by its parts: the test on each side, and the truncated difference up to the price.

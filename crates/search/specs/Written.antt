@@ -1,5 +1,5 @@
 -- What the functions of the search return and write.
-use Rattle.basics.specs.Core.{ℕ, List, length}
+use Rattle.std.specs.Prelude.{ℕ, List, length}
 use Rattle.basics.specs.Lists.{tabulate}
 use Rattle.thresholds.specs.Places.{count_at_place}
 use Rattle.thresholds.specs.Thresholds.{Verdict, in_slot}

@@ -2,7 +2,7 @@
 // digit of the places. A place is an index of the list, and level j lies between place j and place j + 1.
 #![tactic(auto)]
 
-ghost use Rattle.basics.specs.Core.{◌-◌, min, ◌≡◌, length, replicate};
+ghost use Rattle.std.specs.Prelude.{◌-◌, min, ◌≡◌, length, replicate};
 ghost use Rattle.model.specs.Instance.{instance_of};
 ghost use Rattle.counts.specs.AllowedCounts.{powers_up_to};
 ghost use Rattle.thresholds.specs.Places.{last_place};

@@ -1,5 +1,5 @@
 -- What a scan of the list of seats tells, and the list whose first records are emptied.
-use Rattle.basics.specs.Core.{ℕ, List, ◌++◌, length, get_or, take, drop, replicate}
+use Rattle.std.specs.Prelude.{ℕ, List, ◌++◌, length, get_or, take, drop, replicate}
 use Rattle.basics.specs.FirstPlace.{first_place}
 use Rattle.model.specs.declared.Seat.{Seat}
 use Rattle.model.specs.SittingState.{seats_of, is_of, empty_seat}

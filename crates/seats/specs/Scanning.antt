@@ -1,6 +1,7 @@
 -- One step of a scan and one of emptying, with the laws that take the loops from their start to their end: `view_end`, `empty_next`.
-use Rattle.basics.specs.Core.{ℕ, zero, suc, ◌+◌, ◌≤◌, ◌<◌, min, ◌≡◌, refl, sym, ap, ◌∙◌, ⊎_elim, Bool, true, false, cond, true≢false, List, [], ◌∷◌}
-use Rattle.basics.specs.Core.{length, get_or, take, set, replicate, length-take, length-replicate, get_or-eq_default, length_front, get_or-take}
+use Rattle.std.specs.Prelude.{ℕ, zero, suc, ◌+◌, ◌≤◌, ◌<◌, min, ◌≡◌, refl, Bool, true, false, cond, List, [], ◌∷◌, length, get_or, take, set, replicate}
+use Rattle.basics.specs.Core.{sym, ap, ◌∙◌, ⊎_elim, true≢false}
+use Rattle.basics.specs.Core.{length-take, length-replicate, get_or-eq_default, length_front, get_or-take}
 use Rattle.basics.specs.Core.{zero-min, min-zero, suc-min-suc, min-le_left, min-le_right, le_refl, not-suc-le-zero, le_of_suc-le-suc, add-one, arith}
 use Rattle.basics.specs.Numbers.{true_or_false}
 use Rattle.basics.specs.FirstPlace.{occurs, first_place, place_inside, place_beyond}

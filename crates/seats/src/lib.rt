@@ -1,7 +1,7 @@
 // The list of seats of a sitting (document 02, §4), as it is lent: found in, changed at one place, and emptied.
 #![tactic(auto)]
 
-ghost use Rattle.basics.specs.Core.{◌≡◌, ◌<◌, min, set};
+ghost use Rattle.std.specs.Prelude.{◌≡◌, ◌<◌, min, set};
 ghost use Rattle.model.specs.SittingState.{empty_seat};
 ghost use Rattle.seats.specs.Scanned.{scanned, emptied};
 ghost use Rattle.seats.specs.Scanning.{start_of, look_of};

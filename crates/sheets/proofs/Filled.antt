@@ -1,5 +1,6 @@
 -- A sheet buffer of which the first t slots are filled.
-use Rattle.basics.specs.Core.{ℕ, ◌+◌, ◌-◌, ◌*◌, ◌≤◌, ◌<◌, ◌≡◌, ap, ◌∙◌, List, ◌++◌, mul-le-mul_left, zero-mul, arith, length, get_or, drop}
+use Rattle.std.specs.Prelude.{ℕ, ◌+◌, ◌-◌, ◌*◌, ◌≤◌, ◌<◌, ◌≡◌, List, ◌++◌, length, get_or, drop}
+use Rattle.basics.specs.Core.{ap, ◌∙◌, mul-le-mul_left, zero-mul, arith}
 use borrow.Rule.Slice.PartMut.{mid_of, put_mid}
 use Rattle.basics.specs.Lists.{tabulate, rows, written_over, length_rows}
 use Rattle.basics.specs.Parts.{part_length}

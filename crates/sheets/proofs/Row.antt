@@ -1,6 +1,7 @@
 -- A slot's row, filled in three parts.
-use Rattle.basics.specs.Core.{ℕ, ◌-◌, ◌+◌, ◌/◌, ◌%◌, ◌≤◌, ◌<◌, ◌≡◌, refl, sym, ap, ◌∙◌, Bool, true, false, cond, List, ◌++◌, arith, length, take}
-use Rattle.basics.specs.Core.{drop, replicate, ltb, lt-ltb, le-ltb}
+use Rattle.std.specs.Prelude.{ℕ, ◌-◌, ◌+◌, ◌/◌, ◌%◌, ◌≤◌, ◌<◌, ◌≡◌, refl, Bool, true, false, cond, List, ◌++◌, length, take, drop, replicate, ltb}
+use Rattle.basics.specs.Core.{sym, ap, ◌∙◌, arith}
+use Rattle.basics.specs.Core.{lt-ltb, le-ltb}
 use mir.Syntax.{w8}
 use mir.Val.{Fits}
 use borrow.Rule.Slice.PartMut.{mid_of, put_mid}

@@ -1,5 +1,6 @@
 -- Where the row of a slot lies in a sheet, and that it has room for the slot's count.
-use Rattle.basics.specs.Core.{ℕ, ◌+◌, ◌-◌, ◌*◌, ◌≤◌, ◌<◌, ◌≡◌, List, arith, length, get_or}
+use Rattle.std.specs.Prelude.{ℕ, ◌+◌, ◌-◌, ◌*◌, ◌≤◌, ◌<◌, ◌≡◌, List, length, get_or}
+use Rattle.basics.specs.Core.{arith}
 use borrow.Rule.Slice.PartMut.{mid_of}
 use Rattle.basics.specs.Parts.{part_length}
 use Rattle.basics.specs.Rows.{row_within}

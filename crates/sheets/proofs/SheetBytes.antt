@@ -1,6 +1,7 @@
 -- A sheet's byte: whether it is an entry, its step and its cost.
-use Rattle.basics.specs.Core.{ℕ, ◌+◌, ◌*◌, ◌≤◌, ◌<◌, ◌≡◌, ◌∙◌, Bool, true, false, cond, not, or-true, or-false, List, ⊎_elim, mul-le-mul, arith}
-use Rattle.basics.specs.Core.{length, get_or, leb, leb-true, eq-eqb, ne_eqb, eqb-false}
+use Rattle.std.specs.Prelude.{ℕ, ◌+◌, ◌*◌, ◌≤◌, ◌<◌, ◌≡◌, Bool, true, false, cond, not, List, length, get_or, leb}
+use Rattle.basics.specs.Core.{◌∙◌, or-true, or-false, ⊎_elim, mul-le-mul, arith}
+use Rattle.basics.specs.Core.{leb-true, eq-eqb, ne_eqb, eqb-false}
 use mir.Syntax.{w8}
 use mir.Val.{Fits}
 use Rattle.basics.specs.Numbers.{true_or_false}

@@ -1,5 +1,6 @@
 -- A sheet's bytes in rows of m: the first row, and the rows but the first beside the rows but the last.
-use Rattle.basics.specs.Core.{ℕ, ◌+◌, ◌-◌, ◌<◌, ◌≡◌, ap, ◌∙◌, List, le_refl, add-sub_cancel_left, arith, length, get_or, take, length-take-le}
+use Rattle.std.specs.Prelude.{ℕ, ◌+◌, ◌-◌, ◌<◌, ◌≡◌, List, length, get_or, take}
+use Rattle.basics.specs.Core.{ap, ◌∙◌, le_refl, add-sub_cancel_left, arith, length-take-le}
 use Rattle.basics.specs.Core.{get_or-take, lt-ltb, le-ltb}
 use borrow.Rule.Slice.PartMut.{mid_of, mid_len}
 use Rattle.basics.specs.Sums.{sum, sum_ext, sum_join}

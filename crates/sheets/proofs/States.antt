@@ -1,5 +1,6 @@
 -- The bytes of a sheet of m × T bytes are its states, slot by slot and module by module.
-use Rattle.basics.specs.Core.{ℕ, zero, suc, ◌+◌, ◌-◌, ◌*◌, ◌≤◌, ◌<◌, ◌≡◌, ap, sym, ◌∙◌, true, false, cond, List, arith, length, get_or, leb, ltb}
+use Rattle.std.specs.Prelude.{ℕ, zero, suc, ◌+◌, ◌-◌, ◌*◌, ◌≤◌, ◌<◌, ◌≡◌, true, false, cond, List, length, get_or, leb, ltb}
+use Rattle.basics.specs.Core.{ap, sym, ◌∙◌, arith}
 use Rattle.basics.specs.Core.{lt-ltb, le-ltb, le-leb, lt-leb}
 use lib.Arith.{digits_lt}
 use borrow.Rule.Slice.PartMut.{mid_of}

@@ -1,6 +1,7 @@
 -- The cost of a sheet is that of its bytes and of the changes to off after its last slot.
-use Rattle.basics.specs.Core.{ℕ, suc, ◌+◌, ◌-◌, ◌*◌, ◌≤◌, ◌<◌, ◌≡◌, refl, ap, ap₂, sym, ◌∙◌, List, le_refl, zero-add, mul_comm, mul-zero, add-one}
-use Rattle.basics.specs.Core.{arith, length, get_or, take, get_or-take, le-ltb}
+use Rattle.std.specs.Prelude.{ℕ, suc, ◌+◌, ◌-◌, ◌*◌, ◌≤◌, ◌<◌, ◌≡◌, refl, List, length, get_or, take}
+use Rattle.basics.specs.Core.{ap, ap₂, sym, ◌∙◌, le_refl, zero-add, mul_comm, mul-zero, add-one}
+use Rattle.basics.specs.Core.{arith, get_or-take, le-ltb}
 use mir.Syntax.{w64}
 use mir.Val.{Fits}
 use Rattle.basics.specs.Sums.{sum, sum_ext, sum_add, sum_const, sum_at_most, sum_blocks}

@@ -1,5 +1,5 @@
 -- What the functions of this crate give where the model's definitions take a whole card or sheet.
-use Rattle.basics.specs.Core.{ℕ, ◌+◌, cond, List, length, get_or, ltb}
+use Rattle.std.specs.Prelude.{ℕ, ◌+◌, cond, List, length, get_or, ltb}
 use Rattle.basics.specs.Sums.{sum}
 use Rattle.model.specs.Instance.{Instance}
 use Rattle.model.specs.Sheets.{off, is_off, step_of, step_cost, change_cost}

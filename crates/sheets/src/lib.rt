@@ -1,7 +1,7 @@
 // The sheet of a plan, and the marking of a sheet that is handed in.
 #![tactic(auto)]
 
-ghost use Rattle.basics.specs.Core.{◌≤◌, ◌≡◌, length};
+ghost use Rattle.std.specs.Prelude.{◌≤◌, ◌≡◌, length};
 ghost use Rattle.basics.specs.Lists.{tabulate, written_over};
 ghost use Rattle.model.specs.Instance.{instance_of};
 ghost use Rattle.model.specs.Sheets.{is_entry, step_of, sheet_entries, sheet_light, sheet_cost};

@@ -1,5 +1,6 @@
 -- The lowest cost of a seat: marking a sheet, and reading it.
-use Rattle.basics.specs.Core.{ℕ, ◌≤◌, ◌<◌, min, ◌≡◌, ◌∙◌, option_get_or, option_elim, arith, eq-eqb, ne_eqb}
+use Rattle.std.specs.Prelude.{ℕ, ◌≤◌, ◌<◌, min, ◌≡◌}
+use Rattle.basics.specs.Core.{◌∙◌, option_get_or, option_elim, arith, eq-eqb, ne_eqb}
 use Rattle.model.specs.declared.Refusal.{Refusal}
 use Rattle.model.specs.declared.Answer.TheVariants.{Cost, Refused}
 use Rattle.model.specs.declared.Seat.{Seat}

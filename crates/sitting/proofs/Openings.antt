@@ -1,5 +1,6 @@
 -- Opening: its answer, by its tests, its buffers at exit, and its reply.
-use Rattle.basics.specs.Core.{ℕ, ◌≡◌, refl, sym, ap, ◌∙◌, Bool, true, false, List, [], length, eq-eqb, ne_eqb}
+use Rattle.std.specs.Prelude.{ℕ, ◌≡◌, refl, Bool, true, false, List, [], length}
+use Rattle.basics.specs.Core.{sym, ap, ◌∙◌, eq-eqb, ne_eqb}
 use Rattle.model.specs.declared.Refusal.{Refusal}
 use Rattle.model.specs.declared.Refusal.TheVariants.{BufferTooShort, NotPermitted, AllowanceSpent}
 use Rattle.model.specs.declared.Answer.{Answer}

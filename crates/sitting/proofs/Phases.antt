@@ -1,5 +1,6 @@
 -- The tests on the number that stands for a sitting's phase, and on its allowance.
-use Rattle.basics.specs.Core.{ℕ, ◌<◌, ◌≤◌, ◌≡◌, refl, Bool, true, false, cond, not, ⊎_elim, eqb, leb, eqb-true, ne_eqb, le-leb, lt-leb}
+use Rattle.std.specs.Prelude.{ℕ, ◌<◌, ◌≤◌, ◌≡◌, refl, Bool, true, false, cond, not, eqb, leb}
+use Rattle.basics.specs.Core.{⊎_elim, eqb-true, ne_eqb, le-leb, lt-leb}
 use Rattle.basics.specs.Numbers.{true_or_false}
 use Rattle.model.specs.Acts.{opened, closed, unopened, is_opened, is_closed, is_unopened, allowance_in_range}
 use Rattle.model.specs.SittingState.{phase_of}

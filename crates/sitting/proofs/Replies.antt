@@ -1,5 +1,6 @@
 -- What an act that is on no card replies and does, by its answer.
-use Rattle.basics.specs.Core.{ℕ, ◌≡◌, sym, ◌∙◌, []}
+use Rattle.std.specs.Prelude.{ℕ, ◌≡◌, []}
+use Rattle.basics.specs.Core.{sym, ◌∙◌}
 use Rattle.model.specs.declared.Refusal.{Refusal}
 use Rattle.model.specs.declared.Answer.{Answer}
 use Rattle.model.specs.declared.Answer.TheVariants.{Cost, Refused}

@@ -1,5 +1,6 @@
 -- The answer to a submission, by its tests, and what a submission does, by its answer.
-use Rattle.basics.specs.Core.{ℕ, ◌+◌, ◌≡◌, refl, sym, ap, ◌∙◌, true, false, List, [], ◌∷◌, ⊎_elim}
+use Rattle.std.specs.Prelude.{ℕ, ◌+◌, ◌≡◌, refl, true, false, List, [], ◌∷◌}
+use Rattle.basics.specs.Core.{sym, ap, ◌∙◌, ⊎_elim}
 use Rattle.model.specs.declared.Refusal.{Refusal}
 use Rattle.model.specs.declared.Answer.{Answer}
 use Rattle.model.specs.declared.Answer.TheVariants.{Cost, Refused}

@@ -1,6 +1,7 @@
 -- What an act makes of a view of the list is what it makes of the list: `seating_acts`, `submission_acts`, `least_shown`, `lowest_shown`.
-use Rattle.basics.specs.Core.{ℕ, ◌≡◌, refl, sym, ap, ◌∙◌, Bool, true, not, List, ◌++◌, map, length, get_or, set, take-append-drop, get_or-map}
-use Rattle.basics.specs.Core.{le_refl, set-append_left, set_out, eqb, not-false}
+use Rattle.std.specs.Prelude.{ℕ, ◌≡◌, refl, Bool, true, not, List, ◌++◌, map, length, get_or, set, eqb}
+use Rattle.basics.specs.Core.{sym, ap, ◌∙◌, take-append-drop, get_or-map}
+use Rattle.basics.specs.Core.{le_refl, set-append_left, set_out, not-false}
 use Rattle.basics.specs.Tests.{or_right}
 use Rattle.basics.specs.FirstPlace.{occurs, first_place, change_first, occurs_place, place_inside, change_sets, occurs_map, place_map}
 use Rattle.model.specs.declared.Answer.{Answer}

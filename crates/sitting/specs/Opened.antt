@@ -1,5 +1,6 @@
 -- What an opening does, decided without the list of seats, is what it does with the list: `opening_reply`, `opening_seats`.
-use Rattle.basics.specs.Core.{ℕ, ◌≡◌, refl, sym, ap, List, [], ◌∷◌, ◌++◌, map, length, replicate}
+use Rattle.std.specs.Prelude.{ℕ, ◌≡◌, refl, List, [], ◌∷◌, ◌++◌, map, length, replicate}
+use Rattle.basics.specs.Core.{sym, ap}
 use Rattle.model.specs.declared.Answer.{Answer}
 use Rattle.model.specs.declared.Answer.TheVariants.{Cost, Refused}
 use Rattle.model.specs.declared.Seat.{Seat}

@@ -1,5 +1,5 @@
 -- What an act makes of a view of the list of seats.
-use Rattle.basics.specs.Core.{ℕ, ◌≡◌, Bool, not, ◌||◌, [], ltb, eqb}
+use Rattle.std.specs.Prelude.{ℕ, ◌≡◌, Bool, not, ◌||◌, [], ltb, eqb}
 use Rattle.model.specs.declared.Refusal.{Refusal}
 use Rattle.model.specs.declared.Answer.{Answer}
 use Rattle.model.specs.declared.Answer.TheVariants.{Cost, Refused}

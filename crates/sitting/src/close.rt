@@ -1,5 +1,5 @@
 // Closing a sitting: refusal 15.
-ghost use Rattle.basics.specs.Core.{◌≡◌, []};
+ghost use Rattle.std.specs.Prelude.{◌≡◌, []};
 ghost use Rattle.model.specs.Acts.{close_sitting};
 ghost use Rattle.model.specs.SittingState.{facts_of, state_of};
 ghost use Rattle.model.specs.Sittings.{answer_to, reply_of};

@@ -3,7 +3,7 @@
 // stands for open and 2 for closed.
 #![tactic(auto)]
 
-ghost use Rattle.basics.specs.Core.{◌≡◌};
+ghost use Rattle.std.specs.Prelude.{◌≡◌};
 ghost use Rattle.model.specs.Acts.{is_unopened};
 ghost use Rattle.model.specs.SittingState.{phase_of};
 ghost use Rattle.sitting.specs.Seen.{reply_giving, unchanged_of};

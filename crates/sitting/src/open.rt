@@ -1,5 +1,5 @@
 // Opening a sitting: refusals 1 to 8, 10, 15 and 17, and then as the exact planner.
-ghost use Rattle.basics.specs.Core.{◌≡◌, []};
+ghost use Rattle.std.specs.Prelude.{◌≡◌, []};
 ghost use Rattle.model.specs.Acts.{open_sitting, allowance_in_range};
 ghost use Rattle.model.specs.Calls.{act_in, answer, plan_at_exit, work_at_exit};
 ghost use Rattle.card.specs.Checking.{Ready};

@@ -1,5 +1,5 @@
 // Reading the least cost, a lowest cost and the submissions used: refusals 15 and 16.
-ghost use Rattle.basics.specs.Core.{◌≡◌, []};
+ghost use Rattle.std.specs.Prelude.{◌≡◌, []};
 ghost use Rattle.model.specs.Acts.{read_least, read_lowest, read_used, reads_lowest};
 ghost use Rattle.model.specs.SittingState.{facts_of, state_of};
 ghost use Rattle.model.specs.Sittings.{answer_to, reply_of};

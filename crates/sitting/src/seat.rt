@@ -1,5 +1,5 @@
 // Seating a candidate: refusals 15 and 16.
-ghost use Rattle.basics.specs.Core.{◌≡◌};
+ghost use Rattle.std.specs.Prelude.{◌≡◌};
 ghost use Rattle.model.specs.Acts.{seat_candidate};
 ghost use Rattle.model.specs.Sittings.{answer_to};
 ghost use Rattle.sitting.specs.Seen.{seen, outcome_of};

@@ -1,5 +1,5 @@
 // Submitting a sheet: refusals 1 to 8, 15 to 17, and then as marking.
-ghost use Rattle.basics.specs.Core.{◌≡◌};
+ghost use Rattle.std.specs.Prelude.{◌≡◌};
 ghost use Rattle.model.specs.Acts.{submit_sheet};
 ghost use Rattle.model.specs.SittingState.{marked_record};
 ghost use Rattle.card.specs.Checking.{Ready};

@@ -1,7 +1,8 @@
 -- Shows that agree in table and prices (document 02, §3): a slot with the same count and load costs the same in both. So a plan costs the
 -- same on a larger rack, and a plan of one show followed by a plan of another costs at most as much as the two.
-use Rattle.basics.specs.Core.{ℕ, zero, suc, ◌+◌, ◌-◌, ◌*◌, ◌/◌, ◌%◌, ◌≤◌, ◌<◌, ◌≡◌, refl, sym, ap, ap₂, ◌∙◌, true, ⊎_elim, List, ◌++◌, add-suc}
-use Rattle.basics.specs.Core.{le_trans, le_dest, mul-le-mul_left, mul-le-mul_right, div-le_of_le-mul, eq-zero-or-pos, arith, length, get_or}
+use Rattle.std.specs.Prelude.{ℕ, zero, suc, ◌+◌, ◌-◌, ◌*◌, ◌/◌, ◌%◌, ◌≤◌, ◌<◌, ◌≡◌, refl, true, List, ◌++◌, length, get_or}
+use Rattle.basics.specs.Core.{sym, ap, ap₂, ◌∙◌, ⊎_elim, add-suc}
+use Rattle.basics.specs.Core.{le_trans, le_dest, mul-le-mul_left, mul-le-mul_right, div-le_of_le-mul, eq-zero-or-pos, arith}
 use Rattle.basics.specs.Core.{length-append, get_or-append, get_or-append-add, leb-true}
 use Rattle.basics.specs.Numbers.{le_or_lt}
 use Rattle.basics.specs.Division.{quotient_lt}

@@ -1,6 +1,7 @@
 -- The hypotheses of the theorems can be met: they hold of document 01's example E, of a show whose table falls, of an accepted card, of the
 -- whole sitting of the examples, and of card A with the catalogue module's table.
-use Rattle.basics.specs.Core.{ℕ, ◌*◌, ◌≤◌, ◌≡◌, refl, true, false, List, [], ◌∷◌, ◌++◌, option_elim, arith, leb, lit<, get_or, take, drop, replicate}
+use Rattle.std.specs.Prelude.{ℕ, ◌*◌, ◌≤◌, ◌≡◌, refl, true, false, List, [], ◌∷◌, ◌++◌, leb, get_or, take, drop, replicate}
+use Rattle.basics.specs.Core.{option_elim, arith, lit<}
 use Rattle.basics.specs.Core.{leb-true}
 use Rattle.basics.specs.Tests.{every, every_at}
 use Rattle.basics.specs.Lists.{tabulate}

@@ -1,6 +1,7 @@
 -- The operating cost never falls with more light, since G never falls: `more_light`, `lighter`. Its average over the modules never rises with their
 -- number: `average_falls`.
-use Rattle.basics.specs.Core.{ℕ, zero, suc, ◌+◌, ◌-◌, ◌*◌, ◌/◌, ◌%◌, ◌≤◌, ◌<◌, ◌≡◌, ap, ⊎_elim, mul-le-mul, mul-le-mul_left, mul-le-mul_right}
+use Rattle.std.specs.Prelude.{ℕ, zero, suc, ◌+◌, ◌-◌, ◌*◌, ◌/◌, ◌%◌, ◌≤◌, ◌<◌, ◌≡◌}
+use Rattle.basics.specs.Core.{ap, ⊎_elim, mul-le-mul, mul-le-mul_left, mul-le-mul_right}
 use Rattle.basics.specs.Core.{lt_of_mul-lt-mul_left, le_of_mul-le-mul_left, add-zero, sub-zero, mod-lt, div-add-mod, mul-add-div, div-eq_of_lt}
 use Rattle.basics.specs.Core.{mul-add-mod_self_left, mod-eq_of_lt, arith}
 use Rattle.basics.specs.Numbers.{le_or_lt}

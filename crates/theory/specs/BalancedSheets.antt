@@ -1,6 +1,7 @@
 -- The balanced sheet on a sheet's own active modules (document 02, §7): it serves, with the same modules active in the same slots, and costs
 -- just as much to operate as the sheet's counts.
-use Rattle.basics.specs.Core.{ℕ, zero, suc, ◌+◌, ◌*◌, ◌≤◌, ◌<◌, ◌≡◌, refl, ap, ◌∙◌, Bool, true, false, cond, or-true, List, ⊎_elim, leb, add-zero}
+use Rattle.std.specs.Prelude.{ℕ, zero, suc, ◌+◌, ◌*◌, ◌≤◌, ◌<◌, ◌≡◌, refl, Bool, true, false, cond, List, leb}
+use Rattle.basics.specs.Core.{ap, ◌∙◌, or-true, ⊎_elim, add-zero}
 use Rattle.basics.specs.Core.{le_refl, le_dest, add-one, arith}
 use Rattle.basics.specs.Numbers.{true_or_false}
 use Rattle.basics.specs.Sums.{sum, sum_ext, sum_join}

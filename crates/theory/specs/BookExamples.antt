@@ -1,6 +1,7 @@
 -- The worked examples of facts 1 to 5 of docs/COURSE-BOOK.md, on cards that meet the hypotheses of these facts: `book_examples`; and that sharper
 -- forms of the facts fail, as `coarse_sometimes_dearer`.
-use Rattle.basics.specs.Core.{ℕ, ◌≤◌, ◌≡◌, refl, sym, ap, ap₂, ◌∙◌, true, List, [], ◌∷◌, ◌++◌, flat_map, reverse, arith}
+use Rattle.std.specs.Prelude.{ℕ, ◌≤◌, ◌≡◌, refl, true, List, [], ◌∷◌, ◌++◌, reverse}
+use Rattle.basics.specs.Core.{sym, ap, ap₂, ◌∙◌, flat_map, arith}
 use Rattle.basics.specs.Tests.{every}
 use Rattle.basics.specs.Sums.{sum}
 use Rattle.basics.specs.Ranges.{least_over, first_over}

@@ -1,5 +1,6 @@
 -- The best of several places, a place at a time from the last one down.
-use Rattle.basics.specs.Core.{ℕ, ◌≤◌, ◌<◌, ◌≡◌, refl, ap, Bool, true, false, cond, ⊎_elim, arith, leb, leb-true, leb-false}
+use Rattle.std.specs.Prelude.{ℕ, ◌≤◌, ◌<◌, ◌≡◌, refl, Bool, true, false, cond, leb}
+use Rattle.basics.specs.Core.{ap, ⊎_elim, arith, leb-true, leb-false}
 use Rattle.basics.specs.Numbers.{le_or_lt}
 use Rattle.theory.specs.Columns.{Choice, cheaper}
 

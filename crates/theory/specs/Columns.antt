@@ -1,7 +1,7 @@
 -- The dynamic program over a list of allowed counts (thesis 4.2, 5.1), slot by slot. A place is an index of the list; a column gives each place j
 -- the least cost of serving the slots so far and then holding the count at j. The proofs of this crate use columns. No code computes them, and no
 -- definition of `model` and no contract cites them.
-use Rattle.basics.specs.Core.{ℕ, zero, suc, ◌+◌, ◌-◌, ◌*◌, cond, List, [], ◌∷◌, ◌++◌, leb}
+use Rattle.std.specs.Prelude.{ℕ, zero, suc, ◌+◌, ◌-◌, ◌*◌, cond, List, [], ◌∷◌, ◌++◌, leb}
 use Rattle.basics.specs.Backwards.{back_to}
 use Rattle.model.specs.Instance.{Instance}
 use Rattle.model.specs.Counts.{can_serve, operating_cost}

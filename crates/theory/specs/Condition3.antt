@@ -3,7 +3,8 @@
 -- rules it is `planner_bound`. The sheets are those with enough light (02 §2). The sheet of the least plan serves at the plan's cost,
 -- `least_sheet`; the plan found digit by digit is the least plan, `threshold_plan_lem`; and an accepted card meets the hypotheses,
 -- `accepted_plannable`.
-use Rattle.basics.specs.Core.{ℕ, ◌*◌, ◌^◌, ◌≤◌, ◌<◌, ◌≡◌, refl, sym, ap, ◌∙◌, true, List, mul-le-mul_left, arith}
+use Rattle.std.specs.Prelude.{ℕ, ◌*◌, ◌^◌, ◌≤◌, ◌<◌, ◌≡◌, refl, true, List}
+use Rattle.basics.specs.Core.{sym, ap, ◌∙◌, mul-le-mul_left, arith}
 use Rattle.model.specs.Instance.{Instance, instance_of}
 use Rattle.model.specs.Counts.{all_counts, coarse_counts}
 use Rattle.model.specs.Sheets.{serves, sheet_cost, counts_of}

@@ -1,6 +1,7 @@
 -- Columns are convex, `column_bends`. So the verdict of a slot on a level, with the column's difference there for the right lead, is right about
 -- the searched plan: `judged_at`, `next_slope`.
-use Rattle.basics.specs.Core.{ℕ, zero, suc, ◌+◌, ◌-◌, ◌*◌, ◌≤◌, ◌<◌, min, ◌≡◌, ⊎_elim, List, le_of_lt, mul-le-mul_left, arith, length}
+use Rattle.std.specs.Prelude.{ℕ, zero, suc, ◌+◌, ◌-◌, ◌*◌, ◌≤◌, ◌<◌, min, ◌≡◌, List, length}
+use Rattle.basics.specs.Core.{⊎_elim, le_of_lt, mul-le-mul_left, arith}
 use Rattle.basics.specs.Numbers.{le_or_lt}
 use Rattle.basics.specs.Backwards.{back_step, back_all}
 use Rattle.model.specs.Instance.{Instance}

@@ -1,5 +1,6 @@
 -- Three values in convex position, numbers only: the middle one is at most the straight line between its neighbours.
-use Rattle.basics.specs.Core.{ℕ, ◌+◌, ◌-◌, ◌*◌, ◌≤◌, ◌<◌, min, ◌≡◌, ap, ⊎_elim, eq-zero-or-pos, le_of_lt, lt_of_not-le, mul-le-mul_left, min-eq_left}
+use Rattle.std.specs.Prelude.{ℕ, ◌+◌, ◌-◌, ◌*◌, ◌≤◌, ◌<◌, min, ◌≡◌}
+use Rattle.basics.specs.Core.{ap, ⊎_elim, eq-zero-or-pos, le_of_lt, lt_of_not-le, mul-le-mul_left, min-eq_left}
 use Rattle.basics.specs.Core.{min-eq_right, min-le_left, min-le_right, arith}
 use Rattle.basics.specs.Numbers.{le_or_lt}
 

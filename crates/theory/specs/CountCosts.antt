@@ -1,6 +1,7 @@
 -- What the counts of a plan cost (thesis 3.9 to 3.13): their operating cost, and both prices for each rise. From 0 before the first slot to 0
 -- after the last the counts rise as much as they fall.
-use Rattle.basics.specs.Core.{ℕ, suc, ◌+◌, ◌-◌, ◌*◌, ◌≡◌, refl, sym, ap, ◌∙◌, List, add-one, arith, length, get_or-eq_default}
+use Rattle.std.specs.Prelude.{ℕ, suc, ◌+◌, ◌-◌, ◌*◌, ◌≡◌, refl, List, length}
+use Rattle.basics.specs.Core.{sym, ap, ◌∙◌, add-one, arith, get_or-eq_default}
 use Rattle.basics.specs.Sums.{sum, sum_add, sum_scale, sum_balance}
 use Rattle.model.specs.Instance.{Instance}
 use Rattle.model.specs.Counts.{operating_cost}

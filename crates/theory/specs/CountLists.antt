@@ -1,8 +1,9 @@
 -- The rules for a list of allowed counts and its ratio (document 02, §8) as propositions, `InRules`: that the test `keeps_rules` decides them within
 -- its bounds, `rules_hold`, `rules_kept`; what they say of every list, `rules_grow`; and that the counts allowed a planner keep them with its
 -- ratio, if a list that it is handed passes the test, `planner_rules`.
-use Rattle.basics.specs.Core.{ℕ, zero, suc, ◌+◌, ◌-◌, ◌*◌, ◌^◌, ◌≤◌, ◌<◌, ◌≡◌, refl, ap, true, List, ◌⊎◌, inl, inr, ⊎_elim, le_refl, le_trans}
-use Rattle.basics.specs.Core.{mul-le-mul_right, add-one, arith, length, get_or, ltb, leb-true, le-leb, ltb-true, lt-ltb, eqb-true, eq-eqb}
+use Rattle.std.specs.Prelude.{ℕ, zero, suc, ◌+◌, ◌-◌, ◌*◌, ◌^◌, ◌≤◌, ◌<◌, ◌≡◌, refl, true, List, ◌⊎◌, length, get_or, ltb}
+use Rattle.basics.specs.Core.{ap, inl, inr, ⊎_elim, le_refl, le_trans}
+use Rattle.basics.specs.Core.{mul-le-mul_right, add-one, arith, leb-true, le-leb, ltb-true, lt-ltb, eqb-true, eq-eqb}
 use Rattle.basics.specs.Numbers.{le_or_lt}
 use Rattle.basics.specs.Tests.{every_at, every_all, and_left, and_right}
 use Rattle.basics.specs.Lists.{length_tabulate, get_or_tabulate}

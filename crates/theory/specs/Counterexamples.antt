@@ -1,6 +1,7 @@
 -- Shows and cards on which the conclusion of a theorem or of a clause fails without one of its hypotheses, or with a stronger conclusion.
-use Rattle.basics.specs.Core.{ℕ, zero, suc, ◌+◌, ◌*◌, ◌^◌, ◌≤◌, ◌<◌, max, ◌≡◌, refl, true, false, List, [], ◌∷◌, ◌++◌, arith, length, get_or, take, set}
-use Rattle.basics.specs.Core.{leb, lit<, leb-true}
+use Rattle.std.specs.Prelude.{ℕ, zero, suc, ◌+◌, ◌*◌, ◌^◌, ◌≤◌, ◌<◌, max, ◌≡◌, refl, true, false, List, [], ◌∷◌, ◌++◌, length, get_or, take, set, leb}
+use Rattle.basics.specs.Core.{arith}
+use Rattle.basics.specs.Core.{lit<, leb-true}
 use Rattle.basics.specs.Tests.{every, every_at}
 use Rattle.basics.specs.Sums.{sum}
 use Rattle.basics.specs.Ranges.{least_over, first_over}

@@ -2,7 +2,8 @@
 -- joined; and two facts more, that the plan of least cost is the smallest in every slot, and that backwards it is the plan in reverse. What holds
 -- for every list of allowed counts is stated so; on cards it holds for every planner that keeps the rules for the card's rack, as the exact and
 -- the coarse one always do.
-use Rattle.basics.specs.Core.{ℕ, suc, ◌+◌, ◌≤◌, ◌<◌, ◌≡◌, refl, sym, ap, ◌∙◌, true, List, reverse, le_trans, arith, length, get_or, replicate}
+use Rattle.std.specs.Prelude.{ℕ, suc, ◌+◌, ◌≤◌, ◌<◌, ◌≡◌, refl, true, List, reverse, length, get_or, replicate}
+use Rattle.basics.specs.Core.{sym, ap, ◌∙◌, le_trans, arith}
 use Rattle.basics.specs.Core.{length-replicate}
 use Rattle.model.specs.Answers.{number_of, cost_of}
 use Rattle.model.specs.Instance.{Instance, instance_of}

@@ -1,9 +1,10 @@
 -- The function `least_plan`, which gives the first of the cheapest plans in an enumeration of all plans in tie order, gives the least plan,
 -- `least_plan_lem`, and there is only one least plan, `least_plan_unique`.
-use Rattle.basics.specs.Core.{ℕ, zero, suc, ◌+◌, ◌≤◌, ◌<◌, ◌≡◌, refl, sym, ap, ◌∙◌, Bool, true, false, cond, ⊎_elim, List, [], ◌∷◌, ◌++◌, map}
+use Rattle.std.specs.Prelude.{ℕ, zero, suc, ◌+◌, ◌≤◌, ◌<◌, ◌≡◌, refl, Bool, true, false, cond, List, [], ◌∷◌, ◌++◌, map, length, get_or, take, replicate, ltb}
+use Rattle.basics.specs.Core.{sym, ap, ◌∙◌, ⊎_elim}
 use Rattle.basics.specs.Core.{Memᴰ, mem_head, mem_tail, mem_not_nil, mem_cases_cons, mem_eq_of_singleton}
-use Rattle.basics.specs.Core.{mem_cast, mem_map, not-suc-le-zero, arith, length, get_or, take, replicate, length-replicate, get_or-replicate, get_or_at}
-use Rattle.basics.specs.Core.{take_all, take-suc, length-take-le, get_or-take, ltb, ltb-true, ltb-false}
+use Rattle.basics.specs.Core.{mem_cast, mem_map, not-suc-le-zero, arith, length-replicate, get_or-replicate, get_or_at}
+use Rattle.basics.specs.Core.{take_all, take-suc, length-take-le, get_or-take, ltb-true, ltb-false}
 use Rattle.basics.specs.Numbers.{le_or_lt}
 use Rattle.basics.specs.Lists.{keep}
 use Rattle.basics.specs.Members.{InOrder, none, next, member_at, place_of, snoc_before, snoc_length, rising_in_order}

@@ -1,7 +1,8 @@
 -- The explanation of a sheet as a call (document 02, §7): its answer by that of marking, `explains_marked`; what its three numbers promise,
 -- `none_negative`, `above_least`, `zero_exactly`; and what it says of the sheets of plans, `made_explained`, `planner_explained`,
 -- `exact_planner_explained`.
-use Rattle.basics.specs.Core.{ℕ, ◌≤◌, ◌<◌, ◌≡◌, refl, sym, ap, ◌∙◌, true, List, arith, length, take, lt-ltb, le-ltb, ltb-false}
+use Rattle.std.specs.Prelude.{ℕ, ◌≤◌, ◌<◌, ◌≡◌, refl, true, List, length, take}
+use Rattle.basics.specs.Core.{sym, ap, ◌∙◌, arith, lt-ltb, le-ltb, ltb-false}
 use Rattle.basics.specs.Tests.{or_left}
 use Rattle.model.specs.declared.Refusal.{Refusal}
 use Rattle.model.specs.declared.Refusal.TheVariants.{BufferTooShort}

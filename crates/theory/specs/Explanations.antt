@@ -2,7 +2,8 @@
 -- `switching_at_least` in SheetLaws), together the sheet's cost above the least, `points_together`, and each is 0 exactly if changing that one
 -- thing alone saves nothing, `spread_zero`, `swaps_zero`, `counts_zero`. All three are 0 exactly if no sheet that serves costs less, `all_zero`.
 -- The sheets of plans have spread 0 and swaps 0, `plan_points`, and the exact plan's sheet has counts 0 too, `exact_points`.
-use Rattle.basics.specs.Core.{ℕ, zero, suc, ◌+◌, ◌≤◌, ◌<◌, ◌≡◌, refl, true, List, ◌↔◌, ⊎_elim, eq-eqb, le-ltb, arith}
+use Rattle.std.specs.Prelude.{ℕ, zero, suc, ◌+◌, ◌≤◌, ◌<◌, ◌≡◌, refl, true, List, ◌↔◌}
+use Rattle.basics.specs.Core.{⊎_elim, eq-eqb, le-ltb, arith}
 use Rattle.basics.specs.Numbers.{le_or_lt}
 use Rattle.basics.specs.Sums.{sum_ext}
 use Rattle.basics.specs.Lists.{tabulate_same}

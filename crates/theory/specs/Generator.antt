@@ -1,6 +1,7 @@
 -- The generator of practice shows (document 02, §1): no start of 32 bits but 0 ever draws 0, `never_zero`, start 0 draws nothing else,
 -- `zero_repeats`, and different starts never draw the same number at the same place, `starts_apart`.
-use Rattle.basics.specs.Core.{ℕ, zero, suc, ◌+◌, ◌*◌, ◌/◌, ◌%◌, ◌^◌, ◌≤◌, ◌<◌, ◌≡◌, refl, sym, ap, ◌∙◌, ⊎_elim, mod-lt, mod-eq_of_lt}
+use Rattle.std.specs.Prelude.{ℕ, zero, suc, ◌+◌, ◌*◌, ◌/◌, ◌%◌, ◌^◌, ◌≤◌, ◌<◌, ◌≡◌, refl}
+use Rattle.basics.specs.Core.{sym, ap, ◌∙◌, ⊎_elim, mod-lt, mod-eq_of_lt}
 use Rattle.basics.specs.Core.{mul-add-mod_self_left, mul-mod_right, div-add-mod', eq-zero-or-pos, arith}
 use Rattle.std.proofs.lemmas.Nat.{xor_lt}
 use Rattle.basics.specs.ExclusiveOr.{xor_none, xor_left_linear, xor_right_linear, linear_injective}

@@ -1,6 +1,7 @@
 -- One round of a search digit by digit, for two neighbouring slots. Numbers only: the plan so far says that a slot's place is one of the
 -- 2 b places from `here` on, and the round finds which half it is in.
-use Rattle.basics.specs.Core.{ℕ, ◌+◌, ◌-◌, ◌≤◌, ◌<◌, ◌≡◌, refl, ⊎_elim, arith, le-leb, lt-leb}
+use Rattle.std.specs.Prelude.{ℕ, ◌+◌, ◌-◌, ◌≤◌, ◌<◌, ◌≡◌, refl}
+use Rattle.basics.specs.Core.{⊎_elim, arith, le-leb, lt-leb}
 use Rattle.basics.specs.Numbers.{le_or_lt}
 use Rattle.thresholds.specs.Thresholds.{is_less, raised_place}
 use Rattle.thresholds.specs.ThresholdLaws.{less_one, less_zero, less_most}

@@ -1,7 +1,7 @@
 -- The hypotheses that the theorems share, as propositions: shows that can be planned, `Plannable`, plans whose sheet can be written, `PlanFits`,
 -- one slot's best places, `SlotBest`, and the least plan by counts, `LeastByCounts`; and the active modules, the light and the operating cost of a
 -- row of bytes.
-use Rattle.basics.specs.Core.{ℕ, suc, ◌*◌, ◌≤◌, ◌<◌, ◌≡◌, true, List, length, get_or}
+use Rattle.std.specs.Prelude.{ℕ, suc, ◌*◌, ◌≤◌, ◌<◌, ◌≡◌, true, List, length, get_or}
 use Rattle.basics.specs.Sums.{sum}
 use Rattle.model.specs.Instance.{Instance}
 use Rattle.model.specs.Counts.{can_serve}

@@ -1,7 +1,8 @@
 -- The dynamic program over a list of allowed counts gives the least plan by counts from a start count, first in tie order: `searched_least`, and
 -- its cost: `searched_cost_lem`.
-use Rattle.basics.specs.Core.{ℕ, zero, suc, ◌+◌, ◌-◌, ◌*◌, ◌≤◌, ◌<◌, ◌≡◌, refl, sym, ◌∙◌, List, [], ◌∷◌, ◌++◌, not-suc-le-zero, zero-sub, mul-zero}
-use Rattle.basics.specs.Core.{arith, length, get_or, get_or_at}
+use Rattle.std.specs.Prelude.{ℕ, zero, suc, ◌+◌, ◌-◌, ◌*◌, ◌≤◌, ◌<◌, ◌≡◌, refl, List, [], ◌∷◌, ◌++◌, length, get_or}
+use Rattle.basics.specs.Core.{sym, ◌∙◌, not-suc-le-zero, zero-sub, mul-zero}
+use Rattle.basics.specs.Core.{arith, get_or_at}
 use Rattle.basics.specs.Sums.{sum}
 use Rattle.basics.specs.Members.{snoc_before, snoc_length}
 use Rattle.model.specs.Instance.{Instance}

@@ -1,6 +1,7 @@
 -- One slot after a convex column: what it chooses by levels, `judged`, how much the column after it rises over each level, `slope_after`, and that
 -- this column is convex too, `after_convex`. Level k lies between the places k and k + 1.
-use Rattle.basics.specs.Core.{ℕ, zero, suc, ◌+◌, ◌-◌, ◌*◌, ◌≤◌, ◌<◌, min, ◌≡◌, sym, fun_ext, ◌∙◌, true, false, false≢true, ◌⊎◌, ⊎_elim, List, length}
+use Rattle.std.specs.Prelude.{ℕ, zero, suc, ◌+◌, ◌-◌, ◌*◌, ◌≤◌, ◌<◌, min, ◌≡◌, true, false, ◌⊎◌, List, length}
+use Rattle.basics.specs.Core.{sym, fun_ext, ◌∙◌, false≢true, ⊎_elim}
 use Rattle.basics.specs.Core.{leb-true, le-leb, add-zero, le_dest, eq-or-lt_of_le, lt_of_not-le, mul-le-mul_left, mul-le-mul_right, arith}
 use Rattle.basics.specs.Numbers.{le_or_lt, true_or_false}
 use Rattle.model.specs.Instance.{Instance}

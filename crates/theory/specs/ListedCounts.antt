@@ -1,6 +1,7 @@
 -- Racks that switch in groups, on cards (document 02, §8): the planners of document 01 are two of these lists, `coarse_listed`, `exact_listed`; the
 -- list of all counts is the only one with ratio 1, `ratio_one_list`; and no sheet that keeps to a list costs less than its plan, `within_least`.
-use Rattle.basics.specs.Core.{ℕ, zero, suc, ◌+◌, ◌≤◌, ◌<◌, ◌≡◌, refl, true, List, add-one, arith, length}
+use Rattle.std.specs.Prelude.{ℕ, zero, suc, ◌+◌, ◌≤◌, ◌<◌, ◌≡◌, refl, true, List, length}
+use Rattle.basics.specs.Core.{add-one, arith}
 use Rattle.basics.specs.Lists.{equal_tabulate}
 use Rattle.model.specs.Instance.{Instance, instance_of}
 use Rattle.model.specs.Counts.{all_counts, coarse_counts}

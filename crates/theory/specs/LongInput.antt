@@ -1,7 +1,8 @@
 -- What is read of a long input (document 01, 'Program and listing'): no accepted card is longer than 2,869 bytes, so what follows the first 2,870
 -- bytes is without effect on what the program prints: `long_printed`.
-use Rattle.basics.specs.Core.{ℕ, ◌+◌, ◌≤◌, ◌≡◌, ◌∙◌, ap, Bool, true, false, not, ◌&&◌, List, ◌∷◌, ⊎_elim, arith, leb, ltb, eqb, length, take}
-use Rattle.basics.specs.Core.{replicate, length-take-le, take-take, le-ltb, leb-true, ltb-false, ne_eqb, not-false}
+use Rattle.std.specs.Prelude.{ℕ, ◌+◌, ◌≤◌, ◌≡◌, Bool, true, false, not, ◌&&◌, List, ◌∷◌, leb, ltb, eqb, length, take, replicate}
+use Rattle.basics.specs.Core.{◌∙◌, ap, ⊎_elim, arith}
+use Rattle.basics.specs.Core.{length-take-le, take-take, le-ltb, leb-true, ltb-false, ne_eqb, not-false}
 use Rattle.basics.specs.Numbers.{true_or_false}
 use Rattle.basics.specs.Tests.{and_right}
 use Rattle.basics.specs.Bytes.{little_take}

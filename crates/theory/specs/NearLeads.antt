@@ -1,6 +1,7 @@
 -- What a verdict says of a level when its lead is only near the right one. Numbers only: x is the least plan's place in a slot, next its
 -- place in the slot after, and the level is between the places j and j + 1.
-use Rattle.basics.specs.Core.{ℕ, ◌+◌, ◌≤◌, ◌<◌, ⊎_elim, arith}
+use Rattle.std.specs.Prelude.{ℕ, ◌+◌, ◌≤◌, ◌<◌}
+use Rattle.basics.specs.Core.{⊎_elim, arith}
 use Rattle.basics.specs.Numbers.{le_or_lt}
 use Rattle.thresholds.specs.Thresholds.{Verdict, weighed}
 use Rattle.thresholds.specs.ThresholdLaws.{less_one, less_zero, less_most}

@@ -1,7 +1,8 @@
 -- What marking, the sheet call and the planners answer, by the card, the list and the buffers. Marking accepts a sheet exactly if it serves,
 -- `mark_accepts`, `mark_number`; an accepted card with buffers long enough is planned by every planner that keeps the rules, `always_planned`; and
 -- the three agree (condition 2): a plan makes a sheet that is marked at the cost named, `made_marked`, `planner_marked`.
-use Rattle.basics.specs.Core.{ℕ, ◌≤◌, ◌≡◌, refl, sym, ap, ◌∙◌, true, false, not, ◌↔◌, List, ◌∷◌, ◌++◌, length, get_or, take, leb, take_at, leb-true}
+use Rattle.std.specs.Prelude.{ℕ, ◌≤◌, ◌≡◌, refl, true, false, not, ◌↔◌, List, ◌∷◌, ◌++◌, length, get_or, take, leb}
+use Rattle.basics.specs.Core.{sym, ap, ◌∙◌, take_at, leb-true}
 use Rattle.basics.specs.Core.{le-leb, le-ltb, ltb-false, eqb-true, eq-eqb, not-false}
 use Rattle.basics.specs.Tests.{every_at, every_all, or_left}
 use Rattle.model.specs.declared.Refusal.{Refusal}

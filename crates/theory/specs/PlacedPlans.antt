@@ -1,5 +1,6 @@
 -- Plans whose counts stand at places of a list of allowed counts.
-use Rattle.basics.specs.Core.{ℕ, suc, ◌≤◌, ◌<◌, ◌≡◌, sym, ◌∙◌, true, ⊎_elim, List, [], ◌∷◌, ◌++◌, arith, length, get_or, get_or_at}
+use Rattle.std.specs.Prelude.{ℕ, suc, ◌≤◌, ◌<◌, ◌≡◌, true, List, [], ◌∷◌, ◌++◌, length, get_or}
+use Rattle.basics.specs.Core.{sym, ◌∙◌, ⊎_elim, arith, get_or_at}
 use Rattle.basics.specs.Numbers.{le_or_lt}
 use Rattle.basics.specs.Tests.{every_at, every_all}
 use Rattle.basics.specs.Members.{snoc_before}

@@ -1,6 +1,6 @@
 -- A column between its places: the straight lines through its values at neighbouring counts.
-use Rattle.basics.specs.Core.{ℕ, ◌+◌, ◌-◌, ◌*◌, ◌≤◌, ◌<◌, ◌≡◌, ap, List, ⊎_elim, le_dest, le_of_lt, mul-le-mul_left, le_of_mul-le-mul_left, arith}
-use Rattle.basics.specs.Core.{length}
+use Rattle.std.specs.Prelude.{ℕ, ◌+◌, ◌-◌, ◌*◌, ◌≤◌, ◌<◌, ◌≡◌, List, length}
+use Rattle.basics.specs.Core.{ap, ⊎_elim, le_dest, le_of_lt, mul-le-mul_left, le_of_mul-le-mul_left, arith}
 use Rattle.basics.specs.Numbers.{le_or_lt}
 use Rattle.basics.specs.Products.{line_moved}
 use Rattle.basics.specs.Rising.{between}

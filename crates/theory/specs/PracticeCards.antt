@@ -1,6 +1,7 @@
 -- The cards of practice shows (document 02, §1): every one that is written is accepted, and planned by every planner that keeps the rules for its
 -- rack, `practice_writes`, `practice_planned`; and an area as long as the longest one is enough for every start from 1 on, `practice_enough`.
-use Rattle.basics.specs.Core.{ℕ, ◌≤◌, ◌≡◌, ap, List, arith, length}
+use Rattle.std.specs.Prelude.{ℕ, ◌≤◌, ◌≡◌, List, length}
+use Rattle.basics.specs.Core.{ap, arith}
 use Rattle.model.specs.Answers.{number_of}
 use Rattle.model.specs.Instance.{instance_of, card_bytes}
 use Rattle.model.specs.Planners.{Planner}

@@ -1,8 +1,9 @@
 -- Over a list of allowed counts that grow by r, `GrowsBy`, the least cost by counts, from any start count, is at most r times what every plan that
 -- serves costs with the price of the start: `ratio` (compare thesis 5.5, 5.11).
-use Rattle.basics.specs.Core.{ℕ, zero, suc, ◌+◌, ◌-◌, ◌*◌, ◌≤◌, ◌<◌, min, ◌≡◌, ap, true, List, ⊎_elim, sub_self, sub-le, min-le_left, min-le_right}
+use Rattle.std.specs.Prelude.{ℕ, zero, suc, ◌+◌, ◌-◌, ◌*◌, ◌≤◌, ◌<◌, min, ◌≡◌, true, List, length, get_or}
+use Rattle.basics.specs.Core.{ap, ⊎_elim, sub_self, sub-le, min-le_left, min-le_right}
 use Rattle.basics.specs.Core.{mul-zero, add-zero, zero-add, le_refl, le_trans, mul-le-mul_left, mul-le-mul_right, le_of_mul-le-mul_left, arith}
-use Rattle.basics.specs.Core.{length, get_or, leb-true, le-leb}
+use Rattle.basics.specs.Core.{leb-true, le-leb}
 use Rattle.basics.specs.Numbers.{le_or_lt}
 use Rattle.basics.specs.Tests.{every_at}
 use Rattle.basics.specs.Sums.{sum}

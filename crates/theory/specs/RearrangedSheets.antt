@@ -1,6 +1,7 @@
 -- The swaps by sheets (document 02, §7): they are 0 exactly if no sheet that serves, with the same steps in each slot, costs less:
 -- `swaps_zero_sheets`.
-use Rattle.basics.specs.Core.{ℕ, zero, suc, ◌-◌, ◌*◌, ◌≤◌, ◌<◌, ◌≡◌, refl, sym, ap, ◌∙◌, true, false, cond, List, ◌↔◌, iff_trans, ⊎_elim, eqb, eq-eqb}
+use Rattle.std.specs.Prelude.{ℕ, zero, suc, ◌-◌, ◌*◌, ◌≤◌, ◌<◌, ◌≡◌, refl, true, false, cond, List, ◌↔◌, eqb}
+use Rattle.basics.specs.Core.{sym, ap, ◌∙◌, iff_trans, ⊎_elim, eq-eqb}
 use Rattle.basics.specs.Core.{ne_eqb, eqb-true, not-suc-le-zero, le_of_suc-le-suc, eq-or-lt_of_le, add-sub_of_le, mul-zero, arith}
 use Rattle.basics.specs.Numbers.{le_or_lt, true_or_false}
 use Rattle.basics.specs.Lists.{tabulate_same}

@@ -1,9 +1,10 @@
 -- The answer of every call: the first refusal of its list that applies, `answered_first`, which is the lowest one where no paragraph of document 02
 -- sets an order, `OwnOrder`, `refusals_ascend`, `lowest_least`, or, where none applies, the cost, `accepted_none`. No call answers 9, `nine_never`,
 -- and after a refusal every lent buffer of bytes is as it was lent, `refused_unchanged`.
-use Rattle.basics.specs.Core.{ℕ, ◌+◌, ◌-◌, ◌≤◌, ◌<◌, ◌≡◌, refl, sym, ap, ◌∙◌, true, false, not, true≢false, ◌⊎◌, inl, inr, ⊎_elim, List, [], ◌∷◌}
-use Rattle.basics.specs.Core.{◌++◌, map, Memᴰ, mem_head, mem_not_nil, mem_cases_cons, mem_map, mem_append_right, le_refl}
-use Rattle.basics.specs.Core.{le_of_lt, arith, length, eqb, ltb-true, lt-ltb, eqb-false, not-true}
+use Rattle.std.specs.Prelude.{ℕ, ◌+◌, ◌-◌, ◌≤◌, ◌<◌, ◌≡◌, refl, true, false, not, ◌⊎◌, List, [], ◌∷◌, ◌++◌, map, length, eqb}
+use Rattle.basics.specs.Core.{sym, ap, ◌∙◌, true≢false, inl, inr, ⊎_elim}
+use Rattle.basics.specs.Core.{Memᴰ, mem_head, mem_not_nil, mem_cases_cons, mem_map, mem_append_right, le_refl}
+use Rattle.basics.specs.Core.{le_of_lt, arith, ltb-true, lt-ltb, eqb-false, not-true}
 use Rattle.basics.specs.Numbers.{true_or_false}
 use Rattle.basics.specs.Tests.{every, every_at, every_all, all_of}
 use Rattle.basics.specs.Members.{each_member, InOrder, next, in_order_at, rising_in_order, all_of_at}

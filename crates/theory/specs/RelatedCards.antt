@@ -1,8 +1,9 @@
 -- The cards of document 02, §3, are there: each accepted card has an accepted card that is the show backwards, `reversed_card`, one for every
 -- larger rack of up to 200 modules, `larger_card`, and one that is the show and then another with equal rack, table and prices, where both together
 -- have at most 1,024 slots, `concatenated_card`.
-use Rattle.basics.specs.Core.{ℕ, ◌+◌, ◌*◌, ◌≤◌, ◌<◌, ◌≡◌, refl, sym, ◌∙◌, true, ⊎_elim, List, ◌++◌, reverse, le_trans, le_dest, mul-le-mul_right}
-use Rattle.basics.specs.Core.{arith, leb, length, get_or, length-append, length-reverse, get_or-append, get_or-append-add, le-leb, le-ltb, not-false}
+use Rattle.std.specs.Prelude.{ℕ, ◌+◌, ◌*◌, ◌≤◌, ◌<◌, ◌≡◌, refl, true, List, ◌++◌, reverse, leb, length, get_or}
+use Rattle.basics.specs.Core.{sym, ◌∙◌, ⊎_elim, le_trans, le_dest, mul-le-mul_right}
+use Rattle.basics.specs.Core.{arith, length-append, length-reverse, get_or-append, get_or-append-add, le-leb, le-ltb, not-false}
 use Rattle.basics.specs.Numbers.{le_or_lt}
 use Rattle.basics.specs.Tests.{every_all, and_right, and_both}
 use Rattle.basics.specs.Lists.{equal_tabulate, from_back, get_or_reverse}

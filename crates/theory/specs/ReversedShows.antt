@@ -1,6 +1,7 @@
 -- A show played backwards (document 02, §3): a plan in reverse costs the same there, since its counts, from 0 back to 0, rise as much as they
 -- fall. So the least plan in reverse is the least plan, and, being the smallest in every slot, the one of the tie rule.
-use Rattle.basics.specs.Core.{ℕ, zero, suc, ◌+◌, ◌-◌, ◌*◌, ◌≤◌, ◌≡◌, refl, sym, ap, ◌∙◌, List, reverse, reverse-reverse, arith, length, get_or}
+use Rattle.std.specs.Prelude.{ℕ, zero, suc, ◌+◌, ◌-◌, ◌*◌, ◌≤◌, ◌≡◌, refl, List, reverse, length, get_or}
+use Rattle.basics.specs.Core.{sym, ap, ◌∙◌, reverse-reverse, arith}
 use Rattle.basics.specs.Core.{length-reverse, get_or-eq_default}
 use Rattle.basics.specs.Sums.{sum, sum_reverse}
 use Rattle.basics.specs.Lists.{from_back, get_or_reverse}

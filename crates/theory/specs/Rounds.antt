@@ -1,7 +1,7 @@
 -- Each round of the search digit by digit halves the places in which the searched plan is known to be, until one is left in each slot:
 -- `rounds_found`.
-use Rattle.basics.specs.Core.{ℕ, zero, suc, ◌+◌, ◌-◌, ◌^◌, ◌≤◌, ◌<◌, ◌≡◌, sym, ap, ◌∙◌, ⊎_elim, List, pow-zero, two-pow-succ, arith, length}
-use Rattle.basics.specs.Core.{replicate}
+use Rattle.std.specs.Prelude.{ℕ, zero, suc, ◌+◌, ◌-◌, ◌^◌, ◌≤◌, ◌<◌, ◌≡◌, List, length, replicate}
+use Rattle.basics.specs.Core.{sym, ap, ◌∙◌, ⊎_elim, pow-zero, two-pow-succ, arith}
 use Rattle.std.proofs.Common.{pow_pos}
 use Rattle.basics.specs.Numbers.{le_or_lt}
 use Rattle.basics.specs.Backwards.{back_end}

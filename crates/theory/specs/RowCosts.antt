@@ -1,7 +1,8 @@
 -- On a convex table the operating cost of a count is the least cost of a row of bytes with enough light, `row_at_least`, and the row of a plan
 -- attains it, `plan_row_cost`. It is the thesis's n·f(L/n) with straight lines between table entries, with G for F: `straight_line`.
-use Rattle.basics.specs.Core.{ℕ, zero, suc, ◌+◌, ◌-◌, ◌*◌, ◌/◌, ◌%◌, ◌≤◌, ◌<◌, ◌≡◌, refl, ap, sym, ◌∙◌, Bool, true, false, cond, or-true, or-false}
-use Rattle.basics.specs.Core.{◌⊎◌, inl, inr, ⊎_elim, leb, leb-true, le-leb, eqb-true, ne_eqb, add-sub_of_le, mod-lt, div-add-mod, div-le_of_le-mul}
+use Rattle.std.specs.Prelude.{ℕ, zero, suc, ◌+◌, ◌-◌, ◌*◌, ◌/◌, ◌%◌, ◌≤◌, ◌<◌, ◌≡◌, refl, Bool, true, false, cond, ◌⊎◌, leb}
+use Rattle.basics.specs.Core.{ap, sym, ◌∙◌, or-true, or-false}
+use Rattle.basics.specs.Core.{inl, inr, ⊎_elim, leb-true, le-leb, eqb-true, ne_eqb, add-sub_of_le, mod-lt, div-add-mod, div-le_of_le-mul}
 use Rattle.basics.specs.Core.{le_trans, le_of_lt, eq-or-lt_of_le, eq-zero-or-pos, mul-le-mul_left, mul-le-mul_right, arith}
 use Rattle.basics.specs.Numbers.{le_or_lt, true_or_false}
 use Rattle.basics.specs.Division.{remainder_le, quotient_lt, part_and_rest}

@@ -1,5 +1,6 @@
 -- On a convex table the operating cost of a load is convex in the count, over the counts that serve the load: `running_convex`.
-use Rattle.basics.specs.Core.{ℕ, ◌+◌, ◌-◌, ◌*◌, ◌/◌, ◌%◌, ◌≤◌, ◌<◌, ◌≡◌, ap, ⊎_elim, add-zero, eq-zero-or-pos, div-add-mod, div-le_of_le-mul}
+use Rattle.std.specs.Prelude.{ℕ, ◌+◌, ◌-◌, ◌*◌, ◌/◌, ◌%◌, ◌≤◌, ◌<◌, ◌≡◌}
+use Rattle.basics.specs.Core.{ap, ⊎_elim, add-zero, eq-zero-or-pos, div-add-mod, div-le_of_le-mul}
 use Rattle.basics.specs.Core.{sub-add_cancel, mul-le-mul_left, mul-le-mul_right, arith}
 use Rattle.basics.specs.Numbers.{le_or_lt}
 use Rattle.basics.specs.Products.{mul_le_mul_some}

@@ -1,8 +1,9 @@
 -- Sheets: their cost by the modules that go on, `sheet_cost_starts`; the thesis's 2.2 and 2.3, `thesis_cost`, `serves_feasible`; that on a convex
 -- table a sheet that serves costs at least what its counts cost, `sheet_at_least`; and that the sheet of a plan serves and costs just that,
 -- `plan_sheet_serves`, `plan_cost_counts`; operating cost and switching cost also apart (02 §7).
-use Rattle.basics.specs.Core.{ℕ, zero, suc, ◌+◌, ◌-◌, ◌*◌, ◌/◌, ◌%◌, ◌≤◌, ◌<◌, ◌≡◌, refl, ap, ap₂, sym, ◌∙◌, subst, Bool, true, false, cond, ◌↔◌}
-use Rattle.basics.specs.Core.{⊎_elim, List, length, get_or, eqb-true, eq-eqb, leb-true, le-leb, lt-ltb, le-ltb, le_refl, le_trans, le_of_lt, add-le-add}
+use Rattle.std.specs.Prelude.{ℕ, zero, suc, ◌+◌, ◌-◌, ◌*◌, ◌/◌, ◌%◌, ◌≤◌, ◌<◌, ◌≡◌, refl, Bool, true, false, cond, ◌↔◌, List, length, get_or}
+use Rattle.basics.specs.Core.{ap, ap₂, sym, ◌∙◌, subst}
+use Rattle.basics.specs.Core.{⊎_elim, eqb-true, eq-eqb, leb-true, le-leb, lt-ltb, le-ltb, le_refl, le_trans, le_of_lt, add-le-add}
 use Rattle.basics.specs.Core.{mul-le-mul_left, mul-zero, mul_comm, eq-zero-or-pos, mod-lt, div-lt_iff_lt-mul, div-add-mod', add-one, arith}
 use Rattle.std.proofs.Math.Arith.{digits_lt}
 use Rattle.basics.specs.Tests.{every_at, every_all, and_left, and_right, and_both}

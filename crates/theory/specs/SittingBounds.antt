@@ -1,8 +1,9 @@
 -- What a sitting never tells (document 02, §4): a candidate the least cost before closing, `least_hidden`; where all acts are lent one card, a
 -- lowest cost below the least, `lowest_at_least`; more submissions used than the allowance, `submissions_within`. An accepted opening is answered
 -- as the exact planner, `opened_planned`, and a submission that 1 to 8 and 15 to 17 let pass as marking, `submission_as_marking`.
-use Rattle.basics.specs.Core.{ℕ, zero, suc, ◌≤◌, ◌≡◌, refl, sym, ap, ◌∙◌, subst, Bool, true, false, cond, not, ◌&&◌, true≢false, List, [], ◌∷◌, map}
-use Rattle.basics.specs.Core.{Option, none, some, option_get_or, option_elim, none-ne-some, some-injective, ⊎_elim, arith, get_or, eqb}
+use Rattle.std.specs.Prelude.{ℕ, zero, suc, ◌≤◌, ◌≡◌, refl, Bool, true, false, cond, not, ◌&&◌, List, [], ◌∷◌, map, get_or, eqb}
+use Rattle.basics.specs.Core.{sym, ap, ◌∙◌, subst, true≢false}
+use Rattle.basics.specs.Core.{Option, none, some, option_get_or, option_elim, none-ne-some, some-injective, ⊎_elim, arith}
 use Rattle.basics.specs.Core.{eq-eqb}
 use Rattle.basics.specs.Numbers.{true_or_false}
 use Rattle.basics.specs.Members.{Each, each_all}

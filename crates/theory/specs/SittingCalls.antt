@@ -1,7 +1,8 @@
 -- The calls of a sitting, beside the theorems on all calls and those on sequences of acts (document 02, §4): the number and the cost of a reply are
 -- those of the answer, `reply_gives`; after a refusal the list of seats at exit is the lent one, `refused_seats`; which acts leave the list, and
 -- which have the same reply with every list; and when a sitting counts as open or closed, `phase_opened`, `phase_closed`.
-use Rattle.basics.specs.Core.{ℕ, ◌≡◌, refl, ap, Bool, true, false, cond, false≢true, ◌↔◌, ⊎_elim, List, [], arith, eqb, eqb-true, eq-eqb, ne_eqb}
+use Rattle.std.specs.Prelude.{ℕ, ◌≡◌, refl, Bool, true, false, cond, ◌↔◌, List, [], eqb}
+use Rattle.basics.specs.Core.{ap, false≢true, ⊎_elim, arith, eqb-true, eq-eqb, ne_eqb}
 use Rattle.basics.specs.Numbers.{true_or_false}
 use Rattle.model.specs.declared.Refusal.{Refusal}
 use Rattle.model.specs.declared.Answer.{Answer}

@@ -1,6 +1,7 @@
 -- What an act of a sitting can do, by the rules that its answer has passed (document 02, §4): `Possible` says which events can happen in a state,
 -- and what an act does is one of them, `acts_possible`.
-use Rattle.basics.specs.Core.{ℕ, ◌<◌, ◌≡◌, refl, sym, ap, ◌∙◌, Bool, true, false, not, ◌&&◌, true≢false, List, [], ◌∷◌, ◌++◌, map, ⊎_elim, leb, eqb}
+use Rattle.std.specs.Prelude.{ℕ, ◌<◌, ◌≡◌, refl, Bool, true, false, not, ◌&&◌, List, [], ◌∷◌, ◌++◌, map, leb, eqb}
+use Rattle.basics.specs.Core.{sym, ap, ◌∙◌, true≢false, ⊎_elim}
 use Rattle.basics.specs.Core.{not-false, leb-false}
 use Rattle.basics.specs.Numbers.{true_or_false}
 use Rattle.basics.specs.Tests.{or_left, or_right, and_left, and_right, all_of}

@@ -1,8 +1,9 @@
 -- When the state of a sitting is that of a history, a list of events (document 02, §4): `Joined`, and of its seats `SeatsTold`. Then both give the
 -- same facts, `joined_agrees`. The state after an opening is that of every history that ends with it, `opening_joined`, and it stays so with
 -- everything that can happen, `event_joined`.
-use Rattle.basics.specs.Core.{ℕ, ◌+◌, ◌≤◌, ◌<◌, ◌≡◌, refl, sym, ap, ◌∙◌, true, false, not, true≢false, List, [], ◌∷◌, map, head_d, flat_map, Option}
-use Rattle.basics.specs.Core.{none, some, ⊎_elim, le_refl, arith, length, get_or, length-map, get_or-eq_default, leb, eqb, lt-ltb, le-ltb, le-leb}
+use Rattle.std.specs.Prelude.{ℕ, ◌+◌, ◌≤◌, ◌<◌, ◌≡◌, refl, true, false, not, List, [], ◌∷◌, map, length, get_or, leb, eqb}
+use Rattle.basics.specs.Core.{sym, ap, ◌∙◌, true≢false, head_d, flat_map, Option}
+use Rattle.basics.specs.Core.{none, some, ⊎_elim, le_refl, arith, length-map, get_or-eq_default, lt-ltb, le-ltb, le-leb}
 use Rattle.basics.specs.Core.{lt-leb, eqb-true, eqb-false, ne_eqb}
 use Rattle.basics.specs.Numbers.{true_or_false, le_or_lt}
 use Rattle.basics.specs.Lists.{keep}

@@ -1,6 +1,7 @@
 -- Any sequence of acts of a sitting that starts afresh is told what the rules tell from the history alone (document 02, §4): `any_sequence`. What a
 -- call leaves holds the state that the transition makes of the one handed to it: `transition`.
-use Rattle.basics.specs.Core.{ℕ, ◌≡◌, refl, sym, ap, ◌∙◌, subst, false, true≢false, List, [], ◌∷◌, length, length-map}
+use Rattle.std.specs.Prelude.{ℕ, ◌≡◌, refl, false, List, [], ◌∷◌, length}
+use Rattle.basics.specs.Core.{sym, ap, ◌∙◌, subst, true≢false, length-map}
 use Rattle.basics.specs.FirstPlace.{occurs}
 use Rattle.model.specs.declared.Answer.{Answer}
 use Rattle.model.specs.declared.Seat.{Seat}

@@ -1,7 +1,8 @@
 -- One slot's choice is the least over all places that serve, and the smallest place that attains it: `slot_best`, `column_best`. So a column rises
 -- with the place, by at most the switching price a module: `column_rises`, `column_slope`.
-use Rattle.basics.specs.Core.{ℕ, zero, suc, ◌+◌, ◌-◌, ◌*◌, ◌≤◌, ◌<◌, ◌≡◌, refl, sym, ap, ◌∙◌, Bool, true, false, cond, false≢true, List}
-use Rattle.basics.specs.Core.{mul-le-mul_left, arith, length}
+use Rattle.std.specs.Prelude.{ℕ, zero, suc, ◌+◌, ◌-◌, ◌*◌, ◌≤◌, ◌<◌, ◌≡◌, refl, Bool, true, false, cond, List, length}
+use Rattle.basics.specs.Core.{sym, ap, ◌∙◌, false≢true}
+use Rattle.basics.specs.Core.{mul-le-mul_left, arith}
 use Rattle.model.specs.Instance.{Instance}
 use Rattle.model.specs.Counts.{can_serve}
 use Rattle.model.specs.Thesis.{switching_price}

@@ -1,8 +1,9 @@
 -- Of all plans of least cost the one that the tie rule chooses is the smallest in every slot, `least_plan_smallest`, and no sheet that serves at
 -- the least cost has fewer modules active in a slot, `least_sheet_smallest`. The reason: of two plans the slot-wise smaller one and the slot-wise
 -- larger one together cost no more than the two, since the price of a rise is convex in the difference of two counts.
-use Rattle.basics.specs.Core.{ℕ, zero, suc, ◌+◌, ◌-◌, ◌≤◌, ◌<◌, min, max, ◌≡◌, sym, ◌∙◌, true, ⊎_elim, List, le_of_lt, min-le_left, min-le_right}
-use Rattle.basics.specs.Core.{min-eq_left, min-eq_right, max-eq_left, max-eq_right, mul-le-mul_left, arith, get_or}
+use Rattle.std.specs.Prelude.{ℕ, zero, suc, ◌+◌, ◌-◌, ◌≤◌, ◌<◌, min, max, ◌≡◌, true, List, get_or}
+use Rattle.basics.specs.Core.{sym, ◌∙◌, ⊎_elim, le_of_lt, min-le_left, min-le_right}
+use Rattle.basics.specs.Core.{min-eq_left, min-eq_right, max-eq_left, max-eq_right, mul-le-mul_left, arith}
 use Rattle.basics.specs.Numbers.{le_or_lt}
 use Rattle.basics.specs.Sums.{sum, sum_mono, sum_add}
 use Rattle.basics.specs.Lists.{tabulate, length_tabulate, get_or_tabulate}

@@ -1,6 +1,7 @@
 -- Switching between two rows of bytes: how many modules go on, at least as many as the count rises by, `started_at_least`, and between rows of
 -- plans just as many, `plan_started`; and what the changes cost, `change_cost_lem`.
-use Rattle.basics.specs.Core.{ℕ, zero, suc, ◌+◌, ◌-◌, ◌*◌, ◌≤◌, ◌<◌, ◌≡◌, refl, ap, ◌∙◌, Bool, true, false, cond, ⊎_elim, le_refl, le_of_lt, mul-zero}
+use Rattle.std.specs.Prelude.{ℕ, zero, suc, ◌+◌, ◌-◌, ◌*◌, ◌≤◌, ◌<◌, ◌≡◌, refl, Bool, true, false, cond}
+use Rattle.basics.specs.Core.{ap, ◌∙◌, ⊎_elim, le_refl, le_of_lt, mul-zero}
 use Rattle.basics.specs.Core.{arith}
 use Rattle.basics.specs.Numbers.{le_or_lt}
 use Rattle.basics.specs.Sums.{sum, sum_mono, sum_add, sum_scale, sum_const, sum_balance}

@@ -1,5 +1,6 @@
 -- The plan that is found digit by digit is the searched plan, `threshold_searched`, so it is the least plan by counts, `threshold_least`.
-use Rattle.basics.specs.Core.{ℕ, zero, suc, ◌^◌, ◌≤◌, ◌<◌, ◌≡◌, sym, ap, ◌∙◌, ⊎_elim, List, [], le_of_lt, not-suc-le-zero, arith, get_or, get_or_at}
+use Rattle.std.specs.Prelude.{ℕ, zero, suc, ◌^◌, ◌≤◌, ◌<◌, ◌≡◌, List, [], get_or}
+use Rattle.basics.specs.Core.{sym, ap, ◌∙◌, ⊎_elim, le_of_lt, not-suc-le-zero, arith, get_or_at}
 use Rattle.basics.specs.Numbers.{le_or_lt}
 use Rattle.basics.specs.Backwards.{back_end, back_step}
 use Rattle.basics.specs.Lists.{equal_tabulate}

@@ -1,5 +1,6 @@
 -- The tie order of plans: the last slot in which two plans differ decides.
-use Rattle.basics.specs.Core.{ℕ, zero, suc, ◌≤◌, ◌<◌, ◌≡◌, sym, ◌∙◌, ⊎_elim, List, [], ◌∷◌, ◌++◌, not-suc-le-zero, le_antisymm, arith, length, get_or}
+use Rattle.std.specs.Prelude.{ℕ, zero, suc, ◌≤◌, ◌<◌, ◌≡◌, List, [], ◌∷◌, ◌++◌, length, get_or}
+use Rattle.basics.specs.Core.{sym, ◌∙◌, ⊎_elim, not-suc-le-zero, le_antisymm, arith}
 use Rattle.basics.specs.Core.{ext_get_or, get_or_at}
 use Rattle.basics.specs.Numbers.{le_or_lt}
 use Rattle.basics.specs.Members.{snoc_before}

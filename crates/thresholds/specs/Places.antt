@@ -1,6 +1,7 @@
 -- Lists of allowed counts that ascend from 0 to m, `Ascending`, how fast they grow, `GrowsBy`, and laws of their places. A place is an index of the
 -- list.
-use Rattle.basics.specs.Core.{ℕ, zero, suc, ◌+◌, ◌-◌, ◌*◌, ◌≤◌, ◌<◌, ◌≡◌, true, ⊎_elim, List, add-one, arith, length, get_or, le-leb}
+use Rattle.std.specs.Prelude.{ℕ, zero, suc, ◌+◌, ◌-◌, ◌*◌, ◌≤◌, ◌<◌, ◌≡◌, true, List, length, get_or}
+use Rattle.basics.specs.Core.{⊎_elim, add-one, arith, le-leb}
 use Rattle.basics.specs.Numbers.{le_or_lt}
 use Rattle.basics.specs.Members.{InOrder, rising_in_order, in_order_at, in_order_le}
 use Rattle.model.specs.Instance.{Instance}

@@ -1,6 +1,6 @@
 -- Plans found digit by digit, beside the least plans by a dynamic program over columns, which were worked out apart from these
 -- definitions.
-use Rattle.basics.specs.Core.{ℕ, ◌-◌, ◌≡◌, refl, Bool, true, ◌&&◌, List, [], ◌∷◌, length, get_or}
+use Rattle.std.specs.Prelude.{ℕ, ◌-◌, ◌≡◌, refl, Bool, true, ◌&&◌, List, [], ◌∷◌, length, get_or}
 use Rattle.basics.specs.Backwards.{from_end, back_to}
 use Rattle.basics.specs.Lists.{tabulate, same_list}
 use Rattle.basics.specs.Ranges.{least_over}

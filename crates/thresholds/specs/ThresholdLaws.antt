@@ -1,7 +1,8 @@
 -- Laws of what the search digit by digit computes: the verdict of a slot by cases, the bounds of sides and leads, `side_most`, `lead_most`,
 -- `carried_most`, and a round slot by slot.
-use Rattle.basics.specs.Core.{ℕ, suc, ◌+◌, ◌-◌, ◌≤◌, ◌<◌, ◌≡◌, refl, sym, ap, ◌∙◌, Bool, true, false, cond, List, ⊎_elim, le_of_lt, eq-or-lt_of_le}
-use Rattle.basics.specs.Core.{arith, leb, length, get_or-eq_default, le-leb, lt-leb, eq-eqb, ne_eqb}
+use Rattle.std.specs.Prelude.{ℕ, suc, ◌+◌, ◌-◌, ◌≤◌, ◌<◌, ◌≡◌, refl, Bool, true, false, cond, List, leb, length}
+use Rattle.basics.specs.Core.{sym, ap, ◌∙◌, ⊎_elim, le_of_lt, eq-or-lt_of_le}
+use Rattle.basics.specs.Core.{arith, get_or-eq_default, le-leb, lt-leb, eq-eqb, ne_eqb}
 use Rattle.basics.specs.Numbers.{le_or_lt, true_or_false}
 use Rattle.basics.specs.Lists.{tabulate, length_tabulate, get_or_tabulate}
 use Rattle.basics.specs.Backwards.{back_end, back_step}

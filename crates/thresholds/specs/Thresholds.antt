@@ -2,7 +2,7 @@
 -- plan is `threshold_plan_lem` in theory. Level j lies between place j and place j + 1 of the list; a plan is above it in a slot if its place there is
 -- above j. A round with the width b knows of each slot's place that it is in the 2 b places from `plan t` on, and finds which half it is in:
 -- forward through the slots a side of one level for each, then backward the places.
-use Rattle.basics.specs.Core.{ℕ, zero, suc, ◌+◌, ◌-◌, ◌*◌, ◌^◌, min, cond, List, get_or, replicate, leb, eqb}
+use Rattle.std.specs.Prelude.{ℕ, zero, suc, ◌+◌, ◌-◌, ◌*◌, ◌^◌, min, cond, List, get_or, replicate, leb, eqb}
 use Rattle.basics.specs.Lists.{tabulate}
 use Rattle.basics.specs.Backwards.{back_to}
 use Rattle.model.specs.Instance.{Instance}

@@ -1,4 +1,5 @@
-use Rattle.basics.specs.Core.{refl, ◌∙◌, arith}
+use Rattle.std.specs.Prelude.{refl}
+use Rattle.basics.specs.Core.{◌∙◌, arith}
 use Rattle.basics.specs.Lists.{tabulate_constant}
 use Rattle.basics.specs.Filling.{upto_none, upto_more, upto_all}
 use Rattle.buffers.proofs.fill.Goals as goal

@@ -1,4 +1,4 @@
-use Rattle.basics.specs.Core.{◌-◌, length}
+use Rattle.std.specs.Prelude.{◌-◌, length}
 use Rattle.basics.specs.Filling.{Upto}
 use Rattle.buffers.proofs.fill.Given as goal
 

@@ -1,4 +1,4 @@
-use Rattle.basics.specs.Core.{◌-◌, length}
+use Rattle.std.specs.Prelude.{◌-◌, length}
 use Rattle.basics.specs.Writing.{RowsWritten, element_text}
 use Rattle.buffers.proofs.put_bytes.Given as goal
 

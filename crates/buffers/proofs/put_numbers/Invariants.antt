@@ -1,4 +1,4 @@
-use Rattle.basics.specs.Core.{◌-◌, length, get_or}
+use Rattle.std.specs.Prelude.{◌-◌, length, get_or}
 use Rattle.basics.specs.Writing.{RowsWritten}
 use Rattle.basics.specs.Bytes.{bytes_of}
 use Rattle.buffers.proofs.put_numbers.Given as goal

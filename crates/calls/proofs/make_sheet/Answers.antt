@@ -1,6 +1,6 @@
 use Rattle.card.proofs.Groups.{ready}
 use Rattle.calls.proofs.Making.{make_refused}
-use Rattle.basics.specs.Core.{refl}
+use Rattle.std.specs.Prelude.{refl}
 use Rattle.calls.proofs.make_sheet.Goals as goal
 
 pub make_sheet_on-requires : goal.make_sheet_on-requires

@@ -1,4 +1,4 @@
-use Rattle.basics.specs.Core.{ℕ, ◌≤◌, ◌≡◌, true}
+use Rattle.std.specs.Prelude.{ℕ, ◌≤◌, ◌≡◌, true}
 use Rattle.basics.specs.Tests.{test_failed, test_passed}
 use Rattle.model.specs.Instance.{rack_number}
 use Rattle.laws.specs.Acceptance.{rack_range}

@@ -1,4 +1,4 @@
-use Rattle.basics.specs.Core.{◌-◌}
+use Rattle.std.specs.Prelude.{◌-◌}
 use Rattle.basics.specs.Tests.{Passed}
 use Rattle.model.specs.Instance.{instance_of, convex_at}
 use Rattle.card.proofs.is_convex.Given as goal

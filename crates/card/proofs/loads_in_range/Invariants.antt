@@ -1,4 +1,4 @@
-use Rattle.basics.specs.Core.{◌-◌, leb}
+use Rattle.std.specs.Prelude.{◌-◌, leb}
 use Rattle.basics.specs.Tests.{Passed}
 use Rattle.model.specs.Instance.{instance_of}
 use Rattle.card.proofs.loads_in_range.Given as goal

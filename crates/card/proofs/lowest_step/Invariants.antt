@@ -1,4 +1,4 @@
-use Rattle.basics.specs.Core.{◌-◌}
+use Rattle.std.specs.Prelude.{◌-◌}
 use Rattle.model.specs.Instance.{instance_of}
 use Rattle.card.proofs.Lowest.{Fallen}
 use Rattle.card.proofs.lowest_step.Given as goal

@@ -1,4 +1,5 @@
-use Rattle.basics.specs.Core.{refl, arith}
+use Rattle.std.specs.Prelude.{refl}
+use Rattle.basics.specs.Core.{arith}
 use Rattle.model.specs.Instance.{instance_of}
 use Rattle.card.proofs.FieldsRead.{read_at}
 use Rattle.card.proofs.read_header.Goals as goal

@@ -1,4 +1,4 @@
-use Rattle.basics.specs.Core.{refl}
+use Rattle.std.specs.Prelude.{refl}
 use Rattle.basics.specs.Tests.{every}
 use Rattle.model.specs.Instance.{convex, convex_at, never_falls}
 use Rattle.model.specs.Catalogue.{catalogue_entry, follows_rule}

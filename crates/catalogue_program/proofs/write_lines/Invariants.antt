@@ -1,4 +1,4 @@
-use Rattle.basics.specs.Core.{◌-◌}
+use Rattle.std.specs.Prelude.{◌-◌}
 use Rattle.basics.specs.Writing.{RowsWritten}
 use Rattle.model.specs.Catalogue.{catalogue_size}
 use Rattle.model.specs.Listing.{entry_line}

@@ -1,6 +1,6 @@
 use Rattle.card.proofs.Groups.{ready}
 use Rattle.planners.proofs.Planning.{plan_refused}
-use Rattle.basics.specs.Core.{refl}
+use Rattle.std.specs.Prelude.{refl}
 use Rattle.count_lists.proofs.plan_listed.Goals as goal
 
 pub plan_listed_on-requires : goal.plan_listed_on-requires

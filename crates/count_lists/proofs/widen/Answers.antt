@@ -1,4 +1,5 @@
-use Rattle.basics.specs.Core.{refl, arith}
+use Rattle.std.specs.Prelude.{refl}
+use Rattle.basics.specs.Core.{arith}
 use Rattle.basics.specs.Filling.{upto_none, upto_more}
 use Rattle.count_lists.proofs.Widened.{copied}
 use Rattle.count_lists.proofs.widen.Goals as goal

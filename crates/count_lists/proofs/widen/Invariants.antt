@@ -1,4 +1,4 @@
-use Rattle.basics.specs.Core.{◌-◌, length, get_or}
+use Rattle.std.specs.Prelude.{◌-◌, length, get_or}
 use Rattle.basics.specs.Filling.{Upto}
 use Rattle.count_lists.proofs.widen.Given as goal
 

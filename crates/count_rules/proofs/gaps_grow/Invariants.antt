@@ -1,4 +1,4 @@
-use Rattle.basics.specs.Core.{◌+◌, ◌-◌, ◌*◌, length, leb}
+use Rattle.std.specs.Prelude.{◌+◌, ◌-◌, ◌*◌, length, leb}
 use Rattle.basics.specs.Tests.{Passed}
 use Rattle.model.specs.CountRules.{gap_after}
 use Rattle.count_rules.proofs.gaps_grow.Given as goal

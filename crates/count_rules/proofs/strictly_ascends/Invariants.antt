@@ -1,4 +1,4 @@
-use Rattle.basics.specs.Core.{◌+◌, ◌-◌, length, get_or, ltb}
+use Rattle.std.specs.Prelude.{◌+◌, ◌-◌, length, get_or, ltb}
 use Rattle.basics.specs.Tests.{Passed}
 use Rattle.count_rules.proofs.strictly_ascends.Given as goal
 

@@ -1,4 +1,5 @@
-use Rattle.basics.specs.Core.{refl, arith}
+use Rattle.std.specs.Prelude.{refl}
+use Rattle.basics.specs.Core.{arith}
 use Rattle.basics.specs.Filling.{upto_none, upto_more, upto_all}
 use Rattle.counts.specs.AllowedCounts.{numbers_below}
 use Rattle.counts.proofs.fill_places.Goals as goal

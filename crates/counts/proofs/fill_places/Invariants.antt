@@ -1,4 +1,4 @@
-use Rattle.basics.specs.Core.{◌-◌, length}
+use Rattle.std.specs.Prelude.{◌-◌, length}
 use Rattle.basics.specs.Filling.{Upto}
 use Rattle.counts.proofs.fill_places.Given as goal
 

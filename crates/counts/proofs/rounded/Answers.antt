@@ -1,4 +1,5 @@
-use Rattle.basics.specs.Core.{ℕ, min, ◌≡◌, arith}
+use Rattle.std.specs.Prelude.{ℕ, min, ◌≡◌}
+use Rattle.basics.specs.Core.{arith}
 use Rattle.model.specs.Counts.{rounded_count, printed_cases, case_value, rounded_by_cases}
 use Rattle.laws.specs.RoundedCounts.{rounded_by_cases_lem}
 use Rattle.counts.specs.AllowedCounts.{RackCount}

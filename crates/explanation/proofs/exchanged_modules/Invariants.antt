@@ -1,4 +1,4 @@
-use Rattle.basics.specs.Core.{◌-◌, length}
+use Rattle.std.specs.Prelude.{◌-◌, length}
 use Rattle.explanation.proofs.Exchanging.{Counted}
 use Rattle.explanation.proofs.exchanged_modules.Given as goal
 

@@ -1,6 +1,6 @@
 use Rattle.card.proofs.Groups.{ready}
 use Rattle.explanation.proofs.Explaining.{refused_card}
-use Rattle.basics.specs.Core.{refl}
+use Rattle.std.specs.Prelude.{refl}
 use Rattle.explanation.proofs.explain.Goals as goal
 
 pub explain_on-requires : goal.explain_on-requires

@@ -1,5 +1,5 @@
 use Rattle.explanation.proofs.Explaining.{refused_short, refused_sheet, sheet_marked, work_lent, explained}
-use Rattle.basics.specs.Core.{refl}
+use Rattle.std.specs.Prelude.{refl}
 use Rattle.explanation.proofs.explain_on.Goals as goal
 
 pub returns-then-work-asked : goal.returns-then-work-asked

@@ -1,4 +1,4 @@
-use Rattle.basics.specs.Core.{◌-◌, length, get_or}
+use Rattle.std.specs.Prelude.{◌-◌, length, get_or}
 use Rattle.basics.specs.Summing.{Summed}
 use Rattle.model.specs.Sheets.{active_of}
 use Rattle.explanation.proofs.row_active.Given as goal

@@ -1,4 +1,4 @@
-use Rattle.basics.specs.Core.{◌-◌, length, get_or}
+use Rattle.std.specs.Prelude.{◌-◌, length, get_or}
 use Rattle.basics.specs.Summing.{Summed}
 use Rattle.explanation.specs.Exchanges.{start_of}
 use Rattle.explanation.proofs.row_starts.Given as goal

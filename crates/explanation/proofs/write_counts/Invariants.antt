@@ -1,4 +1,4 @@
-use Rattle.basics.specs.Core.{◌-◌, length}
+use Rattle.std.specs.Prelude.{◌-◌, length}
 use Rattle.explanation.proofs.WritingCounts.{Written}
 use Rattle.explanation.proofs.write_counts.Given as goal
 

@@ -1,4 +1,5 @@
-use Rattle.basics.specs.Core.{[], ◌∷◌, ◌%◌, arith}
+use Rattle.std.specs.Prelude.{[], ◌∷◌, ◌%◌}
+use Rattle.basics.specs.Core.{arith}
 use Rattle.basics.specs.Writing.{room_less, room_first, room_rest, written_more}
 use Rattle.model.specs.Listing.{digit}
 use Rattle.listing.proofs.Digits.{decimal_one, decimal_more}

@@ -1,4 +1,4 @@
-use Rattle.basics.specs.Core.{◌-◌, length, get_or}
+use Rattle.std.specs.Prelude.{◌-◌, length, get_or}
 use Rattle.basics.specs.Writing.{RowsWritten}
 use Rattle.listing.specs.Texts.{count_text}
 use Rattle.listing.proofs.put_counts.Given as goal

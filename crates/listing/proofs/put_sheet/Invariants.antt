@@ -1,4 +1,4 @@
-use Rattle.basics.specs.Core.{◌-◌}
+use Rattle.std.specs.Prelude.{◌-◌}
 use Rattle.basics.specs.Writing.{RowsWritten}
 use Rattle.listing.specs.Texts.{sheet_line}
 use Rattle.listing.proofs.put_sheet.Given as goal

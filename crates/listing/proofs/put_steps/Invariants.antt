@@ -1,4 +1,4 @@
-use Rattle.basics.specs.Core.{◌-◌, length, get_or}
+use Rattle.std.specs.Prelude.{◌-◌, length, get_or}
 use Rattle.basics.specs.Writing.{RowsWritten}
 use Rattle.model.specs.Sheets.{off}
 use Rattle.listing.specs.Texts.{module_text}

@@ -1,4 +1,4 @@
-use Rattle.basics.specs.Core.{◌-◌, ◌≤◌}
+use Rattle.std.specs.Prelude.{◌-◌, ◌≤◌}
 use Rattle.plan_program.proofs.main.Given as goal
 
 abbrev pub invariant-loop-n : goal.invariant-loop-n

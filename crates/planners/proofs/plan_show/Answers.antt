@@ -1,4 +1,4 @@
-use Rattle.basics.specs.Core.{refl}
+use Rattle.std.specs.Prelude.{refl}
 use Rattle.card.proofs.Groups.{ready}
 use Rattle.planners.proofs.Planning.{plan_refused}
 use Rattle.planners.proofs.plan_show.Goals as goal

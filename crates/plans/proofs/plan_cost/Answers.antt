@@ -1,4 +1,5 @@
-use Rattle.basics.specs.Core.{refl, arith}
+use Rattle.std.specs.Prelude.{refl}
+use Rattle.basics.specs.Core.{arith}
 use Rattle.basics.specs.Summing.{summed_none, summed_more, summed_all, summed_room}
 use Rattle.model.specs.Thesis.{count_at, counts_cost}
 use Rattle.laws.specs.Acceptance.{accepted_bounds}

@@ -1,4 +1,4 @@
-use Rattle.basics.specs.Core.{◌-◌, ◌≡◌, length}
+use Rattle.std.specs.Prelude.{◌-◌, ◌≡◌, length}
 use Rattle.basics.specs.Summing.{Summed}
 use Rattle.model.specs.Instance.{instance_of}
 use Rattle.model.specs.Thesis.{count_at}

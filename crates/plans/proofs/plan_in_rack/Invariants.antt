@@ -1,4 +1,4 @@
-use Rattle.basics.specs.Core.{◌-◌, length, get_or, leb}
+use Rattle.std.specs.Prelude.{◌-◌, length, get_or, leb}
 use Rattle.basics.specs.Tests.{Passed}
 use Rattle.model.specs.Instance.{instance_of}
 use Rattle.plans.proofs.plan_in_rack.Given as goal

@@ -1,4 +1,5 @@
-use Rattle.basics.specs.Core.{◌≤◌, mul-le-mul, arith}
+use Rattle.std.specs.Prelude.{◌≤◌}
+use Rattle.basics.specs.Core.{mul-le-mul, arith}
 use Rattle.basics.specs.Tests.{passed_none, passed_more, passed_all, passed_not}
 use Rattle.model.specs.Plans.{plan_serves}
 use Rattle.plans.proofs.Loads.{in_slots, no_more_slots, slot_load_there, serve_failed, serve_passed}

@@ -1,4 +1,4 @@
-use Rattle.basics.specs.Core.{◌-◌}
+use Rattle.std.specs.Prelude.{◌-◌}
 use Rattle.practice.proofs.LoadsLoop.{LoadsSoFar}
 use Rattle.practice.proofs.put_loads.Given as goal
 

@@ -1,4 +1,4 @@
-use Rattle.basics.specs.Core.{◌-◌}
+use Rattle.std.specs.Prelude.{◌-◌}
 use Rattle.practice.proofs.TableLoop.{TableSoFar}
 use Rattle.practice.proofs.put_table.Given as goal
 

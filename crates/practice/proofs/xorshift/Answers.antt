@@ -1,4 +1,4 @@
-use Rattle.basics.specs.Core.{refl}
+use Rattle.std.specs.Prelude.{refl}
 use Rattle.model.specs.Practice.{xor_left, xor_right, draw}
 use Rattle.practice.proofs.xorshift.Goals as goal
 

@@ -1,4 +1,5 @@
-use Rattle.basics.specs.Core.{◌-◌, refl, arith}
+use Rattle.std.specs.Prelude.{◌-◌, refl}
+use Rattle.basics.specs.Core.{arith}
 use Rattle.search.proofs.BackwardWalk.{backward_starts, backward_turns, backward_ends, byte_raised}
 use Rattle.search.proofs.backward.Goals as goal
 

@@ -1,4 +1,5 @@
-use Rattle.basics.specs.Core.{refl, arith}
+use Rattle.std.specs.Prelude.{refl}
+use Rattle.basics.specs.Core.{arith}
 use Rattle.card.proofs.FieldsThere.{load_there}
 use Rattle.search.proofs.ForwardWalk.{forward_starts, carried_small, forward_turns, forward_ends}
 use Rattle.search.proofs.forward.Goals as goal

@@ -1,4 +1,4 @@
-use Rattle.basics.specs.Core.{◌-◌, length}
+use Rattle.std.specs.Prelude.{◌-◌, length}
 use Rattle.model.specs.Instance.{instance_of}
 use Rattle.search.proofs.ForwardWalk.{ForwardLoop}
 use Rattle.search.proofs.forward.Given as goal

@@ -1,4 +1,5 @@
-use Rattle.basics.specs.Core.{◌+◌, ◌-◌, arith}
+use Rattle.std.specs.Prelude.{◌+◌, ◌-◌}
+use Rattle.basics.specs.Core.{arith}
 use Rattle.thresholds.specs.ThresholdLaws.{less_most}
 use Rattle.search.proofs.Verdicts.{raised_not, raised_up}
 use Rattle.search.proofs.raise.Goals as goal

@@ -1,4 +1,4 @@
-use Rattle.basics.specs.Core.{◌-◌, length}
+use Rattle.std.specs.Prelude.{◌-◌, length}
 use Rattle.search.proofs.PlanFound.{CountsLoop}
 use Rattle.search.proofs.to_counts.Given as goal
 

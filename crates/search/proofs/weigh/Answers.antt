@@ -1,4 +1,5 @@
-use Rattle.basics.specs.Core.{◌+◌, arith}
+use Rattle.std.specs.Prelude.{◌+◌}
+use Rattle.basics.specs.Core.{arith}
 use Rattle.thresholds.specs.ThresholdLaws.{less_most}
 use Rattle.search.proofs.Verdicts.{verdict_is}
 use Rattle.search.proofs.weigh.Goals as goal

@@ -1,4 +1,5 @@
-use Rattle.basics.specs.Core.{◌≡◌, sym, min, length, add-one, arith}
+use Rattle.std.specs.Prelude.{◌≡◌, min, length}
+use Rattle.basics.specs.Core.{sym, add-one, arith}
 use Rattle.seats.specs.Scanning.{empty_none, empty_next, empty_least}
 use Rattle.seats.proofs.empty_first.Goals as goal
 

@@ -1,4 +1,4 @@
-use Rattle.basics.specs.Core.{◌-◌, ◌≤◌, ◌≡◌}
+use Rattle.std.specs.Prelude.{◌-◌, ◌≤◌, ◌≡◌}
 use Rattle.seats.specs.Scanned.{emptied}
 use Rattle.seats.proofs.empty_first.Given as goal
 

@@ -1,5 +1,6 @@
 -- While the view's place is before the end a seat is left to see, and the place is one of the list; else all are seen.
-use Rattle.basics.specs.Core.{ℕ, suc, ◌≤◌, ◌<◌, ◌≡◌, ◌∙◌, List, length, arith}
+use Rattle.std.specs.Prelude.{ℕ, suc, ◌≤◌, ◌<◌, ◌≡◌, List, length}
+use Rattle.basics.specs.Core.{◌∙◌, arith}
 use Rattle.model.specs.declared.Seat.{Seat}
 use Rattle.seats.specs.declared.View.{View}
 use Rattle.seats.specs.Scanning.{turns, view_at, view_start, view_next, view_end, turn_more, turn_in, turn_none}

@@ -1,4 +1,4 @@
-use Rattle.basics.specs.Core.{ℕ, ◌-◌, ◌≤◌, ◌≡◌}
+use Rattle.std.specs.Prelude.{ℕ, ◌-◌, ◌≤◌, ◌≡◌}
 use Rattle.seats.specs.Scanning.{turns, view_at}
 use Rattle.seats.proofs.scan.Given as goal
 

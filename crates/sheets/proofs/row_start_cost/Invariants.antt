@@ -1,4 +1,4 @@
-use Rattle.basics.specs.Core.{◌-◌, length, get_or}
+use Rattle.std.specs.Prelude.{◌-◌, length, get_or}
 use Rattle.basics.specs.Summing.{Summed}
 use Rattle.model.specs.Instance.{instance_of}
 use Rattle.sheets.specs.Marks.{byte_cost, all_off}

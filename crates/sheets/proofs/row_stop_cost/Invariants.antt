@@ -1,4 +1,4 @@
-use Rattle.basics.specs.Core.{◌-◌, length, get_or}
+use Rattle.std.specs.Prelude.{◌-◌, length, get_or}
 use Rattle.basics.specs.Summing.{Summed}
 use Rattle.sheets.specs.Marks.{stop_cost}
 use Rattle.sheets.proofs.row_stop_cost.Given as goal

@@ -1,4 +1,5 @@
-use Rattle.basics.specs.Core.{◌+◌, ◌*◌, ◌≤◌, arith}
+use Rattle.std.specs.Prelude.{◌+◌, ◌*◌, ◌≤◌}
+use Rattle.basics.specs.Core.{arith}
 use Rattle.sheets.proofs.Totals.{first_inside, earlier_inside, earlier_fits, first_counted, earlier_counted, first_ready, later_ready, rows_paired, last_priced, rows_fit, total_small, sheet_empty, sheet_whole}
 use Rattle.sheets.proofs.sheet_cost.Goals as goal
 

@@ -1,4 +1,4 @@
-use Rattle.basics.specs.Core.{◌-◌, length, get_or}
+use Rattle.std.specs.Prelude.{◌-◌, length, get_or}
 use Rattle.basics.specs.Tests.{Passed}
 use Rattle.model.specs.Instance.{instance_of}
 use Rattle.model.specs.Sheets.{is_entry, off}

@@ -1,4 +1,4 @@
-use Rattle.basics.specs.Core.{suc, ◌-◌, leb}
+use Rattle.std.specs.Prelude.{suc, ◌-◌, leb}
 use Rattle.basics.specs.Tests.{Passed}
 use Rattle.model.specs.Instance.{instance_of}
 use Rattle.model.specs.Sheets.{light_at}

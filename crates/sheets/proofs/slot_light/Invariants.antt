@@ -1,4 +1,4 @@
-use Rattle.basics.specs.Core.{◌-◌, length, get_or}
+use Rattle.std.specs.Prelude.{◌-◌, length, get_or}
 use Rattle.basics.specs.Summing.{Summed}
 use Rattle.model.specs.Sheets.{step_of}
 use Rattle.sheets.proofs.slot_light.Given as goal

@@ -1,4 +1,4 @@
-use Rattle.basics.specs.Core.{◌-◌, length}
+use Rattle.std.specs.Prelude.{◌-◌, length}
 use Rattle.model.specs.Instance.{instance_of}
 use Rattle.sheets.proofs.Filled.{Filled}
 use Rattle.sheets.proofs.write_sheet.Given as goal

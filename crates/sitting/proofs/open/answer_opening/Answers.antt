@@ -1,6 +1,6 @@
 use Rattle.card.proofs.Groups.{ready}
 use Rattle.sitting.proofs.Openings.{opening_on}
-use Rattle.basics.specs.Core.{refl}
+use Rattle.std.specs.Prelude.{refl}
 use Rattle.sitting.proofs.open.answer_opening.Goals as goal
 
 pub answer_opening_on-requires : goal.answer_opening_on-requires
