@@ -17,7 +17,7 @@ use Rattle.model.specs.Answers.{number_of, cost_of}
 use Rattle.model.specs.Instance.{instance_of}
 use Rattle.model.specs.Sheets.{sheet_cost}
 use Rattle.model.specs.Planners.{exact, planned_cost}
-use Rattle.model.specs.Acts.{Act, open_sitting, seat_candidate, close_sitting, submit_sheet, read_least, read_lowest, read_used, opened, is_unopened}
+use Rattle.model.specs.Acts.{Act, open_sitting, seat_candidate, close_sitting, submit_sheet, read_least, read_lowest, read_used, is_unopened}
 use Rattle.model.specs.Acts.{is_closed, Facts, Event, opening_done, nothing_done}
 use Rattle.model.specs.Acts.{submission_tests, act_spec}
 use Rattle.model.specs.SittingState.{Place, State, is_for, empty_place, seated_place, marked_place, lower_of, facts_of, after, phase_of, state_of}

@@ -19,9 +19,9 @@ overflow_add-end c = search end_fits
 
 pub row_starts-starts-requires : goal.row_starts-starts-requires
 row_starts-starts-requires c = record {
-      row_short = search next_short;
-      before_len = search rows_paired;
-    }
+  row_short = search next_short;
+  before_len = search rows_paired;
+}
 
 pub beyond_rise-total-requires : goal.beyond_rise-total-requires
 beyond_rise-total-requires c = search rise_there

@@ -9,9 +9,9 @@ returns-then-work-asked c =
 
 pub points_of-requires : goal.points_of-requires
 points_of-requires c = record {
-      marked = search sheet_marked;
-      work_room = search work_lent;
-    }
+  marked = search sheet_marked;
+  work_room = search work_lent;
+}
 
 pub returns-in-Cost : goal.returns-in-Cost
 returns-in-Cost c =

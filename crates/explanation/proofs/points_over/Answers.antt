@@ -31,6 +31,6 @@ overflow_sub-result-3 c = search least_below
 
 pub returns : goal.returns
 returns c = record {
-      value = search three_numbers;
-      work_after = search rules;
-    }
+  value = search three_numbers;
+  work_after = search rules;
+}

@@ -1,4 +1,4 @@
-use Rattle.basics.specs.Core.{◌∙◌, ap}
+use Rattle.basics.specs.Core.{◌∙◌}
 use Rattle.sitting.specs.Acted.{seating_acts}
 use Rattle.lamp.proofs.lamp_sitting_seat.Goals as goal
 

@@ -3,6 +3,6 @@ use Rattle.practice.proofs.draw_first.Goals as goal
 
 pub returns : goal.returns
 returns c = record {
-      of_start = search first_drawn;
-      start_value = search first_drawn;
-    }
+  of_start = search first_drawn;
+  start_value = search first_drawn;
+}

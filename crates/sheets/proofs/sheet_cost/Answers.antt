@@ -23,9 +23,9 @@ slice_bounds-rows_cost-count c = search first_inside
 
 pub rows_cost-rest-requires : goal.rows_cost-rest-requires
 rows_cost-rest-requires c = record {
-      bytes_ready = search later_ready;
-      earlier_len = search rows_paired;
-    }
+  bytes_ready = search later_ready;
+  earlier_len = search rows_paired;
+}
 
 pub slice_bounds-row_stop_cost-count : goal.slice_bounds-row_stop_cost-count
 slice_bounds-row_stop_cost-count c = search earlier_inside
