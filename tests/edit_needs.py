@@ -1,5 +1,5 @@
 #!/usr/bin/env python3
-"""After `rt ci` or `rt must-fail`: compares docs/EDITS.md with the must-fail edits and with the logs of the run.
+"""After tests/try_edits.py: compares docs/EDITS.md with the must-fail edits and with the logs of their tries.
 
 Prints a line for each fault, and last how many edits were compared. A fault is: an edit that does not say what it does, an edit without a
 log, a log without an edit, an edit that was not refused, one that was refused for its shape (a name that does not exist, or a sum, an index
@@ -16,19 +16,18 @@ import sys
 HEAD = """# The must-fail edits
 
 Each edit under `crates/*/must-fail` makes a program, a definition or a statement wrong, and `rt ci` must refuse it. This table is
-written by `tests/edit_needs.py --write` after a run of the gate, and says of each edit what it does, in the words of its file, and the
+written by `tests/edit_needs.py --write` after `tests/try_edits.py`, and says of each edit what it does, in the words of its file, and the
 function or the module with the first fact that the check refused.
 
 | edit | what it does | the fact that refused it |
 |---|---|---|
 """
 
-# What the check says of a name that does not exist, and the needs by which code is safe. Such a need that a tactic closes has no name of
-# its own: it stands in the list at the end of a proof file, NAME-spec.
+# What the check says of a name that does not exist, and the goals by which code is safe.
 UNKNOWN = ("can be named from here", "is not in scope", "has no field")
 # What the check says where it gave up before it came to a verdict.
 GAVE_UP = "broke off"
-SAFETY = re.compile(r"(add|sub|mul|div|rem|cast|slice|shared-slice|array|part|enum-known)-|.*-spec$")
+SAFETY = re.compile(r"(overflow_|nonzero_)|(.*_)?bounds-|prove-unreachable-")
 # What the check says of a row that does not hold: Failed, and the row's name behind the word that makes the row, as in
 # `Failed ((act "close" ..) .name)`, or alone. Where it cannot compute a row it says `verdict` and not Failed: whether that row holds is not
 # known, and its name is not taken. Nor is a name that was cut: the check prints "…" for the middle of a long term.
@@ -45,13 +44,13 @@ def first_error(text):
 
 
 def first_fact(text):
-    """What was refused first, or None: the function or the module, the need or the statement, the row of an example, and whether a
-    function's need it is."""
+    """What was refused first, or None: the function or the module, the goal or the statement, the row of an example, and whether a
+    function's goal it is."""
     line, error = first_error(text)
     if not line or "was not admitted" in line:
-        unproved = re.search(r"^fn (\S+): no proof.*does not close `([^`]+)`", text, re.M)
+        unproved = re.search(r"^fn (\S+): no proof.*`search` did not prove `([^`]+)`", text, re.M)
         return (unproved[1], unproved[2], None, True) if unproved else None
-    place = re.search(r"(?:proofs|specs)/(\S+?)(/Proof)?\.antt", line)
+    place = re.search(r"(?:proofs|specs)/(\S+?)(/Answers|/Invariants)?\.antt", line)
     name = re.search(r"error: `([^`]+)`", line)
     row = ROW.search(error)
     return (place[1], name[1], row and row[1], place[2] is not None) if place and name else None

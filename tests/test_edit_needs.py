@@ -11,27 +11,28 @@ REFUSED = "logic=not-proved\n"
 
 def error(module, fact, term):
     """An error of the check, which says in its second line what the statement computes to."""
-    return f"/x/specs/{module}.antt:7:16: error: `{fact}`: `omega` does not read the goal\n  which computes to `{term}`. `omega` proves\n"
+    return f"./specs/{module}.antt:7:16: error: `{fact}`: `omega` does not read the goal\n  which computes to `{term}`. `omega` proves\n"
 
 
 LOGS = {
-    "code/none_written": "/x/proofs/way_back/Proof.antt:27:16: error: `loop-holds`: the two types differ\n" + REFUSED,
-    "code/off_by_one": "/x/proofs/check/Proof.antt:3:5: error: `check-spec`: `close` was not admitted\n"
-    "fn code::number: no proof: expected `number-spec` in /x/Proof.antt; `search` does not close `returns-4`\n" + REFUSED,
-    "model/by_counts": error("Examples", "starred-hold", 'Failed ((row "D" (call 1)) .name)') + REFUSED,
-    "theory/too_strong": "/x/specs/BookExamples.antt:90:67: error: `list-ratio`: the two types differ\n" + REFUSED,
-    "theory/a_sum": "/x/specs/Tables.antt:9:6: error: `add-entries`: the two types differ\n" + REFUSED,
+    "code/none_written": "./proofs/way_back/Answers.antt:27:16: error: `loop-k-init`: the two types differ\n" + REFUSED,
+    "code/off_by_one": "./proofs/check/Answers.antt:3:5: error: 1 declaration that depends on `close`, which was not admitted, was not checked: returns\n"
+    "note: src/lib.rt:3:5: it is not proved that what the function ensures holds when it returns (`returns-in-4`)\n"
+    "fn code::number: no proof: expected answers in ./proofs/number/Answers.antt; `search` did not prove `returns-in-4`\n" + REFUSED,
+    "model/by_counts": error("Examples", "starred_hold", 'Failed ((row "D" (call 1)) .name)') + REFUSED,
+    "theory/too_strong": "./specs/BookExamples.antt:90:67: error: `list_ratio`: the two types differ\n" + REFUSED,
+    "theory/a_sum": "./specs/Tables.antt:9:6: error: `overflow_add-entries`: the two types differ\n" + REFUSED,
 }
 FACTS = {
-    "code/none_written": "way_back `loop-holds`",
-    "code/off_by_one": "code::number `returns-4`",
-    "model/by_counts": 'Examples `starred-hold`, row "D"',
-    "theory/too_strong": "BookExamples `list-ratio`",
-    "theory/a_sum": "Tables `add-entries`",
+    "code/none_written": "way_back `loop-k-init`",
+    "code/off_by_one": "code::number `returns-in-4`",
+    "model/by_counts": 'Examples `starred_hold`, row "D"',
+    "theory/too_strong": "BookExamples `list_ratio`",
+    "theory/a_sum": "Tables `overflow_add-entries`",
 }
-UNKNOWN = "/x/proofs/way_back/Proof.antt:9:1: error: `returns-3`: no `returns-3` can be named from here\n" + REFUSED
-GAVE_UP = "/x/proofs/way_back/Proof.antt:9:1: error: `returns`: `search`: no proof\n  `search` broke off: too many steps\n" + REFUSED
-UNSAFE = "/x/proofs/way_back/Proof.antt:9:1: error: `add-cost`: the sum may not fit\n" + REFUSED
+UNKNOWN = "./proofs/way_back/Answers.antt:9:1: error: `returns-3`: no `returns-3` can be named from here\n" + REFUSED
+GAVE_UP = "./proofs/way_back/Answers.antt:9:1: error: `returns`: `search`: no proof\n  `search` broke off: too many steps\n" + REFUSED
+UNSAFE = "./proofs/way_back/Answers.antt:9:1: error: `overflow_add-cost`: the sum may not fit\n" + REFUSED
 done = 0
 
 
@@ -133,7 +134,7 @@ with_tree(lambda root: put(log_of(root, first), LOGS[first] + UNKNOWN), shape)
 with_tree(lambda root: put(log_of(root, first), UNSAFE), shape)
 with_tree(lambda root: put(log_of(root, first), GAVE_UP), f"{first}: the check gave up, at way_back returns")
 with_tree(lambda root: put(log_of(root, first), LOGS[first] + GAVE_UP))
-with_tree(lambda root: replaced(log_of(root, first), "`loop-holds`", "`way-back-spec`"), shape)
+with_tree(lambda root: replaced(log_of(root, first), "`loop-k-init`", "`slice_bounds-way_back-end`"), shape)
 with_tree(lambda root: put(log_of(root, first), "logic=proved functions=1\n"), f"{first}: it was not refused")
 with_tree(lambda root: put(log_of(root, first), REFUSED), f"{first}: its log names no fact")
 with_tree(lambda root: replaced(edit_of(root, first), "# ", ""), f"{first}: the first line of the edit does not say")
@@ -144,20 +145,20 @@ with_tree(lambda root: replaced(root / table, "# The", "# Some"), f"{lacks}# The
 with_tree(rewritten_with_fault, shape)
 
 # Rows and examples of crate model: what the first error names, and not a later one, is told, and the edit's own words have to agree with it.
-failed, no_row, says = "Rattle·model·specs.specs.Examples.Failed", f"{model}: the log names no row, at ", f"{model}: the edit says "
-by_row, by_example = ': refused by row "E".', ": refused by the example `no-card`."
+failed, no_row, says = "Rattle.model.specs.Examples.Failed", f"{model}: the log names no row, at ", f"{model}: the edit says "
+by_row, by_example = ': refused by row "E".', ": refused by the example `no_card`."
 for term in *(f'(({word} "E" (call 1)) .name)' for word in ("act", "refused", "points", "explains", "plans", "refuses")), '"E"':
-    told(error("SomeExamples", "rows-hold", f"{failed} {term}"), by_row, 'SomeExamples `rows-hold`, row "E"')
-row_e, theorem = error("SomeExamples", "rows-hold", f'{failed} "E"'), error("RelatedExamples", "no-card", "Path ℕ 1 1")
-told(row_e + LOGS[model], by_row, 'SomeExamples `rows-hold`, row "E"')
-told(theorem + LOGS[model], by_example, "RelatedExamples `no-card`")
+    told(error("SomeExamples", "rows_hold", f"{failed} {term}"), by_row, 'SomeExamples `rows_hold`, row "E"')
+row_e, theorem = error("SomeExamples", "rows_hold", f'{failed} "E"'), error("RelatedExamples", "no_card", "Path ℕ 1 1")
+told(row_e + LOGS[model], by_row, 'SomeExamples `rows_hold`, row "E"')
+told(theorem + LOGS[model], by_example, "RelatedExamples `no_card`")
 told(error("Counts", "ascends", "m ≤ n") + LOGS[model], "", "Counts `ascends`")
-of_model(theorem + LOGS[model], "", f"{no_row}RelatedExamples no-card")
-of_model(theorem + row_e, by_row, f"{no_row}RelatedExamples no-card")
-of_model(error("Examples", "rows-hold", 'verdict ((row "E" (call 1)) .name) (isEq 1 2)'), by_row, f"{no_row}Examples rows-hold")
-of_model(error("Examples", "rows-hold", 'Failed ((row "E…[9 bytes]…E" (call 1)) .name)'), "", f"{no_row}Examples rows-hold")
-of_model(LOGS[model] + row_e, by_row, f'{says}row "E", the log Examples `starred-hold`, row "D"')
-of_model(LOGS[model], by_example, f'{says}the example `no-card`, the log Examples `starred-hold`, row "D"')
-of_model(error("RelatedExamples", "larger", "m ≤ n"), by_example, f"{says}the example `no-card`, the log RelatedExamples `larger`")
+of_model(theorem + LOGS[model], "", f"{no_row}RelatedExamples no_card")
+of_model(theorem + row_e, by_row, f"{no_row}RelatedExamples no_card")
+of_model(error("Examples", "rows_hold", 'verdict ((row "E" (call 1)) .name) (isEq 1 2)'), by_row, f"{no_row}Examples rows_hold")
+of_model(error("Examples", "rows_hold", 'Failed ((row "E…[9 bytes]…E" (call 1)) .name)'), "", f"{no_row}Examples rows_hold")
+of_model(LOGS[model] + row_e, by_row, f'{says}row "E", the log Examples `starred_hold`, row "D"')
+of_model(LOGS[model], by_example, f'{says}the example `no_card`, the log Examples `starred_hold`, row "D"')
+of_model(error("RelatedExamples", "larger", "m ≤ n"), by_example, f"{says}the example `no_card`, the log RelatedExamples `larger`")
 of_model(error("Counts", "ascends", "m ≤ n") + row_e, by_row, f'{says}row "E", the log Counts `ascends`')
 print(f"edit needs: {done} passed")
