@@ -5,7 +5,7 @@ use Rattle.basics.specs.Sums.{sum}
 use Rattle.model.specs.Instance.{Instance}
 use Rattle.model.specs.Sheets.{is_off, state_at, active_of, active_at}
 
--- The active modules of a row: activeAt of one slot.
+-- The active modules of a row: active_at of one slot.
 unfoldable pub row_active : List ℕ → ℕ
 row_active row = sum (length row) (λ k. active_of (get_or row k 0))
 

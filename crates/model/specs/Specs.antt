@@ -23,20 +23,20 @@ pub record Buffer : Type 0 where
 
 -- A test of a call: the refusal that it gives, and whether it applies. The numbers of document 01's table and of 02, with the tests that carry
 -- them and whose they are; 'a card' is every call and act that is handed one:
---    1, 2    frontTests: a card
---    3       rackTests: a card's m and Q; the rounded count's m; the Q of the catalogue module's table
---    4       rackTests: a card
---    5       sizeTests: a card
---    6 to 8  bodyTests: a card
+--    1, 2    front_tests: a card
+--    3       rack_tests: a card's m and Q; the rounded count's m; the Q of the catalogue module's table
+--    4       rack_tests: a card
+--    5       size_tests: a card
+--    6 to 8  body_tests: a card
 --    9       no test: 'and 9 is never given' (02 §2)
 --    10      BufferTooShort: every call and act that is lent a buffer of bytes
---    11      sheetTests: marking, the explanation, a submission; planTests: the sheet call
---    12, 13  sheetTests and planTests; the running cost; 12 the rounded count too
+--    11      sheet_tests: marking, the explanation, a submission; plan_tests: the sheet call
+--    12, 13  sheet_tests and plan_tests; the running cost; 12 the rounded count too
 --    14      ZeroStart: a practice card
 --    15      NotPermitted: every act
 --    16      SeatUnavailable: seating, a submission, reading the least and a lowest cost
 --    17      AllowanceSpent: opening, a submission
---    18      listTests: a planner with a list
+--    18      list_tests: a planner with a list
 pub record Test : Type 0 where
   pub refusal : Refusal
   pub applies : Bool

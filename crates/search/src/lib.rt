@@ -7,7 +7,7 @@ ghost use Rattle.model.specs.Instance.{instance_of};
 ghost use Rattle.counts.specs.AllowedCounts.{powers_up_to};
 ghost use Rattle.thresholds.specs.Places.{last_place};
 ghost use Rattle.thresholds.specs.Thresholds.{is_less, weighed, level_price, carried, judge as judged, raised_place};
-ghost use Rattle.thresholds.specs.Thresholds.{forward as sidesFound, backward as placesRaised, rounds as placesFound, threshold_plan};
+ghost use Rattle.thresholds.specs.Thresholds.{forward as sides_found, backward as places_raised, rounds as places_found, threshold_plan};
 ghost use Rattle.search.specs.Written.{verdict_of, counts_at};
 ghost use Rattle.search.specs.SearchRequires.{OnCard, Weighable, LevelReady, Raisable, RoundReady, BackReady, RoundsReady, Placed, Searchable};
 
@@ -110,7 +110,7 @@ fn carry(price: u64, before: usize, place: usize, lead: u64) -> u64
 // Forward through the slots: each slot's side of the level in the middle of the places that are left to it. Before the first slot the place is 0.
 fn forward(card: &[u8], h: Header, counts: &[u64], width: usize, plan: &[u8], sides: &mut [u8])
     requires { RoundReady card.now h counts.now width plan.now sides.old }
-    ensures { sides.new ≡ sidesFound (instance_of card.now) counts.now 0 width plan.now }
+    ensures { sides.new ≡ sides_found (instance_of card.now) counts.now 0 width plan.now }
 {
     let reach = width - 1;
     let mut before = 0;
@@ -150,7 +150,7 @@ fn raise(width: usize, place: usize, side: u8, next: usize) -> usize
 // Backward through the slots: each slot's place after the round. After the last slot the place is 0.
 fn backward(width: usize, plan: &mut [u8], sides: &[u8])
     requires { BackReady width plan.old sides.now }
-    ensures { plan.new ≡ placesRaised (length plan.old) width plan.old sides.now }
+    ensures { plan.new ≡ places_raised (length plan.old) width plan.old sides.now }
 {
     let mut next = 0;
     let mut t = plan.len();
@@ -164,7 +164,7 @@ fn backward(width: usize, plan: &mut [u8], sides: &[u8])
 // The rounds, one for each digit from the highest down.
 fn rounds(card: &[u8], h: Header, counts: &[u64], digits: usize, plan: &mut [u8], sides: &mut [u8])
     requires { RoundsReady card.now h counts.now digits plan.old sides.old }
-    ensures { plan.new ≡ placesFound (instance_of card.now) counts.now 0 digits plan.old }
+    ensures { plan.new ≡ places_found (instance_of card.now) counts.now 0 digits plan.old }
 {
     let mut e = digits;
     while 0 < e {

@@ -8,7 +8,7 @@ use Rattle.model.specs.Sheets.{off, is_off, step_of, step_cost, change_cost}
 unfoldable pub slot_byte : (n r low high k : ℕ) → ℕ
 slot_byte n r low high k = cond (ltb k n) (cond (ltb k r) high low) off
 
--- The steps of a row's active modules, summed: lightAt of one slot.
+-- The steps of a row's active modules, summed: light_at of one slot.
 unfoldable pub row_light : List ℕ → ℕ
 row_light row = sum (length row) (λ k. step_of (get_or row k 0))
 

@@ -13,7 +13,7 @@ use Rattle.theory.specs.Hypotheses.{active_in}
 use Rattle.theory.specs.RowCosts.{byte_active, plan_row_active}
 
 -- A module that was off and is not counts 1, any other 0.
-abbrev pub started : (wasOff nowOff : Bool) → ℕ
+abbrev pub started : (was_off now_off : Bool) → ℕ
 started a b = cond a (cond b 0 1) 0
 
 -- The number of modules that go on from row a to row b.

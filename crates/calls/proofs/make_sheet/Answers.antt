@@ -7,5 +7,6 @@ pub make_sheet_on-requires : goal.make_sheet_on-requires
 make_sheet_on-requires c = search ready
 
 pub returns-in-Invalid : goal.returns-in-Invalid
-returns-in-Invalid c = let parts = make_refused _ _ _ c.in-Invalid.ensures refl in
-    record { value = parts.0; sheet_after = parts.1 }
+returns-in-Invalid c =
+    let (value, sheet_after) = make_refused _ _ _ c.in-Invalid.ensures refl in
+    record { value = value; sheet_after = sheet_after }

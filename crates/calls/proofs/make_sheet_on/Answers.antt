@@ -6,8 +6,8 @@ write_sheet-requires c = search made_ready
 
 pub returns-in-Cost : goal.returns-in-Cost
 returns-in-Cost c =
-    let parts = made_written _ _ _ c.check_plan-answer.ensures c.in-Cost.is c.write_sheet.ensures in
-    record { value = parts.0; sheet_after = parts.1 }
+    let (value, sheet_after) = made_written _ _ _ c.check_plan-answer.ensures c.in-Cost.is c.write_sheet.ensures in
+    record { value = value; sheet_after = sheet_after }
 
 pub returns-in_default-clause-sheet_after : goal.returns-in_default-clause-sheet_after
 returns-in_default-clause-sheet_after c = (made_kept _ _ _ c.check_plan-answer.ensures c.in_default.is).1

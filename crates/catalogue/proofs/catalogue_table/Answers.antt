@@ -4,8 +4,9 @@ use Rattle.catalogue.proofs.CatalogueAnswers.{top_refused, short_refused, table_
 use Rattle.catalogue.proofs.catalogue_table.Goals as goal
 
 pub returns-then-not-rack_number : goal.returns-then-not-rack_number
-returns-then-not-rack_number c = let parts = top_refused _ _ (sym c.rack_number.ensures ∙ c.if-not-rack_number.true) in
-    record { value = parts.0; table_after = parts.1.0; writes_table = parts.1.1 }
+returns-then-not-rack_number c =
+    let (value, (table_after, writes_table)) = top_refused _ _ (sym c.rack_number.ensures ∙ c.if-not-rack_number.true) in
+    record { value = value; table_after = table_after; writes_table = writes_table }
 
 pub overflow_add-entries : goal.overflow_add-entries
 overflow_add-entries c =
@@ -18,8 +19,10 @@ overflow_mul-entries c =
     record { fits = omega (arith, few) }
 
 pub returns-then-table-entries : goal.returns-then-table-entries
-returns-then-table-entries c = let parts = short_refused _ _ (sym c.rack_number.ensures ∙ c.if-not-rack_number.false) c.if-table-entries.true in
-    record { value = parts.0; table_after = parts.1.0; writes_table = parts.1.1 }
+returns-then-table-entries c =
+    let (value, (table_after, writes_table)) = short_refused _ _ (sym c.rack_number.ensures ∙ c.if-not-rack_number.false)
+        c.if-table-entries.true in
+    record { value = value; table_after = table_after; writes_table = writes_table }
 
 pub put_entries-requires : goal.put_entries-requires
 put_entries-requires c =
@@ -29,5 +32,6 @@ put_entries-requires c =
 
 pub returns : goal.returns
 returns c =
-    let parts = table_given _ _ (sym c.rack_number.ensures ∙ c.if-not-rack_number.false) c.whole_table.ensures c.if-table-entries.false c.put_entries.ensures in
-    record { value = parts.0; table_after = parts.1.0; writes_table = parts.1.1 }
+    let (value, (table_after, writes_table)) = table_given _ _ (sym c.rack_number.ensures ∙ c.if-not-rack_number.false)
+        c.whole_table.ensures c.if-table-entries.false c.put_entries.ensures in
+    record { value = value; table_after = table_after; writes_table = writes_table }

@@ -7,5 +7,6 @@ pub explain_on-requires : goal.explain_on-requires
 explain_on-requires c = search ready
 
 pub returns-in-Invalid : goal.returns-in-Invalid
-returns-in-Invalid c = let parts = refused_card _ _ _ c.in-Invalid.ensures refl c.refused.ensures in
-    record { value = parts.0; work_after = parts.1 }
+returns-in-Invalid c =
+    let (value, work_after) = refused_card _ _ _ c.in-Invalid.ensures refl c.refused.ensures in
+    record { value = value; work_after = work_after }

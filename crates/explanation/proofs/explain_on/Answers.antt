@@ -4,8 +4,9 @@ use Rattle.explanation.proofs.explain_on.Goals as goal
 
 pub returns-then-work-asked : goal.returns-then-work-asked
 returns-then-work-asked c =
-    let parts = refused_short _ _ c.args.work.now c.requires c.work_bytes-asked.ensures c.if-work-asked.true c.refused.ensures in
-    record { value = parts.0; work_after = parts.1 }
+    let (value, work_after) = refused_short _ _ c.args.work.now c.requires c.work_bytes-asked.ensures c.if-work-asked.true c.refused.ensures
+        in
+    record { value = value; work_after = work_after }
 
 pub points_of-requires : goal.points_of-requires
 points_of-requires c = record {
@@ -15,10 +16,12 @@ points_of-requires c = record {
 
 pub returns-in-Cost : goal.returns-in-Cost
 returns-in-Cost c =
-    let parts = explained _ _ c.args.work.now c.requires c.work_bytes-asked.ensures c.if-work-asked.false c.in-Cost.ensures refl c.points_of.ensures.value c.points_of.ensures.work_after in
-    record { value = parts.0; work_after = parts.1 }
+    let (value, work_after) = explained _ _ c.args.work.now c.requires c.work_bytes-asked.ensures c.if-work-asked.false c.in-Cost.ensures
+        refl c.points_of.ensures.value c.points_of.ensures.work_after in
+    record { value = value; work_after = work_after }
 
 pub returns-in-Refused : goal.returns-in-Refused
 returns-in-Refused c =
-    let parts = refused_sheet _ _ c.args.work.now c.requires c.work_bytes-asked.ensures c.if-work-asked.false c.in-Refused.ensures refl c.refused-in-Refused.ensures in
-    record { value = parts.0; work_after = parts.1 }
+    let (value, work_after) = refused_sheet _ _ c.args.work.now c.requires c.work_bytes-asked.ensures c.if-work-asked.false
+        c.in-Refused.ensures refl c.refused-in-Refused.ensures in
+    record { value = value; work_after = work_after }

@@ -2,5 +2,6 @@ use Rattle.lamp.proofs.Promised.{marks}
 use Rattle.lamp.proofs.lamp_mark.Goals as goal
 
 pub returns : goal.returns
-returns c = let parts = marks _ _ c.mark_sheet.ensures c.to_c.ensures in
-    record { outcome = parts.0; accepts = parts.1 }
+returns c =
+    let (outcome, accepts) = marks _ _ c.mark_sheet.ensures c.to_c.ensures in
+    record { outcome = outcome; accepts = accepts }

@@ -3,5 +3,7 @@ use Rattle.lamp.proofs.Promised.{plans}
 use Rattle.lamp.proofs.lamp_plan_coarse.Goals as goal
 
 pub returns : goal.returns
-returns c = let parts = plans coarse _ _ _ (c.plan_show.ensures.value, (c.plan_show.ensures.plan_after, c.plan_show.ensures.work_after)) c.to_c.ensures in
-    record { outcome = parts.0; plan_bytes = parts.1.0; work_bytes = parts.1.1.0; own_sheet = parts.1.1.1.0; twice = parts.1.1.1.1 }
+returns c =
+    let (outcome, (plan_bytes, (work_bytes, (own_sheet, twice)))) = plans coarse _ _ _ (c.plan_show.ensures.value,
+        (c.plan_show.ensures.plan_after, c.plan_show.ensures.work_after)) c.to_c.ensures in
+    record { outcome = outcome; plan_bytes = plan_bytes; work_bytes = work_bytes; own_sheet = own_sheet; twice = twice }

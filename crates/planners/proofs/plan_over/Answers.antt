@@ -10,8 +10,9 @@ slice_bounds-search-end-4 c = sym (length-take-le _ _ (search work_long))
 
 pub returns : goal.returns
 returns c =
-    let parts = let given = c.requires in least_written given c.search.ensures.plan c.plan_cost.ensures c.search.ensures.work in
-    record { value = parts.0; plan_after = parts.1.0; work_after = parts.1.1 }
+    let given = c.requires in
+    let (value, (plan_after, work_after)) = least_written given c.search.ensures.plan c.plan_cost.ensures c.search.ensures.work in
+    record { value = value; plan_after = plan_after; work_after = work_after }
 
 pub plan_cost-requires : goal.plan_cost-requires
 plan_cost-requires c = search made_ready

@@ -10,7 +10,7 @@ loop-t-init c = passed_none _ _
 
 pub overflow_mul-most : goal.overflow_mul-most
 overflow_mul-most c =
-    let n : c.wide.result ≤ 255 = omega (arith, c.shared_slice_known-in-loop-t-1.given c.loop-t.t) in
+    let n : c.wide.result ≤ 255 = omega (arith, c.type_inv.plan c.loop-t.t) in
     record { fits = omega (arith, mul-le-mul n c.requires.ready.header.top_bound) }
 
 pub load-requires : goal.load-requires

@@ -28,5 +28,5 @@ put_entry-place-requires-2 c = search entry_room
 
 pub returns : goal.returns
 returns c =
-    let parts = table_ends c.loop-k.invariant (omega arith) c.put_entry-place-2.ensures in
-    record { written = parts.0; state_value = parts.1 }
+    let (written, state_value) = table_ends c.loop-k.invariant (omega arith) c.put_entry-place-2.ensures in
+    record { written = written; state_value = state_value }

@@ -9,9 +9,6 @@ loop-t-init c = backward_starts _ _ _
 pub bounds-plan-t : goal.bounds-plan-t
 bounds-plan-t c = omega (arith, c.loop-t.invariant.within, c.loop-t.invariant.written.size)
 
-pub wide-requires : goal.wide-requires
-wide-requires c = tt
-
 pub bounds-sides-t : goal.bounds-sides-t
 bounds-sides-t c =
     omega (arith, c.loop-t.invariant.within, c.requires.size)
@@ -20,7 +17,7 @@ pub raise-next-requires : goal.raise-next-requires
 raise-next-requires c =
     record {
       width = c.requires.width;
-      byte = omega (arith, c.wide.ensures, (c.slice_known-in-loop-t-1.given (c.loop-t.t - 1)).fits);
+      byte = omega (arith, c.wide.ensures, (c.type_inv.plan (c.loop-t.t - 1)).fits);
       side_most = c.requires.sides_most (c.loop-t.t - 1) (omega (arith, c.loop-t.invariant.within));
     }
 
@@ -29,7 +26,7 @@ overflow_cast-plan c =
     record {
       fits =
           byte_raised c.loop-t.invariant c.loop-t-test.true c.wide.ensures refl c.raise-next.ensures
-          c.requires (omega (arith, c.wide.ensures, (c.slice_known-in-loop-t-1.given (c.loop-t.t - 1)).fits));
+          c.requires (omega arith);
     }
 
 pub bounds-plan-t-in-loop-t : goal.bounds-plan-t-in-loop-t

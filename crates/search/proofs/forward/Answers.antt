@@ -13,19 +13,13 @@ level_price-lead-requires c = c.requires.slots.on_card
 pub loop-t-init : goal.loop-t-init
 loop-t-init c = forward_starts c.requires c.level_price-lead.ensures
 
-pub wide-place-requires : goal.wide-place-requires
-wide-place-requires c = tt
-
 pub overflow_add-level : goal.overflow_add-level
 overflow_add-level c =
     let p = c.requires in
-    omega (arith, p.width.most, c.wide-place.ensures, (c.shared_slice_known-in-loop-t-1.given c.loop-t.t).fits)
+    omega (arith, p.width.most, c.wide-place.ensures, (c.type_inv.plan c.loop-t.t).fits)
 
 pub level_price-price-requires : goal.level_price-price-requires
 level_price-price-requires c = c.requires.slots.on_card
-
-pub carry-carried-requires : goal.carry-carried-requires
-carry-carried-requires c = tt
 
 pub load-requires : goal.load-requires
 load-requires c =

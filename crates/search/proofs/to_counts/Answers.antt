@@ -6,14 +6,20 @@ use Rattle.search.proofs.to_counts.Goals as goal
 pub loop-t-init : goal.loop-t-init
 loop-t-init c = upto_none _ _
 
-pub wide-requires : goal.wide-requires
-wide-requires c = tt
-
 pub offset_bounds-counts-wide : goal.offset_bounds-counts-wide
-offset_bounds-counts-wide c = record { fits = omega (arith, (place_there c.args.counts.now c.loop-t.invariant (omega (arith, c.loop-t-test.true, c.loop-t.invariant.size)) c.wide.ensures c.requires)) }
+offset_bounds-counts-wide c =
+    record {
+      fits =
+          omega (
+            arith,
+            place_there c.args.counts.now c.loop-t.invariant (omega (arith, c.loop-t-test.true, c.loop-t.invariant.size)) c.wide.ensures
+                c.requires,
+          );
+    }
 
 pub bounds-counts-wide : goal.bounds-counts-wide
-bounds-counts-wide c = (place_there c.args.counts.now c.loop-t.invariant (omega (arith, c.loop-t-test.true, c.loop-t.invariant.size)) c.wide.ensures c.requires)
+bounds-counts-wide c =
+    place_there c.args.counts.now c.loop-t.invariant (omega (arith, c.loop-t-test.true, c.loop-t.invariant.size)) c.wide.ensures c.requires
 
 pub overflow_cast-plan : goal.overflow_cast-plan
 overflow_cast-plan c = omega (arith, c.requires.bytes c.wide.result)

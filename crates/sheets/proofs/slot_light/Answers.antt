@@ -9,7 +9,7 @@ loop-k-init c = summed_none _ _
 
 pub overflow_add-light : goal.overflow_add-light
 overflow_add-light c =
-    let each = step_each c.args.row.now c.shared_slice_known-in-loop-k-1.given in
+    let each = step_each c.args.row.now c.type_inv.row in
     let room = summed_room c.loop-k.invariant c.loop-k-test.true c.step_of-light.ensures each in
     record { fits = omega (arith, room) }
 
@@ -18,7 +18,7 @@ loop-k-preserved c = search summed_more
 
 pub overflow_cast-result : goal.overflow_cast-result
 overflow_cast-result c =
-    let each = step_each c.args.row.now c.shared_slice_known-1.given in
+    let each = step_each c.args.row.now c.type_inv.row in
     record { fits = omega (arith, summed_most c.loop-k.invariant each) }
 
 pub returns : goal.returns

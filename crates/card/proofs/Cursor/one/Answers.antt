@@ -5,4 +5,4 @@ use Rattle.card.proofs.Cursor.one.Goals as goal
 pub returns : goal.returns
 returns c =
     let at = c.args.self.at in
-    read_one _ _ _ c.wide.ensures (omega (arith, c.shared_slice_known-1.given at))
+    read_one _ _ _ c.wide.ensures (omega (arith, c.type_inv.s at))

@@ -7,5 +7,6 @@ pub answer_opening_on-requires : goal.answer_opening_on-requires
 answer_opening_on-requires c = search ready
 
 pub returns-in-Invalid : goal.returns-in-Invalid
-returns-in-Invalid c = let parts = opening_on _ _ _ _ _ _ c.in-Invalid.ensures refl in
-    record { value = parts.0; plan_after = parts.1.0; work_after = parts.1.1 }
+returns-in-Invalid c =
+    let (value, (plan_after, work_after)) = opening_on _ _ _ _ _ _ c.in-Invalid.ensures refl in
+    record { value = value; plan_after = plan_after; work_after = work_after }
