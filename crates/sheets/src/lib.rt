@@ -138,6 +138,7 @@ fn stop_cost(down: u64, prev: u8) -> u64
 }
 
 // The cost of a byte's step, and of the change to it from the byte before it.
+#[tactic(auto, using(crate::proofs::SheetBytes::cost_stopped))]
 fn byte_cost(card: &[u8], h: Header, prev: u8, byte: u8) -> u64
     requires { ByteReady card.now h byte }
     ensures { result ≡ byte_cost (instance_of card.now) prev byte }
