@@ -29,9 +29,9 @@ UNKNOWN = ("can be named from here", "is not in scope", "has no field")
 GAVE_UP = "broke off"
 SAFETY = re.compile(r"(overflow_|nonzero_)|(.*_)?bounds-|prove-unreachable-")
 # What the check says of a row that does not hold: Failed, and the row's name behind the word that makes the row, as in
-# `Failed ((act "close" ..) .name)`, or alone. Where it cannot compute a row it says `verdict` and not Failed: whether that row holds is not
+# `Failed (act "close" ..).name`, or alone. Where it cannot compute a row it says `verdict` and not Failed: whether that row holds is not
 # known, and its name is not taken. Nor is a name that was cut: the check prints "…" for the middle of a long term.
-ROW = re.compile(r'Failed (?:\(\(\S+ )?"([^"…]+)"')
+ROW = re.compile(r'Failed (?:\(\S+ )?"([^"…]+)"')
 # What refuses an edit, in its own words. An example that is not a row of a table, as all of RelatedExamples, is a theorem: an edit that it
 # refuses has no row, and has to name it.
 SAID = re.compile(r'refused by (row "[^"]+"|the example `[^`]+`)')

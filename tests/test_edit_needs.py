@@ -19,7 +19,7 @@ LOGS = {
     "code/off_by_one": "./proofs/check/Answers.antt:3:5: error: 1 declaration that depends on `close`, which was not admitted, was not checked: returns\n"
     "note: src/lib.rt:3:5: it is not proved that what the function ensures holds when it returns (`returns-in-4`)\n"
     "fn code::number: no proof: expected answers in ./proofs/number/Answers.antt; `search` did not prove `returns-in-4`\n" + REFUSED,
-    "model/by_counts": error("Examples", "starred_hold", 'Failed ((row "D" (call 1)) .name)') + REFUSED,
+    "model/by_counts": error("Examples", "starred_hold", 'Failed (row "D" (call 1)).name') + REFUSED,
     "theory/too_strong": "./specs/BookExamples.antt:90:67: error: `list_ratio`: the two types differ\n" + REFUSED,
     "theory/a_sum": "./specs/Tables.antt:9:6: error: `overflow_add-entries`: the two types differ\n" + REFUSED,
 }
@@ -147,7 +147,7 @@ with_tree(rewritten_with_fault, shape)
 # Rows and examples of crate model: what the first error names, and not a later one, is told, and the edit's own words have to agree with it.
 failed, no_row, says = "Rattle.model.specs.Examples.Failed", f"{model}: the log names no row, at ", f"{model}: the edit says "
 by_row, by_example = ': refused by row "E".', ": refused by the example `no_card`."
-for term in *(f'(({word} "E" (call 1)) .name)' for word in ("act", "refused", "points", "explains", "plans", "refuses")), '"E"':
+for term in *(f'({word} "E" (call 1)).name' for word in ("act", "refused", "points", "explains", "plans", "refuses")), '"E"':
     told(error("SomeExamples", "rows_hold", f"{failed} {term}"), by_row, 'SomeExamples `rows_hold`, row "E"')
 row_e, theorem = error("SomeExamples", "rows_hold", f'{failed} "E"'), error("RelatedExamples", "no_card", "Path ℕ 1 1")
 told(row_e + LOGS[model], by_row, 'SomeExamples `rows_hold`, row "E"')
@@ -155,8 +155,8 @@ told(theorem + LOGS[model], by_example, "RelatedExamples `no_card`")
 told(error("Counts", "ascends", "m ≤ n") + LOGS[model], "", "Counts `ascends`")
 of_model(theorem + LOGS[model], "", f"{no_row}RelatedExamples no_card")
 of_model(theorem + row_e, by_row, f"{no_row}RelatedExamples no_card")
-of_model(error("Examples", "rows_hold", 'verdict ((row "E" (call 1)) .name) (isEq 1 2)'), by_row, f"{no_row}Examples rows_hold")
-of_model(error("Examples", "rows_hold", 'Failed ((row "E…[9 bytes]…E" (call 1)) .name)'), "", f"{no_row}Examples rows_hold")
+of_model(error("Examples", "rows_hold", 'verdict (row "E" (call 1)).name (is_eq 1 2)'), by_row, f"{no_row}Examples rows_hold")
+of_model(error("Examples", "rows_hold", 'Failed (row "E…[9 bytes]…E" (call 1)).name'), "", f"{no_row}Examples rows_hold")
 of_model(LOGS[model] + row_e, by_row, f'{says}row "E", the log Examples `starred_hold`, row "D"')
 of_model(LOGS[model], by_example, f'{says}the example `no_card`, the log Examples `starred_hold`, row "D"')
 of_model(error("RelatedExamples", "larger", "m ≤ n"), by_example, f"{says}the example `no_card`, the log RelatedExamples `larger`")

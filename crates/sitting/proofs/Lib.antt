@@ -3,3 +3,4 @@ mod Replies
 mod Lowest
 mod Submissions
 mod Openings
+mod LeastBarred

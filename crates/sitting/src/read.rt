@@ -9,6 +9,7 @@ use model::{Answer, Refusal, Reply, Sitting};
 use seats::View;
 
 // The answer to reading the least cost, by a view for the caller: refusals 15 and 16.
+#[tactic(auto, using(crate::proofs::LeastBarred::least_barred))]
 fn answer_least(sitting: Sitting, caller: u16, v: View) -> Answer
     ensures { result ≡ answer_to (seen sitting v v) (read_least caller) }
 {

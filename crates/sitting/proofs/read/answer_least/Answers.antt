@@ -13,12 +13,7 @@ returns-then-is_unopened c = search (← closed_phase, ← c.is_unopened.ensures
 pub returns-then-caller-eq0 : goal.returns-then-caller-eq0
 unfolding answer_to act_spec first_of seen
 returns-then-caller-eq0 c =
-    search (← closed_phase, eq-eqb, ← c.is_unopened.ensures, c.if-is_unopened.false)
-
-pub returns-then-sitting-ne2 : goal.returns-then-sitting-ne2
-unfolding answer_to act_spec first_of seen
-returns-then-sitting-ne2 c =
-    search (← closed_phase, ne_eqb, ← c.is_unopened.ensures, c.if-is_unopened.false)
+    search (eq-eqb, ← c.is_unopened.ensures, c.if-is_unopened.false)
 
 pub returns-then-v : goal.returns-then-v
 unfolding answer_to act_spec first_of seen
