@@ -21,7 +21,7 @@ overflow_mul-entries c =
 pub returns-then-table-entries : goal.returns-then-table-entries
 returns-then-table-entries c =
     let (value, (table_after, writes_table)) = short_refused _ _ (sym c.rack_number.ensures ∙ c.if-not-rack_number.false)
-        c.if-table-entries.true in
+    c.if-table-entries.true in
     record { value = value; table_after = table_after; writes_table = writes_table }
 
 pub put_entries-requires : goal.put_entries-requires
@@ -33,5 +33,5 @@ put_entries-requires c =
 pub returns : goal.returns
 returns c =
     let (value, (table_after, writes_table)) = table_given _ _ (sym c.rack_number.ensures ∙ c.if-not-rack_number.false)
-        c.whole_table.ensures c.if-table-entries.false c.put_entries.ensures in
+    c.whole_table.ensures c.if-table-entries.false c.put_entries.ensures in
     record { value = value; table_after = table_after; writes_table = writes_table }

@@ -9,7 +9,7 @@ returns-then-not-keeps_rules c =
 pub returns-then-either_short : goal.returns-then-either_short
 returns-then-either_short c =
     let (value, (plan_after, work_after)) = too_short _ c.args.ratio c.requires c.keeps_rules.ensures c.if-not-keeps_rules.false _ _
-        c.either_short.ensures c.if-either_short.true in
+    c.either_short.ensures c.if-either_short.true in
     record { value = value; plan_after = plan_after; work_after = work_after }
 
 pub plan_over_list-requires : goal.plan_over_list-requires
@@ -20,8 +20,13 @@ plan_over_list-requires c =
 pub returns : goal.returns
 returns c =
     let (value, (plan_after, work_after)) = done _ c.args.ratio c.requires c.keeps_rules.ensures c.if-not-keeps_rules.false _ _
-        c.either_short.ensures c.if-either_short.false (c.plan_over_list.ensures.value, (c.plan_over_list.ensures.plan_after,
-        c.plan_over_list.ensures.work_after)) in
+    c.either_short.ensures c.if-either_short.false (
+      c.plan_over_list.ensures.value,
+      (
+        c.plan_over_list.ensures.plan_after,
+        c.plan_over_list.ensures.work_after,
+      ),
+    ) in
     record { value = value; plan_after = plan_after; work_after = work_after }
 
 pub overflow_mul-asked : goal.overflow_mul-asked

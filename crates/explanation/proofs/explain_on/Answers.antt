@@ -5,7 +5,7 @@ use Rattle.explanation.proofs.explain_on.Goals as goal
 pub returns-then-work-asked : goal.returns-then-work-asked
 returns-then-work-asked c =
     let (value, work_after) = refused_short _ _ c.args.work.now c.requires c.work_bytes-asked.ensures c.if-work-asked.true c.refused.ensures
-        in
+    in
     record { value = value; work_after = work_after }
 
 pub points_of-requires : goal.points_of-requires
@@ -17,11 +17,11 @@ points_of-requires c = record {
 pub returns-in-Cost : goal.returns-in-Cost
 returns-in-Cost c =
     let (value, work_after) = explained _ _ c.args.work.now c.requires c.work_bytes-asked.ensures c.if-work-asked.false c.in-Cost.ensures
-        refl c.points_of.ensures.value c.points_of.ensures.work_after in
+    refl c.points_of.ensures.value c.points_of.ensures.work_after in
     record { value = value; work_after = work_after }
 
 pub returns-in-Refused : goal.returns-in-Refused
 returns-in-Refused c =
     let (value, work_after) = refused_sheet _ _ c.args.work.now c.requires c.work_bytes-asked.ensures c.if-work-asked.false
-        c.in-Refused.ensures refl c.refused-in-Refused.ensures in
+    c.in-Refused.ensures refl c.refused-in-Refused.ensures in
     record { value = value; work_after = work_after }

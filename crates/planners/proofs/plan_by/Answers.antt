@@ -21,6 +21,11 @@ plan_over-requires c = search kind_ready
 pub returns : goal.returns
 returns c =
     let (value, (plan_after, work_after)) = kind_written c.args.kind c.requires _ c.fill_counts-width.ensures.value
-        c.fill_counts-width.ensures.counts_after c.work_bytes-asked.ensures (c.plan_over.ensures.value, (c.plan_over.ensures.plan_after,
-        c.plan_over.ensures.work_after)) in
+    c.fill_counts-width.ensures.counts_after c.work_bytes-asked.ensures (
+      c.plan_over.ensures.value,
+      (
+        c.plan_over.ensures.plan_after,
+        c.plan_over.ensures.work_after,
+      ),
+    ) in
     record { value = value; plan_after = plan_after; work_after = work_after }
