@@ -30,6 +30,7 @@ fn put_count(out: &mut [u8], at: usize, count: u8) -> usize
 }
 
 // Writes a blank and a module's step, or `-` for off.
+#[tactic(auto, unfolding(model::specs::Listing::step_text))]
 fn put_step(out: &mut [u8], at: usize, step: u8) -> usize
     requires { Room (module_text step) at out.old }
     ensures { Written (module_text step) at out.old out.new result }
