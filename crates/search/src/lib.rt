@@ -71,6 +71,7 @@ fn level_price(card: &[u8], h: Header, counts: &[u64], level: usize) -> u64
 
 // The verdict of a slot with load l on a level with its price, by the lead before it. No plan is above a level beyond the list, and every plan is above one
 // whose place below cannot serve.
+#[tactic(auto, using(crate::proofs::LevelPrices::low_top, crate::proofs::LevelPrices::cannot_serve, thresholds::specs::ThresholdLaws::judge_forced))]
 fn judge(
     card: &[u8],
     h: Header,
@@ -98,6 +99,7 @@ fn judge(
 
 // The lead of a level, where the place so far is before in the slot before and place in this one. If they are equal, the slot before has the
 // same level, and its lead; if not, it is above the level, or below it.
+#[tactic(auto, unfolding(thresholds::specs::Thresholds::carried))]
 fn carry(price: u64, before: usize, place: usize, lead: u64) -> u64
     ensures { result ≡ carried price before place lead }
 {
