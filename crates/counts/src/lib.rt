@@ -81,6 +81,7 @@ pub fn fill_all(counts: &mut [u64], m: u64) -> usize
 }
 
 // The value of the count's case in the course book's list (02 §6): the case's last count. A count above 200 is in no case and gets 0.
+#[tactic(auto, unfolding(model::specs::Counts::case_value, model::specs::Counts::printed_cases))]
 fn case_value(count: u64) -> u64
     ensures { result ≡ case_value printed_cases count }
 {
