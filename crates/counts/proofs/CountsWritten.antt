@@ -2,7 +2,7 @@
 -- no power.
 use Rattle.std.specs.Prelude.{ℕ, zero, suc, ◌+◌, ◌-◌, ◌^◌, ◌≤◌, ◌<◌, ◌≡◌, List, [], ◌∷◌, ◌++◌, length, get_or, take, drop, set}
 use Rattle.basics.specs.Core.{sym, ◌∙◌, ap, append_assoc, add-one, arith}
-use Rattle.basics.specs.Core.{length-set, length-append, get_or-append, length-take-le, take-suc-set, drop-set-lt}
+use Rattle.basics.specs.Core.{length-set, length-append, length-take, length-drop, get_or-append, length-take-le, take-suc-set, drop-set-lt}
 use Rattle.basics.specs.Core.{drop-cons, set_at, eq-eqb, ne_eqb}
 use borrow.Rule.Slice.PartMut.{put_mid, mid_of, mid_len, Post-is}
 use Rattle.basics.specs.Lists.{tabulate, length_tabulate, get_or_tabulate, written_over}
@@ -72,11 +72,11 @@ module _ (xs : List ℕ) (m : ℕ) (asked : CoarseRoom xs m) {p : ℕ} (p-is : p
       unfolding joined
       power_list = known.2 ∙ rw (eq-eqb (2 ^ (p - 1)) m (sym at_last ∙ equal))
 
-      power_length : p + 1 ≡ length (coarse_counts m)
+      pub power_length : p + 1 ≡ length (coarse_counts m)
       power_length = sym (ap length power_list ∙ length_zero_and_powers p)
 
-      pub power_done : (p + 1 ≡ length (coarse_counts m)) × (after ≡ written_over (coarse_counts m) xs)
-      power_done = (power_length, rw (← power_length, power_list) after_is)
+      pub power_written : after ≡ written_over (coarse_counts m) xs
+      power_written = rw (← power_length, power_list) after_is
 
     -- Where m is no power, it is joined.
     module _ (other : get_or after p 0 ≡ m → ⊥) where
@@ -84,18 +84,16 @@ module _ (xs : List ℕ) (m : ℕ) (asked : CoarseRoom xs m) {p : ℕ} (p-is : p
       unfolding joined
       other_list = known.2 ∙ rw (ne_eqb (2 ^ (p - 1)) m (λ e. other (at_last ∙ e)))
 
-      other_length : p + 1 + 1 ≡ length (coarse_counts m)
+      pub other_length : p + 1 + 1 ≡ length (coarse_counts m)
       other_length =
           let joined = length-append (zero_and_powers p) (m ∷ []) in
           omega (arith, ap length other_list, length_zero_and_powers p)
 
-      other_written : set after (p + 1) m ≡ written_over (coarse_counts m) xs
+      pub other_written : set after (p + 1) m ≡ written_over (coarse_counts m) xs
       other_written =
           let inside : p + 1 < length xs = omega (arith, known.1, asked.room) in
           rw (← other_length, other_list, after_is, drop-cons xs (p + 1) 0 inside, add-one (p + 1), append_assoc)
           (set_at (zero_and_powers p) _ _ m (p + 1) (length_zero_and_powers p))
 
-      pub other_done :
-          (p + 1 + 1 ≡ length (coarse_counts m)) ×
-          (set after (p + 1) m ≡ written_over (coarse_counts m) xs)
-      other_done = (other_length, other_written)
+-- What becomes of the counts, of how many they are and of the places in them, once the part of the powers is filled.
+pub ruleset filled = (coarse_known, power_length, power_written, other_length, other_written, length-append, length-take, length-drop, length-set)

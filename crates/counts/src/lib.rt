@@ -42,6 +42,7 @@ fn fill_powers(part: &mut [u64])
 }
 
 // The coarse planner's allowed counts for a rack of m: 0, each power of two up to m, and m. Returns how many they are.
+#[tactic(auto, using(crate::proofs::CountsWritten::filled))]
 pub fn fill_coarse(counts: &mut [u64], m: u64) -> usize
     requires { CoarseRoom counts.old m }
     ensures value { result ≡ length (coarse_counts m) }
