@@ -1,5 +1,5 @@
 -- A load shared by n modules: quotient and remainder stay in the table, and the cost is the definition's.
-use Rattle.std.specs.Prelude.{ℕ, ◌+◌, ◌-◌, ◌*◌, ◌/◌, ◌%◌, ◌^◌, ◌≤◌, ◌<◌, ◌≡◌, List}
+use Rattle.std.specs.Prelude.{ℕ, ◌+◌, ◌-◌, ◌*◌, ◌/◌, ◌%◌, ◌^◌, ◌≤◌, ◌<◌, ◌≡◌, refl, List}
 use Rattle.basics.specs.Core.{sym, ◌∙◌, le_of_lt, sub-zero, pos_of_ne-zero, mod-lt}
 use Rattle.basics.specs.Core.{div-le_of_le-mul, mul-le-mul, arith, eq-eqb}
 use mir.Syntax.{w64}
@@ -8,11 +8,12 @@ use Rattle.basics.specs.Division.{quotient_lt, part_and_rest}
 use Rattle.model.specs.Instance.{Instance, instance_of}
 use Rattle.model.specs.MoreLight.{least_from}
 use Rattle.model.specs.Counts.{operating_cost}
-use Rattle.laws.specs.Acceptance.{accepted_bounds}
-use Rattle.laws.specs.LeastSteps.{lowest_step, least_level, least_itself}
+use Rattle.model.specs.Calls.{Accepted}
+use Rattle.laws.specs.Acceptance.{card_size, accepted_bounds}
+use Rattle.laws.specs.Tables.{convex_test}
+use Rattle.laws.specs.LeastSteps.{lowest_step, active_least, least_level, least_itself}
 use Rattle.laws.specs.Operating.{operating_some, operating_bound}
 use Rattle.card.specs.declared.Header.{Header}
-use Rattle.card.proofs.Lowest.{convex_table}
 use Rattle.counts.specs.Serving.{Served}
 
 module _ (n l : ℕ) (some : n ≡ 0 → ⊥) where
@@ -31,7 +32,7 @@ unfolding operating_cost
 cost_none i n l e = rw (eq-eqb n 0 e)
 
 -- The cost of a count above 0 on an accepted card, as the code works it out.
-module _ {s : List ℕ} {h : Header} {n l : ℕ} (p : Served s h n l) (some : n ≡ 0 → ⊥) where
+module _ (s : List ℕ) (n l : ℕ) (accepted : Accepted s) (some : n ≡ 0 → ⊥) where
   abbrev show : Instance
   show = instance_of s
 
@@ -39,24 +40,21 @@ module _ {s : List ℕ} {h : Header} {n l : ℕ} (p : Served s h n l) (some : n 
   cost_by_least = operating_some show n l (pos_of_ne-zero some)
 
   -- Below the lowest step all modules are at the lowest step.
-  pub cost_level : l / n < h.lowest_step → {x : ℕ} → x ≡ show.table h.lowest_step → n * x ≡ operating_cost show n l
-  cost_level below {x} x-is =
-      let value : show.table (lowest_step show) ≡ x = sym (rw p.ready.lowest_is at x-is) in
-      let level : (k : ℕ) → k ≤ h.lowest_step → least_from show k ≡ x =
-      λ k to. least_level show k (omega (arith, p.ready.lowest_is)) ∙ value in
-      rw (cost_by_least, level (l / n) (omega arith), level (l / n + 1) (omega arith))
-      (omega (arith, part_and_rest n (l % n) x (le_of_lt (rest_below n l some))))
+  pub cost_level : l / n < lowest_step show → operating_cost show n l ≡ n * show.table (lowest_step show)
+  cost_level below =
+      rw (cost_by_least, least_level show (l / n) (omega arith), least_level show (l / n + 1) (omega arith))
+      (omega (arith, part_and_rest n (l % n) (show.table (lowest_step show)) (le_of_lt (rest_below n l some))))
 
   -- From the lowest step on G is F.
-  module _ (above : h.lowest_step ≤ l / n) {x : ℕ} (x-is : x ≡ show.table (l / n)) where
+  module _ (above : lowest_step show ≤ l / n) where
     own : (k : ℕ) → l / n ≤ k → least_from show k ≡ show.table k
-    own k from = least_itself show (convex_table p.ready) k (omega (arith, p.ready.lowest_is))
+    own k from = least_itself show ((convex_test _ _).0 (accepted_bounds s accepted).convexity) k (omega arith)
 
-    pub cost_even : l % n ≡ 0 → n * x ≡ operating_cost show n l
-    cost_even e = rw (cost_by_least, own (l / n) (omega arith), e, x-is, sub-zero) (omega arith)
+    pub cost_even : l % n ≡ 0 → operating_cost show n l ≡ n * show.table (l / n)
+    cost_even e = rw (cost_by_least, own (l / n) (omega arith), e, sub-zero) (omega arith)
 
-    pub cost_uneven : {y : ℕ} → y ≡ show.table (l / n + 1) → (n - l % n) * x + l % n * y ≡ operating_cost show n l
-    cost_uneven y-is = rw (cost_by_least, own (l / n) (omega arith), own (l / n + 1) (omega arith), x-is, y-is)
+    pub cost_uneven : operating_cost show n l ≡ (n - l % n) * show.table (l / n) + l % n * show.table (l / n + 1)
+    cost_uneven = rw (cost_by_least, own (l / n) (omega arith), own (l / n + 1) (omega arith)) refl
 
 -- A product of a count and an entry is small, and so is the sum of two.
 module _ {s : List ℕ} {h : Header} {n l : ℕ} (p : Served s h n l) where
@@ -83,3 +81,9 @@ operating_most {s} {h} {n} {l} given =
       given.in_rack,
       (accepted_bounds s given.ready.accepted).modules.1,
     )
+
+pub lowest_within : (i : Instance) → lowest_step i ≤ i.top_step
+lowest_within i = (active_least i 0 (omega arith)).to
+
+-- What the operating cost rests on: the card's length, the cost by the code's three ways, and that products and sums fit.
+pub ruleset cost_steps = (card_size, lowest_within, rest_below, cost_none, cost_level, cost_even, cost_uneven, product_fits, product_small, sum_fits, step_small)

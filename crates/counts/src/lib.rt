@@ -113,6 +113,7 @@ pub fn rounded(count: u64, modules: u64) -> u64
 
 // The operating cost of a count (01: 'running cost'): (n - r)G(q) + rG(q + 1) with q = l / n and r = l % n. Below the lowest step both
 // are F of that step, and from there on G is F; F(q + 1) is read only if r is not 0.
+#[tactic(auto, using(crate::proofs::Shares::cost_steps))]
 pub fn operating_cost(card: &[u8], h: Header, n: u64, l: u64) -> u64
     requires { Served card.now h n l }
     ensures { result ≡ operating_cost (instance_of card.now) n l }
