@@ -1,10 +1,8 @@
 -- A load shared by n modules: quotient and remainder stay in the table, and the cost is the definition's.
 use Rattle.std.specs.Prelude.{ℕ, ◌+◌, ◌-◌, ◌*◌, ◌/◌, ◌%◌, ◌^◌, ◌≤◌, ◌<◌, ◌≡◌, refl, List}
-use Rattle.basics.specs.Core.{sym, ◌∙◌, le_of_lt, sub-zero, pos_of_ne-zero, mod-lt}
+use Rattle.basics.specs.Core.{le_of_lt, sub-zero, pos_of_ne-zero, mod-lt}
 use Rattle.basics.specs.Core.{div-le_of_le-mul, mul-le-mul, arith, eq-eqb}
-use mir.Syntax.{w64}
-use mir.Val.{Fits}
-use Rattle.basics.specs.Division.{quotient_lt, part_and_rest}
+use Rattle.basics.specs.Division.{part_and_rest}
 use Rattle.model.specs.Instance.{Instance, instance_of}
 use Rattle.model.specs.MoreLight.{least_from}
 use Rattle.model.specs.Counts.{operating_cost}
@@ -22,10 +20,6 @@ module _ (n l : ℕ) (some : n ≡ 0 → ⊥) where
 
   pub step_within : (q : ℕ) → l ≤ n * q → l / n ≤ q
   step_within q h = div-le_of_le-mul n h
-
-  -- With a remainder there is a step above the quotient.
-  pub next_within : (q : ℕ) → l ≤ n * q → (l % n ≡ 0 → ⊥) → l / n + 1 ≤ q
-  next_within q h r = omega (arith, quotient_lt n l q h (pos_of_ne-zero r))
 
 pub cost_none : (i : Instance) (n l : ℕ) → n ≡ 0 → 0 ≡ operating_cost i n l
 unfolding operating_cost
@@ -56,21 +50,15 @@ module _ (s : List ℕ) (n l : ℕ) (accepted : Accepted s) (some : n ≡ 0 → 
     pub cost_uneven : operating_cost show n l ≡ (n - l % n) * show.table (l / n) + l % n * show.table (l / n + 1)
     cost_uneven = rw (cost_by_least, own (l / n) (omega arith), own (l / n + 1) (omega arith)) refl
 
--- A product of a count and an entry is small, and so is the sum of two.
+-- A product of a count and an entry is small, and so is a step.
 module _ {s : List ℕ} {h : Header} {n l : ℕ} (p : Served s h n l) where
   pub product_small : {k x : ℕ} → k ≤ n → x < 256 ^ 4 → k * x ≤ 200 * 256 ^ 4
   product_small {k} {x} h b =
       let rack = (accepted_bounds s p.ready.accepted).modules.1 in
       mul-le-mul {n₁ = k} {m₁ = x} {n₂ = 200} {m₂ = 256 ^ 4} (omega (arith, p.in_rack)) (omega arith)
 
-  pub product_fits : {k x : ℕ} → k ≤ n → x < 256 ^ 4 → Fits w64 (k * x)
-  product_fits {k} {x} h b = record { fits = omega (arith, product_small h b) }
-
   pub step_small : (n ≡ 0 → ⊥) → l / n ≤ 200
   step_small some = omega (arith, step_within n l some (instance_of s).top_step p.serves, (accepted_bounds s p.ready.accepted).top_step.1)
-
-pub sum_fits : {a b : ℕ} → a ≤ 200 * 256 ^ 4 → b ≤ 200 * 256 ^ 4 → Fits w64 (a + b)
-sum_fits h g = record { fits = omega arith }
 
 -- A count runs at most 200 modules at 1,000,000 each.
 pub operating_most : {s : List ℕ} {h : Header} {n l : ℕ} → Served s h n l → operating_cost (instance_of s) n l ≤ 200 * 1000000
@@ -82,8 +70,9 @@ operating_most {s} {h} {n} {l} given =
       (accepted_bounds s given.ready.accepted).modules.1,
     )
 
+-- The lowest step is a step of the table.
 pub lowest_within : (i : Instance) → lowest_step i ≤ i.top_step
 lowest_within i = (active_least i 0 (omega arith)).to
 
--- What the operating cost rests on: the card's length, the cost by the code's three ways, and that products and sums fit.
-pub ruleset cost_steps = (card_size, lowest_within, rest_below, cost_none, cost_level, cost_even, cost_uneven, product_fits, product_small, sum_fits, step_small)
+-- What the operating cost rests on: the table's entries are on the card, the cost by each way through the code, and the size of a product.
+pub ruleset cost_steps = (card_size, lowest_within, cost_none, cost_level, cost_even, cost_uneven, product_small)
