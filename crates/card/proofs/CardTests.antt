@@ -1,13 +1,14 @@
 -- What the tests of a card look at, and the refusal that each way through the checks gives.
-use Rattle.std.specs.Prelude.{ℕ, ◌≤◌, ◌<◌, ◌≡◌, refl, Bool, true, false, ◌&&◌, List, length, leb}
-use Rattle.basics.specs.Core.{sym, ◌∙◌, lt-ltb, le-ltb, ltb-false, le-leb, lt-leb}
-use Rattle.basics.specs.Core.{eq-eqb, ne_eqb, eqb-true, not-false}
+use Rattle.std.specs.Prelude.{ℕ, ◌*◌, ◌⊎◌, ◌≤◌, ◌<◌, ◌≡◌, refl, Bool, true, false, ◌&&◌, List, length, leb}
+use Rattle.basics.specs.Core.{sym, ◌∙◌, inl, inr, ⊎_elim, lt-ltb, le-ltb, ltb-false, le-leb, lt-leb}
+use Rattle.basics.specs.Core.{eq-eqb, ne_eqb, eqb-true, not-false, mul-le-mul}
 use Rattle.basics.specs.Lists.{same_list}
-use Rattle.basics.specs.Tests.{or_left}
+use Rattle.basics.specs.Numbers.{le_or_lt}
+use Rattle.basics.specs.Tests.{or_left, every_fails, passed_more, passed_all}
 use Rattle.model.specs.declared.Refusal.TheVariants.{NotACard, Version, RackSize, SlotCount, CardLength, PriceRange, NotConvex, LoadRange}
 use Rattle.model.specs.declared.Answer.{Answer}
 use Rattle.model.specs.declared.Answer.TheVariants.{Cost, Refused}
-use Rattle.model.specs.Instance.{instance_of, head_length, load_place, mark_of, card_mark, version_of, card_length}
+use Rattle.model.specs.Instance.{Instance, instance_of, head_length, load_place, mark_of, card_mark, version_of, card_length}
 use Rattle.model.specs.Instance.{convex, table_in_range, prices_in_range, loads_in_range}
 use Rattle.model.specs.Specs.{front_tests, size_tests, body_tests, first_of}
 use Rattle.laws.specs.FirstRefusal.{none_applies}
@@ -104,3 +105,15 @@ module _ (s : List ℕ) where
             pub body_passed : loads_in_range (instance_of s) ≡ true → Cost 0 ≡ first_among (body_tests (instance_of s))
             unfolding first_among first_of
             body_passed e = rw (prices, rw given.top_is at convex-ok, e)
+
+-- A load of the show keeps its bound, or the loads do not.
+pub load_kept : (i : Instance) (t : ℕ) → t < i.slots → (i.load t ≤ i.modules * i.top_step) ⊎ (false ≡ loads_in_range i)
+unfolding loads_in_range
+load_kept i t there =
+    ⊎_elim
+    (λ (kept : i.load t ≤ i.modules * i.top_step). inl kept)
+    (λ (past : i.modules * i.top_step < i.load t). inr (sym (every_fails i.slots _ t there (lt-leb _ _ past))))
+    (le_or_lt (i.load t) (i.modules * i.top_step))
+
+-- What the loop over the loads rests on.
+pub ruleset loads_tested = (passed_more, passed_all, load_kept, mul-le-mul)

@@ -298,6 +298,7 @@ fn lowest_step(card: &[u8], h: Header) -> u64
     k
 }
 
+#[tactic(auto, using(crate::proofs::CardTests::loads_tested), unfolding(model::specs::Instance::loads_in_range))]
 fn loads_in_range(card: &[u8], h: Header) -> bool
     requires { Sized card.now h }
     ensures { result ≡ loads_in_range (instance_of card.now) }
