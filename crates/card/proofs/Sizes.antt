@@ -27,6 +27,3 @@ module _ {s : List ℕ} {h : Header} (r : Ready s h) where
 
   pub sheet_size_fits : Fits w64 (h.modules * h.slots)
   sheet_size_fits = product_fits h.modules (omega (arith, r.header.modules_bound))
-
-  pub work_size_fits : Fits w64 ((h.modules + 1) * h.slots)
-  work_size_fits = product_fits (h.modules + 1) (omega (arith, r.header.modules_bound))

@@ -85,9 +85,6 @@ module _ {s : List ℕ} {h : Header} {plan out : List ℕ} (p : PlannedText s h 
   abbrev t : h.slots ≡ i.slots
   t = p.ready.header.slots_is
 
-  pub slots_within : h.slots ≤ length plan
-  slots_within = omega (arith, t, p.slots)
-
   entries_few : h.modules * h.slots ≤ 65536
   unfolding work_bytes
   entries_few = rw (m, t) (omega (arith, p.work))

@@ -16,7 +16,7 @@ use Rattle.plans.specs.PlanRequires.{PlanReady}
 use Rattle.search.specs.SearchRequires.{Searchable}
 use Rattle.search.proofs.LevelPrices.{few_places}
 use Rattle.planners.specs.PlannerRequires.{CountsReady}
-use Rattle.planners.proofs.Fronts.{front_is, front_within, front_length}
+use Rattle.planners.proofs.Fronts.{front_is}
 
 -- A cost and two buffers at exit are those of the least plan over counts, where p and w are the buffers at entry.
 abbrev pub LeastWritten : Instance → (counts : List ℕ) (asked : ℕ) (p w : List ℕ) (cost : ℕ) (plan work : List ℕ) → Type 0
@@ -58,12 +58,6 @@ module _ {s : List ℕ} {h : Header} {counts : List ℕ} {asked : ℕ} {p w : Li
         let digits = digits_known (last_place counts) (omega (arith, few_places searchable.on_card)) in
         let least : made ≡ least_plan (instance_of s) counts = made-is ∙ threshold_plan_lem plannable counts given.allowed _ digits.0 in
         ap (λ (l : List ℕ). l ++ drop h.slots p) least ∙ ap (λ (n : ℕ). least_plan (instance_of s) counts ++ drop n p) size
-
-    pub made_within : h.slots ≤ length (made ++ drop h.slots p)
-    made_within = front_within (least_plan (instance_of s) counts) p size filled
-
-    pub made_length : h.slots ≡ length (take h.slots (made ++ drop h.slots p))
-    made_length = front_length (least_plan (instance_of s) counts) p size filled
 
     pub made_ready : PlanReady s h (take h.slots (made ++ drop h.slots p))
     made_ready =
