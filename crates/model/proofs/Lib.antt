@@ -1,2 +1,2 @@
--- Examples that rest on one another: they stand here, so that an edit of a definition is refused by them and not for them.
+-- Examples of which one rests on another. In specs/ an edit of a definition that makes them false would be taken for text that cannot be read.
 mod PlannedExamples
