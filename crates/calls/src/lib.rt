@@ -6,7 +6,7 @@ ghost use Rattle.std.specs.Prelude.{◌≡◌};
 ghost use Rattle.model.specs.Calls.{answer, check_card, running_cost, make_sheet, mark_sheet, round_count, sheet_at_exit};
 ghost use Rattle.card.specs.Checking.{Ready};
 
-use card::{Checked, Header};
+use card::Header;
 use model::{Answer, Refusal};
 
 // Checks a card: refusals 1 to 8, else cost 0.
@@ -14,8 +14,8 @@ pub fn check_card(card: &[u8]) -> Answer
     ensures { result ≡ answer (check_card card.now) }
 {
     match card::check(card) {
-        Checked::Valid(_) => Answer::Cost(0),
-        Checked::Invalid(x) => Answer::Refused(x),
+        Ok(_) => Ok(0),
+        Err(x) => Err(x),
     }
 }
 
@@ -25,12 +25,12 @@ fn running_cost_on(card: &[u8], h: Header, count: u64, load: u64) -> Answer
     ensures { result ≡ answer (running_cost card.now count load) }
 {
     if h.modules < count {
-        return Answer::Refused(Refusal::EntryRange);
+        return Err(Refusal::EntryRange);
     }
     if count * h.top_step < load {
-        return Answer::Refused(Refusal::LoadNotServed);
+        return Err(Refusal::LoadNotServed);
     }
-    Answer::Cost(counts::operating_cost(card, h, count, load))
+    Ok(counts::operating_cost(card, h, count, load))
 }
 
 // The running cost of a count and a load: refusals 1 to 8, 12, 13.
@@ -38,8 +38,8 @@ pub fn running_cost(card: &[u8], count: u64, load: u64) -> Answer
     ensures { result ≡ answer (running_cost card.now count load) }
 {
     match card::check(card) {
-        Checked::Valid(h) => running_cost_on(card, h, count, load),
-        Checked::Invalid(x) => Answer::Refused(x),
+        Ok(h) => running_cost_on(card, h, count, load),
+        Err(x) => Err(x),
     }
 }
 
@@ -48,12 +48,12 @@ pub fn rounded_count(count: u64, modules: u64) -> Answer
     ensures { result ≡ answer (round_count count modules) }
 {
     if !card::rack_number(modules) {
-        return Answer::Refused(Refusal::RackSize);
+        return Err(Refusal::RackSize);
     }
     if modules < count {
-        return Answer::Refused(Refusal::EntryRange);
+        return Err(Refusal::EntryRange);
     }
-    Answer::Cost(counts::rounded(count, modules))
+    Ok(counts::rounded(count, modules))
 }
 
 // Refusals 10 to 13 of the sheet call on an accepted card, or the plan's cost.
@@ -63,19 +63,19 @@ fn check_plan(card: &[u8], h: Header, plan: &[u8], sheet: &[u8]) -> Answer
 {
     let size = (h.modules * h.slots) as usize;
     if sheet.len() < size {
-        return Answer::Refused(Refusal::BufferTooShort);
+        return Err(Refusal::BufferTooShort);
     }
     let slots = h.slots as usize;
     if plan.len() != slots {
-        return Answer::Refused(Refusal::WrongLength);
+        return Err(Refusal::WrongLength);
     }
     if !plans::plan_in_rack(card, h, plan) {
-        return Answer::Refused(Refusal::EntryRange);
+        return Err(Refusal::EntryRange);
     }
     if !plans::plan_serves(card, h, plan) {
-        return Answer::Refused(Refusal::LoadNotServed);
+        return Err(Refusal::LoadNotServed);
     }
-    Answer::Cost(plans::plan_cost(card, h, plan))
+    Ok(plans::plan_cost(card, h, plan))
 }
 
 // The sheet of a plan on an accepted card: the plan is checked whole before the first byte is written.
@@ -85,7 +85,7 @@ pub fn make_sheet_on(card: &[u8], h: Header, plan: &[u8], sheet: &mut [u8]) -> A
     ensures sheet_after { sheet.new ≡ sheet_at_exit (make_sheet card.now plan.now sheet.old) }
 {
     let answer = check_plan(card, h, plan, &sheet[..]);
-    if let Answer::Cost(_) = answer {
+    if let Ok(_) = answer {
         sheets::write_sheet(card, h, plan, sheet);
     }
     answer
@@ -97,8 +97,8 @@ pub fn make_sheet(card: &[u8], plan: &[u8], sheet: &mut [u8]) -> Answer
     ensures sheet_after { sheet.new ≡ sheet_at_exit (make_sheet card.now plan.now sheet.old) }
 {
     match card::check(card) {
-        Checked::Valid(h) => make_sheet_on(card, h, plan, sheet),
-        Checked::Invalid(x) => Answer::Refused(x),
+        Ok(h) => make_sheet_on(card, h, plan, sheet),
+        Err(x) => Err(x),
     }
 }
 
@@ -109,15 +109,15 @@ pub fn mark_sheet_on(card: &[u8], h: Header, sheet: &[u8]) -> Answer
 {
     let size = (h.modules * h.slots) as usize;
     if sheet.len() != size {
-        return Answer::Refused(Refusal::WrongLength);
+        return Err(Refusal::WrongLength);
     }
     if !sheets::sheet_entries(card, h, sheet) {
-        return Answer::Refused(Refusal::EntryRange);
+        return Err(Refusal::EntryRange);
     }
     if !sheets::sheet_light(card, h, sheet) {
-        return Answer::Refused(Refusal::LoadNotServed);
+        return Err(Refusal::LoadNotServed);
     }
-    Answer::Cost(sheets::sheet_cost(card, h, sheet))
+    Ok(sheets::sheet_cost(card, h, sheet))
 }
 
 // The cost of a handed-in sheet, module by module: refusals 1 to 8, 11 to 13.
@@ -125,7 +125,7 @@ pub fn mark_sheet(card: &[u8], sheet: &[u8]) -> Answer
     ensures { result ≡ answer (mark_sheet card.now sheet.now) }
 {
     match card::check(card) {
-        Checked::Valid(h) => mark_sheet_on(card, h, sheet),
-        Checked::Invalid(x) => Answer::Refused(x),
+        Ok(h) => mark_sheet_on(card, h, sheet),
+        Err(x) => Err(x),
     }
 }

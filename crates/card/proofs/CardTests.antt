@@ -6,8 +6,8 @@ use Rattle.basics.specs.Lists.{same_list}
 use Rattle.basics.specs.Numbers.{le_or_lt}
 use Rattle.basics.specs.Tests.{or_left, every_fails, passed_more, passed_all}
 use Rattle.model.specs.declared.Refusal.TheVariants.{NotACard, Version, RackSize, SlotCount, CardLength, PriceRange, NotConvex, LoadRange}
-use Rattle.model.specs.declared.Answer.{Answer}
-use Rattle.model.specs.declared.Answer.TheVariants.{Cost, Refused}
+use Rattle.model.specs.Answers.{Answer}
+use Rattle.std.specs.Prelude.{Ok, Err}
 use Rattle.model.specs.Instance.{Instance, instance_of, head_length, load_place, mark_of, card_mark, version_of, card_length}
 use Rattle.model.specs.Instance.{convex, table_in_range, prices_in_range, loads_in_range}
 use Rattle.model.specs.Specs.{front_tests, size_tests, body_tests, first_of}
@@ -18,52 +18,52 @@ use Rattle.card.specs.Checking.{rack_fits, first_among}
 
 -- Each lemma below is one way through the code: the tests passed and the one that failed.
 module _ (s : List ℕ) where
-  pub front_short : length s < head_length → Refused NotACard ≡ first_among (front_tests s)
+  pub front_short : length s < head_length → Err NotACard ≡ first_among (front_tests s)
   unfolding first_among first_of
   front_short h = rw (lt-ltb _ _ h)
 
-  pub front_unmarked : head_length ≤ length s → same_list (mark_of s) card_mark ≡ false → Refused NotACard ≡ first_among (front_tests s)
+  pub front_unmarked : head_length ≤ length s → same_list (mark_of s) card_mark ≡ false → Err NotACard ≡ first_among (front_tests s)
   unfolding first_among first_of
   front_unmarked h e = rw (le-ltb _ _ h, e)
 
   module _ (long : head_length ≤ length s) (marked : same_list (mark_of s) card_mark ≡ true) {v : ℕ} (is : v ≡ version_of s) where
-    pub front_version : (v ≡ 1 → ⊥) → Refused Version ≡ first_among (front_tests s)
+    pub front_version : (v ≡ 1 → ⊥) → Err Version ≡ first_among (front_tests s)
     unfolding first_among first_of
     front_version n = rw (le-ltb _ _ long, marked, rw is at (ne_eqb v 1 n))
 
-    pub front_passed : v ≡ 1 → Cost 0 ≡ first_among (front_tests s)
+    pub front_passed : v ≡ 1 → Ok 0 ≡ first_among (front_tests s)
     unfolding first_among first_of
     front_passed e = rw (le-ltb _ _ long, marked, rw is at (eq-eqb v 1 e))
 
   -- A card that passes refusals 1 and 2 has its head.
-  pub front_length : {a : Answer} {n : ℕ} → a ≡ first_among (front_tests s) → a ≡ Cost n → head_length ≤ length s
+  pub front_length : {a : Answer} {n : ℕ} → a ≡ first_among (front_tests s) → a ≡ Ok n → head_length ≤ length s
   unfolding first_among
   front_length is e = ltb-false _ _ (or_left _ _ (none_applies _ _ (sym is ∙ e)).0)
 
   module _ (h : Header) (given : HeaderOf s h) where
-    pub size_rack : rack_fits h ≡ false → Refused RackSize ≡ first_among (size_tests s)
+    pub size_rack : rack_fits h ≡ false → Err RackSize ≡ first_among (size_tests s)
     unfolding first_among first_of
     size_rack e = rw (← given.modules_is, ← given.top_is, e)
 
     module _ (rack-ok : rack_fits h ≡ true) where
-      pub size_slots : 1024 < h.slots → Refused SlotCount ≡ first_among (size_tests s)
+      pub size_slots : 1024 < h.slots → Err SlotCount ≡ first_among (size_tests s)
       unfolding first_among first_of
       size_slots g = rw (← given.modules_is, ← given.top_is, rack-ok, ← given.slots_is, lt-ltb _ _ g)
 
       module _ (slots-ok : h.slots ≤ 1024) where
         module _ {n : ℕ} (n-is : n ≡ load_place h.top_step h.slots) where
-          pub size_length : (length s ≡ n → ⊥) → Refused CardLength ≡ first_among (size_tests s)
+          pub size_length : (length s ≡ n → ⊥) → Err CardLength ≡ first_among (size_tests s)
           unfolding first_among first_of card_length
           size_length wrong =
               rw (← given.modules_is, ← given.top_is, rack-ok, ← given.slots_is, le-ltb _ _ slots-ok, rw n-is at (ne_eqb (length s) n wrong))
 
-          pub size_passed : length s ≡ n → Cost 0 ≡ first_among (size_tests s)
+          pub size_passed : length s ≡ n → Ok 0 ≡ first_among (size_tests s)
           unfolding first_among first_of card_length
           size_passed right =
               rw (← given.modules_is, ← given.top_is, rack-ok, ← given.slots_is, le-ltb _ _ slots-ok, rw n-is at (eq-eqb (length s) n right))
 
     -- A card that passes refusals 3 to 5 has the length its header says.
-    pub size_of : {a : Answer} {n : ℕ} → a ≡ first_among (size_tests s) → a ≡ Cost n → Sized s h
+    pub size_of : {a : Answer} {n : ℕ} → a ≡ first_among (size_tests s) → a ≡ Ok n → Sized s h
     unfolding first_among card_length
     size_of is e =
         let (rack, (slots, (size, none))) = none_applies _ _ (sym is ∙ e) in
@@ -75,17 +75,17 @@ module _ (s : List ℕ) where
     unfolding prices_in_range
     price_test e f g = rw (← given.up_is, ← given.down_is, ← given.top_is, e, f, g)
 
-    pub body_up : 500000000 < h.power_up → Refused PriceRange ≡ first_among (body_tests (instance_of s))
+    pub body_up : 500000000 < h.power_up → Err PriceRange ≡ first_among (body_tests (instance_of s))
     unfolding first_among first_of
     body_up e = rw (price_test (lt-leb _ _ e) refl refl)
 
     module _ (up_ok : h.power_up ≤ 500000000) where
-      pub body_down : 500000000 < h.power_down → Refused PriceRange ≡ first_among (body_tests (instance_of s))
+      pub body_down : 500000000 < h.power_down → Err PriceRange ≡ first_among (body_tests (instance_of s))
       unfolding first_among first_of
       body_down e = rw (price_test (le-leb _ _ up_ok) (lt-leb _ _ e) refl)
 
       module _ (down-ok : h.power_down ≤ 500000000) where
-        pub body_table : table_in_range h.top_step (instance_of s).table ≡ false → Refused PriceRange ≡ first_among (body_tests (instance_of s))
+        pub body_table : table_in_range h.top_step (instance_of s).table ≡ false → Err PriceRange ≡ first_among (body_tests (instance_of s))
         unfolding first_among first_of
         body_table e = rw (price_test (le-leb _ _ up_ok) (le-leb _ _ down-ok) e)
 
@@ -93,16 +93,16 @@ module _ (s : List ℕ) where
           prices : prices_in_range (instance_of s) ≡ true
           prices = price_test (le-leb _ _ up_ok) (le-leb _ _ down-ok) table-ok
 
-          pub body_not_convex : convex h.top_step (instance_of s).table ≡ false → Refused NotConvex ≡ first_among (body_tests (instance_of s))
+          pub body_not_convex : convex h.top_step (instance_of s).table ≡ false → Err NotConvex ≡ first_among (body_tests (instance_of s))
           unfolding first_among first_of
           body_not_convex e = rw (prices, ← given.top_is, e)
 
           module _ (convex-ok : convex h.top_step (instance_of s).table ≡ true) where
-            pub body_load : loads_in_range (instance_of s) ≡ false → Refused LoadRange ≡ first_among (body_tests (instance_of s))
+            pub body_load : loads_in_range (instance_of s) ≡ false → Err LoadRange ≡ first_among (body_tests (instance_of s))
             unfolding first_among first_of
             body_load e = rw (prices, rw given.top_is at convex-ok, e)
 
-            pub body_passed : loads_in_range (instance_of s) ≡ true → Cost 0 ≡ first_among (body_tests (instance_of s))
+            pub body_passed : loads_in_range (instance_of s) ≡ true → Ok 0 ≡ first_among (body_tests (instance_of s))
             unfolding first_among first_of
             body_passed e = rw (prices, rw given.top_is at convex-ok, e)
 

@@ -1,14 +1,12 @@
 -- What checking a card gives, `checked_of`, and an accepted card with its header, `Ready`, which the crates above ask for.
-use Rattle.std.specs.Prelude.{ℕ, ◌+◌, ◌≤◌, ◌≡◌, Bool, true, ◌&&◌, List}
-use Rattle.model.specs.declared.Answer.{Answer}
-use Rattle.model.specs.declared.Answer.TheVariants.{Cost, Refused}
+use Rattle.std.specs.Prelude.{ℕ, Result, Ok, Err, ◌+◌, ◌≤◌, ◌≡◌, Bool, true, ◌&&◌, List}
+use Rattle.model.specs.declared.Refusal.{Refusal}
+use Rattle.model.specs.Answers.{Answer}
 use Rattle.model.specs.Instance.{instance_of, rack_number, convex}
 use Rattle.model.specs.Specs.{Test, first_of}
 use Rattle.model.specs.Calls.{check_card, answer, Accepted}
 use Rattle.laws.specs.LeastSteps.{lowest_step}
 use Rattle.card.specs.declared.Header.{Header}
-use Rattle.card.specs.declared.Checked.{Checked}
-use Rattle.card.specs.declared.Checked.TheVariants.{Valid, Invalid}
 use Rattle.card.specs.Fields.{HeaderOf, Sized}
 
 -- The card has the entries F(k), F(k + 1) and F(k + 2).
@@ -39,12 +37,16 @@ header_of s =
 
 -- The first of some tests that applies, or the cost 0.
 unfoldable pub first_among : List Test → Answer
-first_among ts = first_of ts (Cost 0)
+first_among ts = first_of ts (Ok 0)
+
+-- The result of a check: the header of an accepted card, or the lowest refusal.
+abbrev pub Checked : Type 0
+Checked = Result Header Refusal
 
 -- The result of a check, by the card's answer and its header.
 abbrev pub checked_as : Answer → Header → Checked
-checked_as (Cost c) h = Valid h
-checked_as (Refused x) h = Invalid x
+checked_as (Ok c) h = Ok h
+checked_as (Err x) h = Err x
 
 -- The result of a check: the card's header where it is accepted, else its refusal.
 unfoldable pub checked_of : List ℕ → Checked

@@ -96,11 +96,7 @@ pub struct Header {
 }
 
 // The answer of the check: the header of an accepted card, or the lowest refusal.
-#[derive(Clone, Copy)]
-pub enum Checked {
-    Valid(Header),
-    Invalid(Refusal),
-}
+pub type Checked = Result<Header, Refusal>;
 
 // The table's entry F(k).
 pub fn entry(card: &[u8], h: Header, k: u64) -> u64
@@ -212,15 +208,15 @@ fn check_front(card: &[u8]) -> Answer
     ensures { result ≡ first_among (front_tests card.now) }
 {
     if card.len() < HEAD_LENGTH as usize {
-        return Answer::Refused(Refusal::NotACard);
+        return Err(Refusal::NotACard);
     }
     if !has_mark(card) {
-        return Answer::Refused(Refusal::NotACard);
+        return Err(Refusal::NotACard);
     }
     if version(card) != 1 {
-        return Answer::Refused(Refusal::Version);
+        return Err(Refusal::Version);
     }
-    Answer::Cost(0)
+    Ok(0)
 }
 
 // Refusals 3 to 5.
@@ -229,15 +225,15 @@ fn check_size(card: &[u8], h: Header) -> Answer
     ensures { result ≡ first_among (size_tests card.now) }
 {
     if !rack_in_range(h) {
-        return Answer::Refused(Refusal::RackSize);
+        return Err(Refusal::RackSize);
     }
     if 1024 < h.slots {
-        return Answer::Refused(Refusal::SlotCount);
+        return Err(Refusal::SlotCount);
     }
     if card.len() != load_place(h, h.slots) {
-        return Answer::Refused(Refusal::CardLength);
+        return Err(Refusal::CardLength);
     }
-    Answer::Cost(0)
+    Ok(0)
 }
 
 // F(0) to F(Q) are at most 1,000,000.
@@ -321,21 +317,21 @@ fn check_body(card: &[u8], h: Header) -> Answer
     ensures { result ≡ first_among (body_tests (instance_of card.now)) }
 {
     if 500000000 < h.power_up {
-        return Answer::Refused(Refusal::PriceRange);
+        return Err(Refusal::PriceRange);
     }
     if 500000000 < h.power_down {
-        return Answer::Refused(Refusal::PriceRange);
+        return Err(Refusal::PriceRange);
     }
     if !table_in_range(card, h) {
-        return Answer::Refused(Refusal::PriceRange);
+        return Err(Refusal::PriceRange);
     }
     if !is_convex(card, h) {
-        return Answer::Refused(Refusal::NotConvex);
+        return Err(Refusal::NotConvex);
     }
     if !loads_in_range(card, h) {
-        return Answer::Refused(Refusal::LoadRange);
+        return Err(Refusal::LoadRange);
     }
-    Answer::Cost(0)
+    Ok(0)
 }
 
 // Refusals 1 to 8, or the header of an accepted card.
@@ -343,21 +339,21 @@ pub fn check(card: &[u8]) -> Checked
     ensures { result ≡ checked_of card.now }
 {
     let front = check_front(card);
-    if let Answer::Refused(x) = front {
-        return Checked::Invalid(x);
+    if let Err(x) = front {
+        return Err(x);
     }
     let h = read_header(card);
     let size = check_size(card, h);
-    if let Answer::Refused(x) = size {
-        return Checked::Invalid(x);
+    if let Err(x) = size {
+        return Err(x);
     }
     let body = check_body(card, h);
-    if let Answer::Refused(x) = body {
-        return Checked::Invalid(x);
+    if let Err(x) = body {
+        return Err(x);
     }
     let mut accepted = h;
     accepted.lowest_step = lowest_step(card, h);
-    Checked::Valid(accepted)
+    Ok(accepted)
 }
 
 // The step at which a module is active for step k: on a convex table the greater of k and the lowest step.

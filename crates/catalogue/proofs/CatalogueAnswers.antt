@@ -6,8 +6,8 @@ use Rattle.basics.specs.Lists.{written_over}
 use Rattle.basics.specs.Rows.{element_bytes, length_numbers, taken_bytes}
 use Rattle.basics.specs.Writing.{Room}
 use Rattle.model.specs.declared.Refusal.TheVariants.{RackSize, BufferTooShort}
-use Rattle.model.specs.declared.Answer.{Answer}
-use Rattle.model.specs.declared.Answer.TheVariants.{Cost, Refused}
+use Rattle.model.specs.Answers.{Answer}
+use Rattle.std.specs.Prelude.{Ok, Err}
 use Rattle.model.specs.Answers.{number_of}
 use Rattle.model.specs.Instance.{table_size, rack_number}
 use Rattle.model.specs.Catalogue.{catalogue_top, catalogue_entry, entry_of, TestedTable, catalogue_bytes}
@@ -38,22 +38,22 @@ module _ (top : ℕ) (table : List ℕ) where
   -- A top step outside 1 to 200 is refused, and the area is as it was.
   pub top_refused :
       rack_number top ≡ false →
-      (Refused RackSize ≡ answer (catalogue_table top table)) ×
-      ((table ≡ table_at_exit (catalogue_table top table)) × WritesTable top table (number_of (Refused RackSize)))
+      (Err RackSize ≡ answer (catalogue_table top table)) ×
+      ((table ≡ table_at_exit (catalogue_table top table)) × WritesTable top table (number_of (Err RackSize)))
   unfolding answer spec_of first_of at_exit
   top_refused e =
-      let given : answer (catalogue_table top table) ≡ Refused RackSize = rw e refl in
+      let given : answer (catalogue_table top table) ≡ Err RackSize = rw e refl in
       (sym given, (exit_by given, refused_writes))
 
   module _ (ranged : rack_number top ≡ true) where
     -- An area that is too short is refused, and is as it was.
     pub short_refused :
         length table < table_size top →
-        (Refused BufferTooShort ≡ answer (catalogue_table top table)) ×
-        ((table ≡ table_at_exit (catalogue_table top table)) × WritesTable top table (number_of (Refused BufferTooShort)))
+        (Err BufferTooShort ≡ answer (catalogue_table top table)) ×
+        ((table ≡ table_at_exit (catalogue_table top table)) × WritesTable top table (number_of (Err BufferTooShort)))
     unfolding answer spec_of first_of any_short at_exit
     short_refused h =
-        let given : answer (catalogue_table top table) ≡ Refused BufferTooShort = rw (ranged, lt-ltb _ _ h) refl in
+        let given : answer (catalogue_table top table) ≡ Err BufferTooShort = rw (ranged, lt-ltb _ _ h) refl in
         (sym given, (exit_by given, refused_writes))
 
     most : top ≤ catalogue_top
@@ -86,10 +86,10 @@ module _ (top : ℕ) (table : List ℕ) where
       -- An area that is long enough holds them at exit, and behind them what it held before.
       pub table_given :
           {new : List ℕ} → new ≡ written_over (element_bytes 4 (take (top + 1) whole)) table →
-          (Cost 0 ≡ answer (catalogue_table top table)) × ((new ≡ table_at_exit (catalogue_table top table)) × WritesTable top new 0)
+          (Ok 0 ≡ answer (catalogue_table top table)) × ((new ≡ table_at_exit (catalogue_table top table)) × WritesTable top new 0)
       unfolding answer spec_of first_of any_short at_exit
       table_given {new} written =
-          let given : answer (catalogue_table top table) ≡ Cost 0 = rw (ranged, le-ltb _ _ long) refl in
+          let given : answer (catalogue_table top table) ≡ Ok 0 = rw (ranged, le-ltb _ _ long) refl in
           let over : new ≡ written_over (catalogue_bytes top) table = rw bytes_are at written in
           let front : take (table_size top) new ≡ catalogue_bytes top = rw over (take_at (catalogue_bytes top) _ (table_size top) bytes_size) in
           (sym given, (over ∙ exit_by given, writes_table front))

@@ -37,13 +37,13 @@ pub fn catalogue_table(top: u64, table: &mut [u8]) -> Answer
     ensures writes_table { WritesTable top table.new (number_of result) }
 {
     if !card::rack_number(top) {
-        return Answer::Refused(Refusal::RackSize);
+        return Err(Refusal::RackSize);
     }
     let last = top as usize;
     let entries = last + 1;
     if table.len() < 4 * entries {
-        return Answer::Refused(Refusal::BufferTooShort);
+        return Err(Refusal::BufferTooShort);
     }
     put_entries(table, entries, whole_table());
-    Answer::Cost(0)
+    Ok(0)
 }

@@ -4,7 +4,7 @@ use Rattle.basics.specs.Core.{sym, ◌∙◌, arith}
 use mir.Syntax.{w64}
 use mir.Val.{Fits}
 use Rattle.model.specs.declared.Refusal.TheVariants.{BufferTooShort, CountList}
-use Rattle.model.specs.declared.Answer.TheVariants.{Cost, Refused}
+use Rattle.std.specs.Prelude.{Ok, Err}
 use Rattle.model.specs.Instance.{instance_of}
 use Rattle.model.specs.CountRules.{keeps_rules}
 use Rattle.model.specs.Planners.{Planner, listed, allowed_counts, work_bytes}
@@ -24,7 +24,7 @@ module _ (l : List ℕ) (r : ℕ) {s : List ℕ} {h : Header} (ready : Ready s h
   same_rules : kept ≡ keeps_rules l r (instance_of s).modules
   same_rules = rw ready.header.modules_is at rules
 
-  pub broken : (p w : List ℕ) → kept ≡ false → Planned k s p w (Refused CountList) p w
+  pub broken : (p w : List ℕ) → kept ≡ false → Planned k s p w (Err CountList) p w
   broken p w no-rules = plan_unlisted k s p w ready (sym same_rules ∙ no-rules)
 
   module _ (passed : kept ≡ true) where
@@ -43,7 +43,7 @@ module _ (l : List ℕ) (r : ℕ) {s : List ℕ} {h : Header} (ready : Ready s h
       same : short ≡ short_for k (instance_of s) (length p) (length w)
       same = rw asked_is at is
 
-      pub too_short : short ≡ true → Planned k s p w (Refused BufferTooShort) p w
+      pub too_short : short ≡ true → Planned k s p w (Err BufferTooShort) p w
       too_short = plan_short k s p w ready keeps same
 
       module _ (none : short ≡ false) where
@@ -56,5 +56,5 @@ module _ (l : List ℕ) (r : ℕ) {s : List ℕ} {h : Header} (ready : Ready s h
 
         pub done :
             {cost : ℕ} {plan work : List ℕ} → LeastWritten (instance_of s) l (length l * h.slots) p w cost plan work →
-            Planned k s p w (Cost cost) plan work
+            Planned k s p w (Ok cost) plan work
         done found = plan_done k s p w ready keeps same none (plan_written k (buffers_given ready same none) keeps own asked_is found)

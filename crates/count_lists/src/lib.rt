@@ -10,7 +10,7 @@ ghost use Rattle.model.specs.Calls.{plan_show, answer, plan_at_exit, work_at_exi
 ghost use Rattle.card.specs.Checking.{Ready};
 ghost use Rattle.planners.specs.PlannerRequires.{CountsReady};
 
-use card::{Checked, Header};
+use card::Header;
 use model::{Answer, Refusal};
 
 // The entries of a list as numbers of eight bytes.
@@ -60,13 +60,13 @@ fn plan_listed_on(
     ensures work_after { work.new ≡ work_at_exit (plan_show (listed list.now ratio) card.now plan.old work.old) }
 {
     if !count_rules::keeps_rules(list, ratio, h.modules) {
-        return Answer::Refused(Refusal::CountList);
+        return Err(Refusal::CountList);
     }
     let asked = list.len() * (h.slots as usize);
     if planners::either_short(card, h, asked, plan.len(), work.len()) {
-        return Answer::Refused(Refusal::BufferTooShort);
+        return Err(Refusal::BufferTooShort);
     }
-    Answer::Cost(plan_over_list(card, h, list, asked, plan, work))
+    Ok(plan_over_list(card, h, list, asked, plan, work))
 }
 
 // The planner over a list: refusals 1 to 8, 18 and 10, in this order.
@@ -82,7 +82,7 @@ pub fn plan_listed(
     ensures work_after { work.new ≡ work_at_exit (plan_show (listed list.now ratio) card.now plan.old work.old) }
 {
     match card::check(card) {
-        Checked::Valid(h) => plan_listed_on(card, h, list, ratio, plan, work),
-        Checked::Invalid(x) => Answer::Refused(x),
+        Ok(h) => plan_listed_on(card, h, list, ratio, plan, work),
+        Err(x) => Err(x),
     }
 }

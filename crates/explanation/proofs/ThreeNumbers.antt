@@ -5,7 +5,7 @@ use Rattle.basics.specs.Core.{sym, ap, ◌∙◌, mul-le-mul, mul_comm, sub-le, 
 use mir.Syntax.{w64}
 use mir.Val.{Fits}
 use Rattle.basics.specs.Sums.{sum_at_most}
-use Rattle.model.specs.declared.Answer.TheVariants.{Cost}
+use Rattle.std.specs.Prelude.{Ok}
 use Rattle.model.specs.declared.Points.{Points}
 use Rattle.model.specs.Instance.{instance_of}
 use Rattle.model.specs.Sheets.{sheet_length, sheet_cost, counts_of}
@@ -130,7 +130,7 @@ module _ {s : List ℕ} {h : Header} {sheet : List ℕ} {cost : ℕ} (m : Marked
                 counts = planned - least;
               }
 
-          pub three_numbers : found ≡ points_with (Cost 0) (instance_of s) sheet
+          pub three_numbers : found ≡ points_with (Ok 0) (instance_of s) sheet
           unfolding points_with excess_switching_cost excess_of_counts
           three_numbers =
               let spread : found.spread ≡ excess_operating_cost (instance_of s) sheet = omega (arith, above_planned) in

@@ -4,7 +4,7 @@
 
 ghost use Rattle.std.specs.Prelude.{◌≡◌, ◌-◌, ◌≤◌, length, replicate};
 ghost use Rattle.basics.specs.Lists.{written_over};
-ghost use Rattle.model.specs.declared.Answer.TheVariants.{Cost};
+ghost use Rattle.std.specs.Prelude.{Ok};
 ghost use Rattle.model.specs.Instance.{instance_of};
 ghost use Rattle.model.specs.Sheets.{active_of, counts_of};
 ghost use Rattle.model.specs.Planners.{exact, work_bytes};
@@ -15,7 +15,7 @@ ghost use Rattle.sheets.specs.SheetRequires.{RowShort};
 ghost use Rattle.explanation.specs.Exchanges.{start_of, row_active, row_starts, exchanged};
 ghost use Rattle.explanation.specs.ExplanationRequires.{CountsRoom, CountsKnown, Marked, WorkRoom, PointsRoom};
 
-use card::{Checked, Header};
+use card::Header;
 use model::{Answer, Points, Refusal};
 use planners::PlannerKind;
 
@@ -125,7 +125,7 @@ fn points_over(
 ) -> Points
     requires marked { Marked card.now h sheet.now cost }
     requires points_room { PointsRoom card.now counts.old work.old }
-    ensures value { result ≡ points_with (Cost 0) (instance_of card.now) sheet.now }
+    ensures value { result ≡ points_with (Ok 0) (instance_of card.now) sheet.now }
     ensures work_after { work.new ≡ written_over (replicate (work_bytes exact (instance_of card.now)) 0) work.old }
 {
     write_counts(card, h, sheet, counts);
@@ -145,7 +145,7 @@ fn points_over(
 fn points_of(card: &[u8], h: Header, sheet: &[u8], cost: u64, work: &mut [u8]) -> Points
     requires marked { Marked card.now h sheet.now cost }
     requires work_room { WorkRoom card.now work.old }
-    ensures value { result ≡ points_with (Cost 0) (instance_of card.now) sheet.now }
+    ensures value { result ≡ points_with (Ok 0) (instance_of card.now) sheet.now }
     ensures work_after { work.new ≡ written_over (replicate (work_bytes exact (instance_of card.now)) 0) work.old }
 {
     let mut counts = [0u8; 1024];
@@ -176,8 +176,8 @@ fn explain_on(card: &[u8], h: Header, sheet: &[u8], work: &mut [u8]) -> Points
         return refused(Refusal::BufferTooShort);
     }
     match calls::mark_sheet_on(card, h, sheet) {
-        Answer::Cost(cost) => points_of(card, h, sheet, cost, work),
-        Answer::Refused(x) => refused(x),
+        Ok(cost) => points_of(card, h, sheet, cost, work),
+        Err(x) => refused(x),
     }
 }
 
@@ -187,7 +187,7 @@ pub fn explain(card: &[u8], sheet: &[u8], work: &mut [u8]) -> Points
     ensures work_after { work.new ≡ explained_work (explain_sheet card.now sheet.now work.old) }
 {
     match card::check(card) {
-        Checked::Valid(h) => explain_on(card, h, sheet, work),
-        Checked::Invalid(x) => refused(x),
+        Ok(h) => explain_on(card, h, sheet, work),
+        Err(x) => refused(x),
     }
 }

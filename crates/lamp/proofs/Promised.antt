@@ -1,8 +1,8 @@
 -- What the exports promise beyond the answer of the call below them.
 use Rattle.std.specs.Prelude.{ℕ, ◌≡◌, refl, Bool, true, false, cond, List, take, eqb}
 use Rattle.basics.specs.Core.{sym, ap, ◌∙◌, ne_eqb}
-use Rattle.model.specs.declared.Answer.{Answer}
-use Rattle.model.specs.declared.Answer.TheVariants.{Cost, Refused}
+use Rattle.model.specs.Answers.{Answer}
+use Rattle.std.specs.Prelude.{Ok, Err}
 use Rattle.model.specs.declared.Refusal.{Refusal}
 use Rattle.model.specs.declared.Refusal.TheVariants.{NotPermitted}
 use Rattle.model.specs.declared.Seat.{Seat}
@@ -38,7 +38,7 @@ pub gives_as : {a b : Answer} {number cost : ℕ} → a ≡ b → NumbersOf a nu
 gives_as e g = rw e at g
 
 -- The numbers of a refusal.
-pub refused_numbers : {a : Answer} {x : Refusal} {number : ℕ} → a ≡ Refused x → number ≡ refusal_number x → NumbersOf a number 0
+pub refused_numbers : {a : Answer} {x : Refusal} {number : ℕ} → a ≡ Err x → number ≡ refusal_number x → NumbersOf a number 0
 refused_numbers e n = record { number_is = n ∙ sym (ap number_of e); cost_is = sym (ap cost_of e) }
 
 -- Marking.
@@ -67,13 +67,13 @@ module _
           exit.1,
           λ e.
               let zero : number_of (answer (make_sheet s p x)) ≡ 0 = sym g.number_is ∙ e in
-              rw exit.1 (made_marked s p x zero ∙ (number_zero _ zero ∙ ap Cost (sym g.cost_is))),
+              rw exit.1 (made_marked s p x zero ∙ (number_zero _ zero ∙ ap Ok (sym g.cost_is))),
         ),
       )
 
 -- A planner.
 module _ (k : Planner) (c p w : List ℕ) {number cost : ℕ} (given : Gives (plan_show k c p w) number cost) where
-  success : number ≡ 0 → answer (plan_show k c p w) ≡ Cost (planned_cost k (instance_of c))
+  success : number ≡ 0 → answer (plan_show k c p w) ≡ Ok (planned_cost k (instance_of c))
   unfolding spec_of
   success e = succeeded (plan_show k c p w) (sym given.number_is ∙ e)
 
@@ -232,7 +232,7 @@ pub hidden_till_closed :
     (z : Sitting) (xs : List Seat) (d : ℕ) {r : Reply} → r ≡ reply_of z xs (read_least d) → HiddenTillClosed z d r
 unfolding reply_of reply_with told_by told marked_with
 hidden_till_closed z xs d is =
-    let refused : (z.state ≡ 2 → ⊥) → (d ≡ 0 → ⊥) → answer_to (facts_of (state_of z xs)) (read_least d) ≡ Refused NotPermitted =
+    let refused : (z.state ≡ 2 → ⊥) → (d ≡ 0 → ⊥) → answer_to (facts_of (state_of z xs)) (read_least d) ≡ Err NotPermitted =
     λ still candidate. least_hidden (facts_of (state_of z xs)) d (not_closed z.state still) (ne_eqb d 0 candidate) in
     rw is (record {
       refused = λ still candidate. ap number_of (refused still candidate);

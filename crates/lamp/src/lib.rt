@@ -27,8 +27,8 @@ fn to_c(a: Answer) -> LampAnswer
     ensures { NumbersOf a result.number result.cost }
 {
     match a {
-        Answer::Cost(cost) => LampAnswer { number: 0, cost },
-        Answer::Refused(x) => LampAnswer {
+        Ok(cost) => LampAnswer { number: 0, cost },
+        Err(x) => LampAnswer {
             number: model::refusal_number(x),
             cost: 0,
         },

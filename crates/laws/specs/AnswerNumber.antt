@@ -5,8 +5,8 @@ use Rattle.model.specs.declared.Refusal.{Refusal}
 use Rattle.model.specs.declared.Refusal.TheVariants.{NotACard, Version, RackSize, SlotCount, CardLength, PriceRange, NotConvex, LoadRange}
 use Rattle.model.specs.declared.Refusal.TheVariants.{NotMonotone, BufferTooShort, WrongLength, EntryRange, LoadNotServed, ZeroStart}
 use Rattle.model.specs.declared.Refusal.TheVariants.{NotPermitted, SeatUnavailable, AllowanceSpent, CountList}
-use Rattle.model.specs.declared.Answer.{Answer}
-use Rattle.model.specs.declared.Answer.TheVariants.{Cost, Refused}
+use Rattle.model.specs.Answers.{Answer}
+use Rattle.std.specs.Prelude.{Ok, Err}
 use Rattle.model.specs.Answers.{refusal_number, number_of, cost_of}
 
 -- No refusal has the number 0.
@@ -31,6 +31,6 @@ refusal_some AllowanceSpent = omega arith
 refusal_some CountList = omega arith
 
 -- An answer with the number 0 is a cost.
-pub number_zero : (a : Answer) → number_of a ≡ 0 → a ≡ Cost (cost_of a)
-number_zero (Cost n) e = refl
-number_zero (Refused x) e = absurd (omega (arith, refusal_some x))
+pub number_zero : (a : Answer) → number_of a ≡ 0 → a ≡ Ok (cost_of a)
+number_zero (Ok n) e = refl
+number_zero (Err x) e = absurd (omega (arith, refusal_some x))

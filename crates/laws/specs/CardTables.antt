@@ -6,7 +6,7 @@ use Rattle.basics.specs.Core.{get_or-append, take_at, drop_at, le-leb}
 use Rattle.basics.specs.Tests.{and_both}
 use Rattle.basics.specs.Bytes.{little_same, little_drop, little_take}
 use Rattle.basics.specs.Rows.{little_numbers}
-use Rattle.model.specs.declared.Answer.{Answer}
+use Rattle.model.specs.Answers.{Answer}
 use Rattle.model.specs.Instance.{instance_of, head_length, entry_place, table_size, table_fields, table_of, table_in_range, convex, price_bound, prices_in_range}
 use Rattle.model.specs.Specs.{front_tests, size_tests, load_test, card_tests, first_of}
 use Rattle.model.specs.Calls.{Accepted, answer, spec_of}

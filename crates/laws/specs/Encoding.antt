@@ -9,7 +9,7 @@ use Rattle.basics.specs.Bytes.{little_endian, bytes_of, little_bytes, little_aft
 use Rattle.basics.specs.Rows.{length_numbers, little_numbers}
 use Rattle.model.specs.Instance.{Instance, instance_of, head_length, entry_place, load_place, card_mark, card_version, mark_of, version_of}
 use Rattle.model.specs.Instance.{card_length, table_bytes, load_bytes, card_bytes, prices_in_range, loads_in_range}
-use Rattle.model.specs.declared.Answer.TheVariants.{Cost}
+use Rattle.std.specs.Prelude.{Ok}
 use Rattle.model.specs.Specs.{Test, first_of, rack_tests, body_tests, card_tests, ShowInOrder}
 use Rattle.model.specs.Calls.{Accepted, answer, spec_of}
 use Rattle.model.specs.Promises.{front_card}
@@ -125,7 +125,7 @@ module _ (i : Instance) where
     -- The card of a show whose fields fit is accepted exactly if the show is in order.
     pub card_bytes_accepted : Accepted (card_bytes i) ↔ ShowInOrder i
     card_bytes_accepted =
-        let same = ap (λ (ts : List Test). first_of ts (Cost 0)) (same_tests (card_bytes_show i fit)) in
+        let same = ap (λ (ts : List Test). first_of ts (Ok 0)) (same_tests (card_bytes_show i fit)) in
         (λ e. sym same ∙ accepted_in_order _ e, λ e. read_accepted (same ∙ e))
 
 -- The card of a show that is in order is accepted.

@@ -5,11 +5,11 @@ use Rattle.basics.specs.Core.{sym, ◌∙◌, true≢false, ⊎_elim}
 use Rattle.basics.specs.Numbers.{true_or_false}
 use Rattle.basics.specs.Members.{Each}
 use Rattle.model.specs.declared.Refusal.{Refusal}
-use Rattle.model.specs.declared.Answer.{Answer}
-use Rattle.model.specs.declared.Answer.TheVariants.{Cost, Refused}
+use Rattle.model.specs.Answers.{Answer}
+use Rattle.std.specs.Prelude.{Ok, Err}
 use Rattle.model.specs.Specs.{Test, first_of}
 
-pub first_hit : (t : Test) (ts : List Test) (a : Answer) → t.applies ≡ true → first_of (t ∷ ts) a ≡ Refused t.refusal
+pub first_hit : (t : Test) (ts : List Test) (a : Answer) → t.applies ≡ true → first_of (t ∷ ts) a ≡ Err t.refusal
 unfolding first_of
 first_hit t ts a e = rw e
 
@@ -24,7 +24,7 @@ first_append (t ∷ ts) us a = rw (first_append ts us a)
 
 -- Where some of the tests already give a refusal, what follows them does not matter.
 pub first_refused :
-    (ts : List Test) (a : Answer) {b : Answer} {x : Refusal} {n : ℕ} → b ≡ Cost n → first_of ts b ≡ Refused x → first_of ts a ≡ Refused x
+    (ts : List Test) (a : Answer) {b : Answer} {x : Refusal} {n : ℕ} → b ≡ Ok n → first_of ts b ≡ Err x → first_of ts a ≡ Err x
 unfolding first_of
 first_refused [] a {b} {x} {n} h e = cc
 first_refused (t ∷ ts) a {b} h e =
@@ -38,7 +38,7 @@ abbrev pub NoneApplies : List Test → Type 0
 NoneApplies ts = Each (λ t. t.applies ≡ false) ts
 
 -- Where the answer is a cost, no test applies.
-pub none_applies : (ts : List Test) (a : Answer) {n : ℕ} → first_of ts a ≡ Cost n → NoneApplies ts
+pub none_applies : (ts : List Test) (a : Answer) {n : ℕ} → first_of ts a ≡ Ok n → NoneApplies ts
 none_applies [] a e = tt
 none_applies (t ∷ ts) a e =
     ⊎_elim
@@ -53,7 +53,7 @@ first_none [] a none = refl
 first_none (t ∷ ts) a (this, rest) = rw this (first_none ts a rest)
 
 -- Where some of the tests give a cost, the answer is that of what follows them.
-pub first_through : (ts : List Test) (a b : Answer) {n : ℕ} → first_of ts b ≡ Cost n → first_of ts a ≡ a
+pub first_through : (ts : List Test) (a b : Answer) {n : ℕ} → first_of ts b ≡ Ok n → first_of ts a ≡ a
 first_through ts a b e = first_none ts a (none_applies ts b e)
 
 -- Two lists of tests agree as far as the first that applies, and so do the answers where none applies.

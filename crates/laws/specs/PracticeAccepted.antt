@@ -4,7 +4,7 @@
 use Rattle.std.specs.Prelude.{ℕ, zero, suc, ◌+◌, ◌*◌, ◌%◌, ◌≤◌, ◌<◌, ◌≡◌, true, List, leb, length}
 use Rattle.basics.specs.Core.{mod-lt, add-one, arith, le-leb, ne_eqb, le-ltb}
 use Rattle.basics.specs.Tests.{and_both, every_all}
-use Rattle.model.specs.declared.Answer.TheVariants.{Cost}
+use Rattle.std.specs.Prelude.{Ok}
 use Rattle.model.specs.Instance.{card_bytes, card_length, rack_number, prices_in_range, table_in_range, convex, convex_at, loads_in_range}
 use Rattle.model.specs.Practice.{drawn, practice_difference, practice_entry, practice_show, longest_practice}
 use Rattle.model.specs.Specs.{first_of, any_short, ShowInOrder}
@@ -81,7 +81,7 @@ module _ (start : ℕ) where
 
   -- A start other than 0 with an area that is long enough for its card is answered by cost 0.
   pub practice_given :
-      (area : List ℕ) → (start ≡ 0 → ⊥) → card_length (practice_show start) ≤ length area → answer (practice_card start area) ≡ Cost 0
+      (area : List ℕ) → (start ≡ 0 → ⊥) → card_length (practice_show start) ≤ length area → answer (practice_card start area) ≡ Ok 0
   unfolding answer spec_of first_of any_short
   practice_given area some room = rw (ne_eqb start 0 some, le-ltb _ _ room)
 

@@ -7,8 +7,8 @@ use Rattle.basics.specs.Core.{sym, ap, ◌∙◌, Option, option_get_or, option_
 use Rattle.basics.specs.Core.{not-true, not-false}
 use Rattle.basics.specs.Tests.{and_left, and_right, or_left}
 use Rattle.model.specs.declared.Refusal.{Refusal}
-use Rattle.model.specs.declared.Answer.{Answer}
-use Rattle.model.specs.declared.Answer.TheVariants.{Cost, Refused}
+use Rattle.model.specs.Answers.{Answer}
+use Rattle.std.specs.Prelude.{Ok, Err}
 use Rattle.model.specs.Acts.{Act, open_sitting, seat_candidate, close_sitting, submit_sheet, read_least, read_lowest, read_used, Phase, unopened, opened}
 use Rattle.model.specs.Acts.{closed, is_unopened, is_opened, is_closed, Facts, supervisor, no_seat, Event, nothing_done, submission_counted}
 use Rattle.model.specs.Acts.{submission_refused, submission_tests, act_spec}
@@ -109,7 +109,7 @@ answers_agree (read_least d) f g agree =
         ap (λ (p : Phase). not (not (is_unopened p) && (supervisor d || is_closed p))) agree.same_phase,
         λ e.
             let o = once_begun _ _ e in
-            (refl, (ap (λ (b : Bool). not (supervisor d) && b) (no_seat_same agree o), λ e'. ap Cost (agree.once_opened o).same_least)),
+            (refl, (ap (λ (b : Bool). not (supervisor d) && b) (no_seat_same agree o), λ e'. ap Ok (agree.once_opened o).same_least)),
       ),
     )
 answers_agree (read_lowest d c) f g agree =
@@ -119,7 +119,7 @@ answers_agree (read_lowest d c) f g agree =
         ap (λ (p : Phase). not (not (is_unopened p) && (supervisor d || eqb d c))) agree.same_phase,
         λ e.
             let o = once_begun _ _ e in
-            (refl, (no_seat_same agree o, λ e'. ap (λ (l : Option ℕ). Cost (option_get_or l 0)) (lowest_same agree o e'))),
+            (refl, (no_seat_same agree o, λ e'. ap (λ (l : Option ℕ). Ok (option_get_or l 0)) (lowest_same agree o e'))),
       ),
     )
 answers_agree (read_used d) f g agree =
@@ -127,7 +127,7 @@ answers_agree (read_used d) f g agree =
       refl,
       (
         ap (λ (p : Phase). not (supervisor d && not (is_unopened p))) agree.same_phase,
-        λ e. ap Cost (agree.once_opened (not-true _ (and_right (supervisor d) _ (not-false _ e)))).same_used,
+        λ e. ap Ok (agree.once_opened (not-true _ (and_right (supervisor d) _ (not-false _ e)))).same_used,
       ),
     )
 
@@ -136,16 +136,16 @@ marked_agree :
     (a : Act) (f g : Facts) → AgreeAt (concerned a) f g → (r : Answer) → answer_to f a ≡ r →
     marked_with ((act_spec a).marked f) r ≡ marked_with ((act_spec a).marked g) r
 unfolding answer_to act_spec marked_with
-marked_agree (open_sitting d b c p w) f g h (Cost n) e = refl
-marked_agree (seat_candidate d c) f g h (Cost n) e = refl
-marked_agree (close_sitting d) f g h (Cost n) e = refl
-marked_agree (submit_sheet d c s) f g h (Cost n) e = refl
-marked_agree (read_least d) f g h (Cost n) e = refl
-marked_agree (read_lowest d c) f g h (Cost n) e =
+marked_agree (open_sitting d b c p w) f g h (Ok n) e = refl
+marked_agree (seat_candidate d c) f g h (Ok n) e = refl
+marked_agree (close_sitting d) f g h (Ok n) e = refl
+marked_agree (submit_sheet d c s) f g h (Ok n) e = refl
+marked_agree (read_least d) f g h (Ok n) e = refl
+marked_agree (read_lowest d c) f g h (Ok n) e =
     let (permitted, (known, none)) = none_applies _ _ e in
     ap (λ (o : Option ℕ). option_elim o 0 (λ l. 1)) (lowest_same h (once_begun _ _ permitted) known)
-marked_agree (read_used d) f g h (Cost n) e = refl
-marked_agree a f g h (Refused x) e = refl
+marked_agree (read_used d) f g h (Ok n) e = refl
+marked_agree a f g h (Err x) e = refl
 
 -- What the caller is told is the same where the sittings agree as far as the act can tell.
 pub told_agree : (a : Act) (f g : Facts) → AgreeAt (concerned a) f g → told f a ≡ told g a
@@ -176,7 +176,7 @@ refused_does P (read_lowest d c) x quiet counts = quiet
 refused_does P (read_used d) x quiet counts = quiet
 
 -- The caller of a submission that is answered with a cost has a seat.
-pub submitted_seated : (f : Facts) (d : ℕ) (card s : List ℕ) {n : ℕ} → answer_to f (submit_sheet d card s) ≡ Cost n → no_seat f d ≡ false
+pub submitted_seated : (f : Facts) (d : ℕ) (card s : List ℕ) {n : ℕ} → answer_to f (submit_sheet d card s) ≡ Ok n → no_seat f d ≡ false
 unfolding answer_to act_spec
 submitted_seated f d card s e = let (permitted, (seated, rest)) = none_applies _ _ (on_card_cost card _ _ e).1 in seated
 

@@ -2,8 +2,8 @@
 -- 'Refused', 'The plans'; 02 §1, §2, §4, §5, §7, §8).
 use Rattle.std.specs.Prelude.{ℕ, ◌≡◌, List, [], ◌∷◌, ◌++◌, map, get_or, leb, eqb}
 use Rattle.model.specs.declared.Refusal.TheVariants.{RackSize, BufferTooShort, EntryRange, LoadNotServed, ZeroStart}
-use Rattle.model.specs.declared.Answer.{Answer}
-use Rattle.model.specs.declared.Answer.TheVariants.{Cost}
+use Rattle.model.specs.Answers.{Answer}
+use Rattle.std.specs.Prelude.{Ok}
 use Rattle.model.specs.declared.Seat.{Seat}
 use Rattle.model.specs.declared.Sitting.{Sitting}
 use Rattle.model.specs.Answers.{number_of, cost_of}
@@ -79,7 +79,7 @@ answer c = answer_of (spec_of c)
 
 -- 'A show is accepted if none of refusals 1 to 8 applies to its card.'
 abbrev pub Accepted : List ℕ → Type 0
-Accepted c = answer (check_card c) ≡ Cost 0
+Accepted c = answer (check_card c) ≡ Ok 0
 
 -- The lent buffers of a call as they were lent.
 unfoldable pub lent : Call → List (List ℕ)

@@ -1,8 +1,8 @@
 -- What the explanation of a sheet returns and leaves (document 02, §7).
 use Rattle.std.specs.Prelude.{ℕ, List, [], get_or}
 use Rattle.model.specs.declared.Refusal.{Refusal}
-use Rattle.model.specs.declared.Answer.{Answer}
-use Rattle.model.specs.declared.Answer.TheVariants.{Cost, Refused}
+use Rattle.model.specs.Answers.{Answer}
+use Rattle.std.specs.Prelude.{Ok, Err}
 use Rattle.model.specs.declared.Points.{Points}
 use Rattle.model.specs.Answers.{refusal_number}
 use Rattle.model.specs.Instance.{Instance, instance_of}
@@ -15,9 +15,9 @@ no_points x = record { number = refusal_number x; spread = 0; swaps = 0; counts 
 
 -- What the explanation of a sheet returns with an answer: with a success the three numbers of 02 §7.
 unfoldable pub points_with : Answer → Instance → (sheet : List ℕ) → Points
-points_with (Cost n) i s =
+points_with (Ok n) i s =
     record { number = 0; spread = excess_operating_cost i s; swaps = excess_switching_cost i s; counts = excess_of_counts i s }
-points_with (Refused x) i s = no_points x
+points_with (Err x) i s = no_points x
 
 -- What the explanation of a sheet returns.
 unfoldable pub points_of : (card sheet work : List ℕ) → Points

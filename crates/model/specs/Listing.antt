@@ -3,8 +3,8 @@ use Rattle.std.specs.Prelude.{ℕ, zero, suc, ◌+◌, ◌*◌, ◌/◌, ◌%◌
 use Prim.Native.Char.{code}
 use Rattle.basics.specs.Lists.{rows}
 use Rattle.basics.specs.Text.{text}
-use Rattle.model.specs.declared.Answer.{Answer}
-use Rattle.model.specs.declared.Answer.TheVariants.{Cost, Refused}
+use Rattle.model.specs.Answers.{Answer}
+use Rattle.std.specs.Prelude.{Ok, Err}
 use Rattle.model.specs.Answers.{refusal_number}
 use Rattle.model.specs.Instance.{instance_of}
 use Rattle.model.specs.Sheets.{off, is_off}
@@ -64,8 +64,8 @@ exact_listing card cost =
 
 -- The text for an answer of the exact planner.
 unfoldable pub printed_for : (card : List ℕ) → Answer → List ℕ
-printed_for card (Cost cost) = exact_listing card cost
-printed_for card (Refused x) = refused_line (refusal_number x)
+printed_for card (Ok cost) = exact_listing card cost
+printed_for card (Err x) = refused_line (refusal_number x)
 
 -- What the program prints for a card: it 'lends areas of 1,024 (plan), 65,536 (work) and 65,536 (sheet) bytes, and prints the exact
 -- plan'. The sheet call is refused only where the planner is, since its area is never the shorter one.

@@ -4,7 +4,7 @@
 -- reading the least cost what §4 says of it, of the catalogue call what its bytes are in a card, and of the explanation of a sheet what §7 says of
 -- its three numbers.
 use Rattle.std.specs.Prelude.{ℕ, ◌+◌, ◌*◌, ◌≤◌, ◌<◌, ◌≡◌, true, List, [], ◌∷◌, ◌++◌, ◌↔◌, length, get_or, take}
-use Rattle.model.specs.declared.Answer.TheVariants.{Cost}
+use Rattle.std.specs.Prelude.{Ok}
 use Rattle.model.specs.declared.Sitting.{Sitting}
 use Rattle.model.specs.declared.Reply.{Reply}
 use Rattle.model.specs.declared.Points.{Points}
@@ -51,7 +51,7 @@ LeastWithin counts card number cost =
 -- buffer at the cost given.
 abbrev pub MarkedAlike : (card sheet : List ℕ) → (number cost : ℕ) → Type 0
 MarkedAlike card sheet number cost =
-    number ≡ 0 → answer (mark_sheet card (take (sheet_bytes (instance_of card)) sheet)) ≡ Cost cost
+    number ≡ 0 → answer (mark_sheet card (take (sheet_bytes (instance_of card)) sheet)) ≡ Ok cost
 
 -- 'a sheet is accepted exactly if it serves the show': number 0 is given for those that serve an accepted show, and for no others.
 pub record AcceptsExactly (card sheet : List ℕ) (number : ℕ) : Type 0 where

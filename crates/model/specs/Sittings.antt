@@ -7,8 +7,8 @@ use Rattle.basics.specs.Lists.{keep}
 use Rattle.basics.specs.Members.{Each}
 use Rattle.basics.specs.FirstPlace.{occurs, count_of}
 use Rattle.model.specs.declared.Refusal.{Refusal}
-use Rattle.model.specs.declared.Answer.{Answer}
-use Rattle.model.specs.declared.Answer.TheVariants.{Cost, Refused}
+use Rattle.model.specs.Answers.{Answer}
+use Rattle.std.specs.Prelude.{Ok, Err}
 use Rattle.model.specs.declared.Seat.{Seat}
 use Rattle.model.specs.declared.Sitting.{Sitting}
 use Rattle.model.specs.declared.Reply.{Reply}
@@ -24,13 +24,13 @@ answer_to f a = answer_of ((act_spec a).call f)
 
 -- Whether the answer tells a lowest cost: '(none is told from a cost of 0)'. A refusal tells none.
 unfoldable pub marked_with : (marked : ℕ) → Answer → ℕ
-marked_with marked (Cost n) = marked
-marked_with marked (Refused x) = 0
+marked_with marked (Ok n) = marked
+marked_with marked (Err x) = 0
 
 -- What has happened once an act has been answered.
 unfoldable pub event_with : (done : ℕ → Event) (refused : Refusal → Event) → Answer → Event
-event_with done refused (Cost n) = done n
-event_with done refused (Refused x) = refused x
+event_with done refused (Ok n) = done n
+event_with done refused (Err x) = refused x
 
 unfoldable pub event_of : Facts → Act → Event
 event_of f a = event_with (act_spec a).done (act_spec a).refused (answer_to f a)
@@ -88,7 +88,7 @@ pub data StartsAfresh (z : Sitting) (xs : List Seat) : List Act → Type 0 where
   from_unopened : (acts : List Act) → phase_of z.state ≡ unopened → StartsAfresh z xs acts
   from_opening :
       (caller allowance : ℕ) (card plan work : List ℕ) (acts : List Act) (cost : ℕ) →
-      answer_to (facts_of (state_of z xs)) (open_sitting caller allowance card plan work) ≡ Cost cost →
+      answer_to (facts_of (state_of z xs)) (open_sitting caller allowance card plan work) ≡ Ok cost →
       StartsAfresh z xs (open_sitting caller allowance card plan work ∷ acts)
 
 -- 'each is lent the same card': an act on a card is on this one.

@@ -5,8 +5,8 @@ use Rattle.basics.specs.Lists.{same_list, written_over}
 use Rattle.model.specs.declared.Refusal.{Refusal}
 use Rattle.model.specs.declared.Refusal.TheVariants.{NotACard, Version, RackSize, SlotCount, CardLength, PriceRange, NotConvex}
 use Rattle.model.specs.declared.Refusal.TheVariants.{LoadRange, WrongLength, EntryRange, LoadNotServed, CountList}
-use Rattle.model.specs.declared.Answer.{Answer}
-use Rattle.model.specs.declared.Answer.TheVariants.{Cost, Refused}
+use Rattle.model.specs.Answers.{Answer}
+use Rattle.std.specs.Prelude.{Ok, Err}
 use Rattle.model.specs.Instance.{Instance, instance_of, head_length, mark_of, card_mark, version_of, card_version, card_length, card_bytes}
 use Rattle.model.specs.Instance.{table_size, rack_number, convex, prices_in_range, loads_in_range}
 use Rattle.model.specs.CountRules.{keeps_rules}
@@ -64,21 +64,21 @@ answering ts n = record { tests = ts; cost = n; buffers = [] }
 -- given.'
 unfoldable pub first_of : List Test → Answer → Answer
 first_of [] success = success
-first_of (t ∷ ts) success = cond t.applies (Refused t.refusal) (first_of ts success)
+first_of (t ∷ ts) success = cond t.applies (Err t.refusal) (first_of ts success)
 
 -- The answer of a specification.
 abbrev pub answer_of : Spec → Answer
-answer_of s = first_of s.tests (Cost s.cost)
+answer_of s = first_of s.tests (Ok s.cost)
 
 -- None of some tests applies.
 abbrev pub Passes : List Test → Type 0
-Passes ts = first_of ts (Cost 0) ≡ Cost 0
+Passes ts = first_of ts (Ok 0) ≡ Ok 0
 
 -- A buffer at exit: 'After success the bytes asked for hold the answer, .. all further bytes are as they were'; 'A refusal ..
 -- alters no lent byte.'
 unfoldable pub at_exit : Answer → Buffer → List ℕ
-at_exit (Cost n) b = written_over b.writes b.entry
-at_exit (Refused x) b = b.entry
+at_exit (Ok n) b = written_over b.writes b.entry
+at_exit (Err x) b = b.entry
 
 -- One of the buffers is too short. Refusal 10: 'a lent area shorter than asked for'.
 unfoldable pub any_short : List Buffer → Bool

@@ -72,11 +72,7 @@ pub fn refusal_number(x: Refusal) -> u64
 }
 
 // The answer of a call: a cost (the rounded count in its place), or a refusal.
-#[derive(Clone, Copy)]
-pub enum Answer {
-    Cost(u64),
-    Refused(Refusal),
-}
+pub type Answer = Result<u64, Refusal>;
 
 // A seat of a sitting (02 §4), a record without padding: a candidate's number, 0 in an empty record, and the lowest cost marked so far,
 // which there is if `marked` is not 0.

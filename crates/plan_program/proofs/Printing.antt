@@ -2,8 +2,8 @@
 use Rattle.std.specs.Prelude.{ℕ, ◌*◌, ◌≤◌, ◌≡◌, refl, List, length, take}
 use Rattle.basics.specs.Core.{sym, ◌∙◌, ap, arith, length-take, length-replicate}
 use Rattle.model.specs.declared.Refusal.{Refusal}
-use Rattle.model.specs.declared.Answer.{Answer}
-use Rattle.model.specs.declared.Answer.TheVariants.{Cost, Refused}
+use Rattle.model.specs.Answers.{Answer}
+use Rattle.std.specs.Prelude.{Ok, Err}
 use Rattle.model.specs.Answers.{refusal_number}
 use Rattle.model.specs.Instance.{Instance, instance_of}
 use Rattle.model.specs.Plans.{sheet_of}
@@ -15,8 +15,8 @@ use Rattle.laws.specs.Acceptance.{accepted_bounds}
 use Rattle.theory.specs.SheetLaws.{sheet_length_lem}
 use Rattle.theory.specs.Outcomes.{written_taken, best_fits, sheet_accepted, sheet_at_exit_lem, plan_at_exit_lem, planner_refused, planner_room}
 use Rattle.card.specs.declared.Header.{Header}
-use Rattle.card.specs.declared.Checked.{Checked}
-use Rattle.card.specs.declared.Checked.TheVariants.{Valid, Invalid}
+use Rattle.card.specs.Checking.{Checked}
+use Rattle.std.specs.Prelude.{Ok, Err}
 use Rattle.card.specs.Checking.{checked_of}
 use Rattle.card.proofs.Groups.{refused_answer, ready}
 use Rattle.listing.specs.Texts.{Printable}
@@ -24,12 +24,12 @@ use Rattle.plan_program.specs.Program.{TextArea, AcceptedText, PlannedText}
 
 -- A card that is refused is printed as its refusal.
 pub printed_invalid :
-    (s : List ℕ) {c : Checked} {x : Refusal} {n : ℕ} → c ≡ checked_of s → c ≡ Invalid x → n ≡ refusal_number x → refused_line n ≡ printed s
+    (s : List ℕ) {c : Checked} {x : Refusal} {n : ℕ} → c ≡ checked_of s → c ≡ Err x → n ≡ refusal_number x → refused_line n ≡ printed s
 unfolding printed printed_for
 printed_invalid s is e n-is = rw (planner_refused exact s _ _ (refused_answer s is e), n-is)
 
 pub accepted_text :
-    (s : List ℕ) {c : Checked} {h : Header} {out : List ℕ} → c ≡ checked_of s → c ≡ Valid h → TextArea out → AcceptedText s h out
+    (s : List ℕ) {c : Checked} {h : Header} {out : List ℕ} → c ≡ checked_of s → c ≡ Ok h → TextArea out → AcceptedText s h out
 accepted_text s is e room = record { ready = ready s is e; text = room }
 
 -- The planner's answer depends on the lengths of its buffers alone.
@@ -49,11 +49,11 @@ module _
       let work = length-replicate {A = ℕ} 65536 0 in
       ap (printed_for s) (is ∙ sym (same_lengths s _ _ p w (plan ∙ plan_size) (work ∙ work-size)))
 
-  pub printed_refusal : {x : Refusal} {n : ℕ} → a ≡ Refused x → n ≡ refusal_number x → refused_line n ≡ printed s
+  pub printed_refusal : {x : Refusal} {n : ℕ} → a ≡ Err x → n ≡ refusal_number x → refused_line n ≡ printed s
   unfolding printed_for
   printed_refusal e n-is = ap refused_line n-is ∙ (rw e at as_printed)
 
-  module _ {cost : ℕ} (success : a ≡ Cost cost) where
+  module _ {cost : ℕ} (success : a ≡ Ok cost) where
     pub printed_listing : exact_listing s cost ≡ printed s
     unfolding printed_for
     printed_listing = rw success at as_printed

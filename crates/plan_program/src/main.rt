@@ -6,7 +6,7 @@ ghost use Rattle.basics.specs.Lists.{written_over};
 ghost use Rattle.model.specs.Listing.{exact_listing, printed};
 ghost use Rattle.plan_program.specs.Program.{TextArea, AcceptedText, PlannedText};
 
-use card::{Checked, Header};
+use card::Header;
 use model::Answer;
 use planners::PlannerKind;
 use std::io::{self, Read};
@@ -42,7 +42,7 @@ fn print_plan(card: &[u8], h: Header, plan: &[u8], cost: u64, out: &mut [u8]) ->
     let slots = h.slots as usize;
     let entries = modules as usize * slots;
     let mut sheet = large_area();
-    calls::make_sheet_on(card, h, &plan[..slots], &mut sheet);
+    let _ = calls::make_sheet_on(card, h, &plan[..slots], &mut sheet);
     listing::write_listing(out, modules, cost, &plan[..slots], &sheet[..entries])
 }
 
@@ -56,8 +56,8 @@ fn print_accepted(card: &[u8], h: Header, out: &mut [u8]) -> usize
     let mut work = large_area();
     let planned = planners::plan_show_on(PlannerKind::Exact, card, h, &mut plan, &mut work);
     match planned {
-        Answer::Cost(cost) => print_plan(card, h, &plan, cost, out),
-        Answer::Refused(x) => listing::write_refusal(out, model::refusal_number(x)),
+        Ok(cost) => print_plan(card, h, &plan, cost, out),
+        Err(x) => listing::write_refusal(out, model::refusal_number(x)),
     }
 }
 
@@ -68,8 +68,8 @@ fn print_card(card: &[u8], out: &mut [u8]) -> usize
     ensures bytes { out.new ≡ written_over (printed card.now) out.old }
 {
     match card::check(card) {
-        Checked::Valid(h) => print_accepted(card, h, out),
-        Checked::Invalid(x) => listing::write_refusal(out, model::refusal_number(x)),
+        Ok(h) => print_accepted(card, h, out),
+        Err(x) => listing::write_refusal(out, model::refusal_number(x)),
     }
 }
 

@@ -6,8 +6,8 @@ use Rattle.basics.specs.Lists.{written_over}
 use Rattle.basics.specs.Tests.{or_left, or_right}
 use Rattle.model.specs.declared.Refusal.{Refusal}
 use Rattle.model.specs.declared.Refusal.TheVariants.{BufferTooShort, CountList}
-use Rattle.model.specs.declared.Answer.{Answer}
-use Rattle.model.specs.declared.Answer.TheVariants.{Cost, Refused}
+use Rattle.model.specs.Answers.{Answer}
+use Rattle.std.specs.Prelude.{Ok, Err}
 use Rattle.model.specs.Instance.{Instance, instance_of}
 use Rattle.model.specs.Planners.{Planner, exact, coarse, listed, allowed_counts, work_bytes, keeps_list, planned_by, planned_cost}
 use Rattle.model.specs.Specs.{any_short, at_exit}
@@ -17,8 +17,8 @@ use Rattle.laws.specs.Acceptance.{accepted_bounds}
 use Rattle.theory.specs.CountLists.{planner_rules}
 use Rattle.theory.specs.Outcomes.{planner_refused, planner_unlisted, planner_short, planner_cost, plan_at_exit_lem, work_at_exit_lem}
 use Rattle.card.specs.declared.Header.{Header}
-use Rattle.card.specs.declared.Checked.{Checked}
-use Rattle.card.specs.declared.Checked.TheVariants.{Invalid}
+use Rattle.card.specs.Checking.{Checked}
+use Rattle.std.specs.Prelude.{Err}
 use Rattle.card.specs.Checking.{Ready, checked_of}
 use Rattle.card.proofs.Groups.{refused_answer}
 use Rattle.planners.specs.declared.PlannerKind.{PlannerKind}
@@ -84,11 +84,11 @@ Planned k s p w a plan work =
 
 module _ (k : Planner) (s p w : List ℕ) where
   -- A refusal leaves the buffers as they were.
-  planned_kept : {x : Refusal} → answer (plan_show k s p w) ≡ Refused x → Planned k s p w (Refused x) p w
+  planned_kept : {x : Refusal} → answer (plan_show k s p w) ≡ Err x → Planned k s p w (Err x) p w
   unfolding at_exit
   planned_kept e = (sym e, (rw (plan_at_exit_lem k s p w, e), rw (work_at_exit_lem k s p w, e)))
 
-  pub plan_refused : {c : Checked} {x : Refusal} → c ≡ checked_of s → c ≡ Invalid x → Planned k s p w (Refused x) p w
+  pub plan_refused : {c : Checked} {x : Refusal} → c ≡ checked_of s → c ≡ Err x → Planned k s p w (Err x) p w
   plan_refused is e = planned_kept (planner_refused k s p w (refused_answer s is e))
 
   -- The test on the lengths of the buffers is the call's.
@@ -98,22 +98,22 @@ module _ (k : Planner) (s p w : List ℕ) where
 
   module _ {h : Header} (r : Ready s h) where
     -- Where the rules for a list are not kept, the planner is refused.
-    pub plan_unlisted : keeps_list k (instance_of s) ≡ false → Planned k s p w (Refused CountList) p w
+    pub plan_unlisted : keeps_list k (instance_of s) ≡ false → Planned k s p w (Err CountList) p w
     plan_unlisted broken = planned_kept (planner_unlisted k s p w r.accepted broken)
 
     module _ (keeps : KeepsRules k (instance_of s)) {short : Bool} (is : short ≡ short_for k (instance_of s) (length p) (length w)) where
       -- Where a buffer is too short, the planner is refused.
-      pub plan_short : short ≡ true → Planned k s p w (Refused BufferTooShort) p w
+      pub plan_short : short ≡ true → Planned k s p w (Err BufferTooShort) p w
       plan_short e = planned_kept (planner_short k s p w r.accepted keeps (short_is ∙ (sym is ∙ e)))
 
       -- Where none is, the planner's plan and its cost are given.
       pub plan_done :
           short ≡ false → {cost : ℕ} {plan work : List ℕ} → PlanWritten k (instance_of s) p w cost plan work →
-          Planned k s p w (Cost cost) plan work
+          Planned k s p w (Ok cost) plan work
       unfolding at_exit
       plan_done none (cost_is, (plan_is, work-is)) =
           let e = planner_cost k s p w r.accepted keeps (short_is ∙ (sym is ∙ none)) in
-          (ap Cost cost_is ∙ sym e, (plan_is ∙ rw (plan_at_exit_lem k s p w, e), work-is ∙ rw (work_at_exit_lem k s p w, e)))
+          (ap Ok cost_is ∙ sym e, (plan_is ∙ rw (plan_at_exit_lem k s p w, e), work-is ∙ rw (work_at_exit_lem k s p w, e)))
 
 -- The planner of a kind has no list to be judged.
 pub kind_keeps : (kind : PlannerKind) (i : Instance) → KeepsRules (planner_of kind) i

@@ -11,7 +11,7 @@ ghost use Rattle.model.specs.Calls.{plan_show, answer, plan_at_exit, work_at_exi
 ghost use Rattle.card.specs.Checking.{Ready};
 ghost use Rattle.planners.specs.PlannerRequires.{planner_of, CountsRoom, BuffersFor, CountsReady, either_short, short_for};
 
-use card::{Checked, Header};
+use card::Header;
 use model::{Answer, Refusal};
 
 // The two planners of document 01.
@@ -112,9 +112,9 @@ pub fn plan_show_on(
     ensures work_after { work.new ≡ work_at_exit (plan_show (planner_of kind) card.now plan.old work.old) }
 {
     if short_for(kind, card, h, plan.len(), work.len()) {
-        return Answer::Refused(Refusal::BufferTooShort);
+        return Err(Refusal::BufferTooShort);
     }
-    Answer::Cost(plan_by(kind, card, h, plan, work))
+    Ok(plan_by(kind, card, h, plan, work))
 }
 
 // A planner: refusals 1 to 8 and 10.
@@ -124,7 +124,7 @@ pub fn plan_show(kind: PlannerKind, card: &[u8], plan: &mut [u8], work: &mut [u8
     ensures work_after { work.new ≡ work_at_exit (plan_show (planner_of kind) card.now plan.old work.old) }
 {
     match card::check(card) {
-        Checked::Valid(h) => plan_show_on(kind, card, h, plan, work),
-        Checked::Invalid(x) => Answer::Refused(x),
+        Ok(h) => plan_show_on(kind, card, h, plan, work),
+        Err(x) => Err(x),
     }
 }

@@ -3,8 +3,8 @@ use Rattle.std.specs.Prelude.{ℕ, ◌≤◌, ◌<◌, ◌≡◌, List, length}
 use Rattle.basics.specs.Core.{sym, ◌∙◌, arith, eq-eqb, ne_eqb, lt-ltb}
 use Rattle.basics.specs.Writing.{Written, written_start}
 use Rattle.model.specs.declared.Refusal.TheVariants.{ZeroStart, BufferTooShort}
-use Rattle.model.specs.declared.Answer.{Answer}
-use Rattle.model.specs.declared.Answer.TheVariants.{Cost, Refused}
+use Rattle.model.specs.Answers.{Answer}
+use Rattle.std.specs.Prelude.{Ok, Err}
 use Rattle.model.specs.Instance.{card_bytes, card_length, load_place}
 use Rattle.model.specs.Practice.{practice_show}
 use Rattle.model.specs.Specs.{any_short, first_of, card_buffer, at_exit}
@@ -21,26 +21,26 @@ module _ (start : ℕ) (card : List ℕ) where
   exit_by e = rw e
 
   -- Start 0 is refused, and the area is as it was.
-  pub zero_refused : start ≡ 0 → (Refused ZeroStart ≡ answer (practice_card start card)) × (card ≡ card_at_exit (practice_card start card))
+  pub zero_refused : start ≡ 0 → (Err ZeroStart ≡ answer (practice_card start card)) × (card ≡ card_at_exit (practice_card start card))
   unfolding answer spec_of first_of at_exit
   zero_refused e =
-      let given : answer (practice_card start card) ≡ Refused ZeroStart = rw (eq-eqb start 0 e) in
+      let given : answer (practice_card start card) ≡ Err ZeroStart = rw (eq-eqb start 0 e) in
       (sym given, exit_by given)
 
   module _ (some : start ≡ 0 → ⊥) where
     -- An area shorter than the card is refused, and is as it was.
     pub short_refused :
         length card < card_length (practice_show start) →
-        (Refused BufferTooShort ≡ answer (practice_card start card)) × (card ≡ card_at_exit (practice_card start card))
+        (Err BufferTooShort ≡ answer (practice_card start card)) × (card ≡ card_at_exit (practice_card start card))
     unfolding answer spec_of first_of any_short at_exit
     short_refused h =
-        let given : answer (practice_card start card) ≡ Refused BufferTooShort = rw (ne_eqb start 0 some, lt-ltb _ _ h) in
+        let given : answer (practice_card start card) ≡ Err BufferTooShort = rw (ne_eqb start 0 some, lt-ltb _ _ h) in
         (sym given, exit_by given)
 
     -- An area that is long enough holds the card at exit, and behind it what it held before.
     pub card_given :
         card_length (practice_show start) ≤ length card → {new : List ℕ} {r : ℕ} → Written (card_bytes (practice_show start)) 0 card new r →
-        (Cost 0 ≡ answer (practice_card start card)) × (new ≡ card_at_exit (practice_card start card))
+        (Ok 0 ≡ answer (practice_card start card)) × (new ≡ card_at_exit (practice_card start card))
     unfolding at_exit
     card_given h w =
         let given = practice_given start card some h in

@@ -131,11 +131,11 @@ pub fn practice_card(start: u32, card: &mut [u8]) -> Answer
     let first = draw_first(start);
     let size = encoder::card_length(first.fields);
     if start == 0 {
-        return Answer::Refused(Refusal::ZeroStart);
+        return Err(Refusal::ZeroStart);
     }
     if card.len() < size {
-        return Answer::Refused(Refusal::BufferTooShort);
+        return Err(Refusal::BufferTooShort);
     }
     put_card(card, first);
-    Answer::Cost(0)
+    Ok(0)
 }

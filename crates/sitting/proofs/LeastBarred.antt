@@ -1,7 +1,7 @@
 -- Before closing a candidate is not told the least cost.
 use Rattle.std.specs.Prelude.{ℕ, ◌≡◌, Bool, false}
 use Rattle.basics.specs.Core.{eq-eqb, ne_eqb}
-use Rattle.model.specs.declared.Answer.TheVariants.{Refused}
+use Rattle.std.specs.Prelude.{Err}
 use Rattle.model.specs.declared.Refusal.TheVariants.{NotPermitted}
 use Rattle.model.specs.declared.Sitting.{Sitting}
 use Rattle.model.specs.Acts.{act_spec, read_least, is_unopened}
@@ -14,6 +14,6 @@ use Rattle.sitting.proofs.Phases.{closed_phase}
 
 pub least_barred :
     (z : Sitting) (v : View) (d : ℕ) (r : Bool) → r ≡ is_unopened (phase_of z.state) → r ≡ false → (d ≡ 0 → ⊥) → (z.state ≡ 2 → ⊥) →
-    Refused NotPermitted ≡ answer_to (seen z v v) (read_least d)
+    Err NotPermitted ≡ answer_to (seen z v v) (read_least d)
 unfolding answer_to act_spec first_of seen
 least_barred z v d r e opened candidate still = search (← closed_phase, ne_eqb, ← e, opened)

@@ -2,7 +2,7 @@
 use Rattle.std.specs.Prelude.{ℕ, ◌≤◌, ◌<◌, min, ◌≡◌}
 use Rattle.basics.specs.Core.{◌∙◌, option_get_or, option_elim, arith, eq-eqb, ne_eqb}
 use Rattle.model.specs.declared.Refusal.{Refusal}
-use Rattle.model.specs.declared.Answer.TheVariants.{Cost, Refused}
+use Rattle.std.specs.Prelude.{Ok, Err}
 use Rattle.model.specs.declared.Seat.{Seat}
 use Rattle.model.specs.declared.Sitting.{Sitting}
 use Rattle.model.specs.declared.Reply.{Reply}
@@ -36,18 +36,18 @@ module _ (s : Seat) (n : ℕ) where
 module _ (z : Sitting) (v : View) (d c : ℕ) {r : Reply} where
   -- Reading a lowest cost that is refused.
   pub lowest_refused :
-      {x : Refusal} → r ≡ reply_giving (Refused x) 0 z →
-      answer_to (seen z v v) (read_lowest d c) ≡ Refused x → r ≡ reply_seen z v v (read_lowest d c)
+      {x : Refusal} → r ≡ reply_giving (Err x) 0 z →
+      answer_to (seen z v v) (read_lowest d c) ≡ Err x → r ≡ reply_seen z v v (read_lowest d c)
   unfolding reply_giving reply_seen event_seen told reply_with marked_with event_of event_with act_spec sitting_after
   lowest_refused e given = e ∙ rw given
 
-  module _ (given : answer_to (seen z v v) (read_lowest d c) ≡ Cost (option_get_or (lowest_of v.seat) 0)) where
+  module _ (given : answer_to (seen z v v) (read_lowest d c) ≡ Ok (option_get_or (lowest_of v.seat) 0)) where
     -- Reading it where nothing is marked.
-    pub lowest_none : v.seat.marked ≡ 0 → r ≡ reply_giving (Cost 0) 0 z → r ≡ reply_seen z v v (read_lowest d c)
+    pub lowest_none : v.seat.marked ≡ 0 → r ≡ reply_giving (Ok 0) 0 z → r ≡ reply_seen z v v (read_lowest d c)
     unfolding reply_giving reply_seen event_seen told reply_with marked_with event_of event_with act_spec sitting_after seen lowest_of option_elim
     lowest_none h e = e ∙ rw (given, eq-eqb v.seat.marked 0 h)
 
     -- Reading it where a sheet is marked.
-    pub lowest_some : (v.seat.marked ≡ 0 → ⊥) → r ≡ reply_giving (Cost v.seat.lowest) 1 z → r ≡ reply_seen z v v (read_lowest d c)
+    pub lowest_some : (v.seat.marked ≡ 0 → ⊥) → r ≡ reply_giving (Ok v.seat.lowest) 1 z → r ≡ reply_seen z v v (read_lowest d c)
     unfolding reply_giving reply_seen event_seen told reply_with marked_with event_of event_with act_spec sitting_after seen lowest_of option_elim
     lowest_some h e = e ∙ rw (given, ne_eqb v.seat.marked 0 h)

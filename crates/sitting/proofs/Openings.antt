@@ -3,8 +3,8 @@ use Rattle.std.specs.Prelude.{ℕ, ◌≡◌, refl, Bool, true, false, List, [],
 use Rattle.basics.specs.Core.{sym, ap, ◌∙◌, eq-eqb, ne_eqb}
 use Rattle.model.specs.declared.Refusal.{Refusal}
 use Rattle.model.specs.declared.Refusal.TheVariants.{BufferTooShort, NotPermitted, AllowanceSpent}
-use Rattle.model.specs.declared.Answer.{Answer}
-use Rattle.model.specs.declared.Answer.TheVariants.{Cost, Refused}
+use Rattle.model.specs.Answers.{Answer}
+use Rattle.std.specs.Prelude.{Ok, Err}
 use Rattle.model.specs.declared.Sitting.{Sitting}
 use Rattle.model.specs.declared.Reply.{Reply}
 use Rattle.model.specs.Instance.{instance_of}
@@ -15,8 +15,8 @@ use Rattle.model.specs.Specs.{first_of, at_exit}
 use Rattle.model.specs.Calls.{Call, act_in, spec_of, answer, Accepted, buffers_at_exit, plan_at_exit, work_at_exit}
 use Rattle.model.specs.Sittings.{answer_to, marked_with, event_with, event_of, told, told_by, reply_with, reply_of}
 use Rattle.laws.specs.OnCard.{on_card_refused, on_card_passed}
-use Rattle.card.specs.declared.Checked.{Checked}
-use Rattle.card.specs.declared.Checked.TheVariants.{Invalid}
+use Rattle.card.specs.Checking.{Checked}
+use Rattle.std.specs.Prelude.{Err}
 use Rattle.card.specs.Checking.{checked_of}
 use Rattle.card.proofs.Groups.{refused_answer}
 use Rattle.planners.specs.PlannerRequires.{short_for}
@@ -34,45 +34,45 @@ Opened o a plan work = (a ≡ answer o) × ((plan ≡ plan_at_exit o) × (work �
 
 module _ (z : Sitting) (d l : ℕ) (s p w : List ℕ) where
   -- A refusal leaves the buffers as they were.
-  opening_kept : {x : Refusal} → answer (opens z d l s p w) ≡ Refused x → Opened (opens z d l s p w) (Refused x) p w
+  opening_kept : {x : Refusal} → answer (opens z d l s p w) ≡ Err x → Opened (opens z d l s p w) (Err x) p w
   unfolding plan_at_exit work_at_exit buffers_at_exit spec_of act_spec at_exit
   opening_kept e = (sym e, (rw e, rw e))
 
   -- An opening on a card that is refused is refused with the same number.
-  pub opening_on : {c : Checked} {x : Refusal} → c ≡ checked_of s → c ≡ Invalid x → Opened (opens z d l s p w) (Refused x) p w
+  pub opening_on : {c : Checked} {x : Refusal} → c ≡ checked_of s → c ≡ Err x → Opened (opens z d l s p w) (Err x) p w
   unfolding answer spec_of act_spec
   opening_on is e = opening_kept (on_card_refused s _ _ (refused_answer s is e))
 
   module _ (given : Accepted s) where
     module _ {short : Bool} (is : short ≡ short_for exact (instance_of s) (length p) (length w)) where
       -- A buffer is too short.
-      pub opening_short : short ≡ true → Opened (opens z d l s p w) (Refused BufferTooShort) p w
+      pub opening_short : short ≡ true → Opened (opens z d l s p w) (Err BufferTooShort) p w
       unfolding answer spec_of act_spec first_of
       opening_short e = opening_kept (on_card_passed s _ _ given ∙ rw (short_is exact s p w, ← is, e))
 
       module _ (none : short ≡ false) where
         -- The caller is not the supervisor.
-        pub opening_barred : (d ≡ 0 → ⊥) → Opened (opens z d l s p w) (Refused NotPermitted) p w
+        pub opening_barred : (d ≡ 0 → ⊥) → Opened (opens z d l s p w) (Err NotPermitted) p w
         unfolding answer spec_of act_spec first_of
         opening_barred by = opening_kept (on_card_passed s _ _ given ∙ rw (short_is exact s p w, ← is, none, ne_eqb d 0 by))
 
         module _ (by : d ≡ 0) where
           -- The allowance is out of range.
-          pub opening_spent : allowance_in_range l ≡ false → Opened (opens z d l s p w) (Refused AllowanceSpent) p w
+          pub opening_spent : allowance_in_range l ≡ false → Opened (opens z d l s p w) (Err AllowanceSpent) p w
           unfolding answer spec_of act_spec first_of
           opening_spent range = opening_kept (on_card_passed s _ _ given ∙ rw (short_is exact s p w, ← is, none, eq-eqb d 0 by, range))
 
           -- Where none of them applies, an opening answers the least cost, and leaves what the exact planner does.
-          opening_cost : allowance_in_range l ≡ true → answer (opens z d l s p w) ≡ Cost (planned_cost exact (instance_of s))
+          opening_cost : allowance_in_range l ≡ true → answer (opens z d l s p w) ≡ Ok (planned_cost exact (instance_of s))
           unfolding answer spec_of act_spec first_of
           opening_cost range = on_card_passed s _ _ given ∙ rw (short_is exact s p w, ← is, none, eq-eqb d 0 by, range)
 
           pub opening_planned :
               allowance_in_range l ≡ true → {cost : ℕ} {plan work : List ℕ} →
-              PlanWritten exact (instance_of s) p w cost plan work → Opened (opens z d l s p w) (Cost cost) plan work
+              PlanWritten exact (instance_of s) p w cost plan work → Opened (opens z d l s p w) (Ok cost) plan work
           unfolding plan_at_exit work_at_exit buffers_at_exit spec_of act_spec at_exit
           opening_planned range (cost_is, (plan_is, work-is)) =
-              let e = opening_cost range in (ap Cost cost_is ∙ sym e, (plan_is ∙ rw e, work-is ∙ rw e))
+              let e = opening_cost range in (ap Ok cost_is ∙ sym e, (plan_is ∙ rw e, work-is ∙ rw e))
 
   -- The answer of the call is that of the facts.
   same_answer : answer (opens z d l s p w) ≡ answer_to (facts_of (state_of z [])) (open_sitting d l s p w)
@@ -82,7 +82,7 @@ module _ (z : Sitting) (d l : ℕ) (s p w : List ℕ) where
   module _ {a : Answer} {plan work : List ℕ} (opened : Opened (opens z d l s p w) a plan work) {r : Reply} where
     -- An opening that is refused.
     pub opening_refused :
-        {x : Refusal} → a ≡ Refused x → r ≡ reply_giving (Refused x) 0 z →
+        {x : Refusal} → a ≡ Err x → r ≡ reply_giving (Err x) 0 z →
         (◌≡◌ {A = OpenOutcome} (record { emptied = 0; reply = r }) (opening_of z (open_sitting d l s p w))) ×
         ((plan ≡ plan_at_exit (opens z d l s p w)) × (work ≡ work_at_exit (opens z d l s p w)))
     unfolding opening_of records_emptied reply_of told_by told reply_with reply_giving marked_with event_of event_with act_spec sitting_after
@@ -92,7 +92,7 @@ module _ (z : Sitting) (d l : ℕ) (s p w : List ℕ) where
 
     -- An opening: the seats are emptied.
     pub opening_done_lem :
-        {n : ℕ} → a ≡ Cost n → r ≡ reply_giving (Cost n) 0 (record { state = 1; allowance = l; submissions = 0; least = n }) →
+        {n : ℕ} → a ≡ Ok n → r ≡ reply_giving (Ok n) 0 (record { state = 1; allowance = l; submissions = 0; least = n }) →
         (◌≡◌ {A = OpenOutcome} (record { emptied = 32; reply = r }) (opening_of z (open_sitting d l s p w))) ×
         ((plan ≡ plan_at_exit (opens z d l s p w)) × (work ≡ work_at_exit (opens z d l s p w)))
     unfolding opening_of records_emptied reply_of told_by told reply_with reply_giving marked_with event_of event_with act_spec sitting_after

@@ -2,8 +2,8 @@
 use Rattle.std.specs.Prelude.{ℕ, ◌≡◌, []}
 use Rattle.basics.specs.Core.{sym, ◌∙◌}
 use Rattle.model.specs.declared.Refusal.{Refusal}
-use Rattle.model.specs.declared.Answer.{Answer}
-use Rattle.model.specs.declared.Answer.TheVariants.{Cost, Refused}
+use Rattle.model.specs.Answers.{Answer}
+use Rattle.std.specs.Prelude.{Ok, Err}
 use Rattle.model.specs.declared.Sitting.{Sitting}
 use Rattle.model.specs.declared.Reply.{Reply}
 use Rattle.model.specs.Answers.{refusal_number}
@@ -16,13 +16,13 @@ use Rattle.sitting.specs.Seen.{seen, event_seen, place_for, record_for, reply_se
 
 module _ {a : Answer} (m : ℕ) (z : Sitting) where
   -- The reply with a cost, field by field.
-  pub giving_cost : {n : ℕ} → a ≡ Cost n → ◌≡◌ {A = Reply} (record { number = 0; cost = n; marked = m; sitting = z }) (reply_giving a m z)
+  pub giving_cost : {n : ℕ} → a ≡ Ok n → ◌≡◌ {A = Reply} (record { number = 0; cost = n; marked = m; sitting = z }) (reply_giving a m z)
   unfolding reply_giving
   giving_cost e = rw e
 
   -- The reply with a refusal.
   pub giving_refusal :
-      {x : Refusal} {n : ℕ} → a ≡ Refused x → n ≡ refusal_number x →
+      {x : Refusal} {n : ℕ} → a ≡ Err x → n ≡ refusal_number x →
       ◌≡◌ {A = Reply} (record { number = n; cost = 0; marked = 0; sitting = z }) (reply_giving a m z)
   unfolding reply_giving
   giving_refusal e n-is = rw (e, n-is)
@@ -32,28 +32,28 @@ pub used_reply :
     (z : Sitting) (d : ℕ) {a : Answer} {r : Reply} → a ≡ answer_to (facts_of (state_of z [])) (read_used d) → r ≡ reply_giving a 0 z →
     r ≡ reply_of z [] (read_used d)
 unfolding reply_giving reply_of told_by told reply_with marked_with event_of event_with act_spec sitting_after
-used_reply z d {a = Cost n} is e = e ∙ rw (← is)
-used_reply z d {a = Refused x} is e = e ∙ rw (← is)
+used_reply z d {a = Ok n} is e = e ∙ rw (← is)
+used_reply z d {a = Err x} is e = e ∙ rw (← is)
 
 -- Reading the least cost changes nothing.
 pub least_reply :
     (z : Sitting) (v : View) (d : ℕ) {a : Answer} {r : Reply} → a ≡ answer_to (seen z v v) (read_least d) → r ≡ reply_giving a 0 z →
     r ≡ reply_seen z v v (read_least d)
 unfolding reply_giving reply_seen event_seen told reply_with marked_with event_of event_with act_spec sitting_after
-least_reply z v d {a = Cost n} is e = e ∙ rw (← is)
-least_reply z v d {a = Refused x} is e = e ∙ rw (← is)
+least_reply z v d {a = Ok n} is e = e ∙ rw (← is)
+least_reply z v d {a = Err x} is e = e ∙ rw (← is)
 
 module _ (z : Sitting) (d : ℕ) {a : Answer} (is : a ≡ answer_to (facts_of (state_of z [])) (close_sitting d)) {r : Reply} where
   -- A closing that is refused.
-  pub closing_refused : {x : Refusal} → a ≡ Refused x → r ≡ reply_giving (Refused x) 0 z → r ≡ reply_of z [] (close_sitting d)
+  pub closing_refused : {x : Refusal} → a ≡ Err x → r ≡ reply_giving (Err x) 0 z → r ≡ reply_of z [] (close_sitting d)
   unfolding reply_giving reply_of told_by told reply_with marked_with event_of event_with act_spec sitting_after
   closing_refused given e = e ∙ rw (sym is ∙ given)
 
   -- A closing.
   pub closing_done_lem :
-      {n : ℕ} → a ≡ Cost n →
+      {n : ℕ} → a ≡ Ok n →
       r ≡
-      reply_giving (Cost n) 0 (record { state = 2; allowance = z.allowance; submissions = z.submissions; least = z.least }) →
+      reply_giving (Ok n) 0 (record { state = 2; allowance = z.allowance; submissions = z.submissions; least = z.least }) →
       r ≡ reply_of z [] (close_sitting d)
   unfolding reply_giving reply_of told_by told reply_with marked_with event_of event_with act_spec sitting_after
   closing_done_lem given e = e ∙ rw (sym is ∙ given)
@@ -61,13 +61,13 @@ module _ (z : Sitting) (d : ℕ) {a : Answer} (is : a ≡ answer_to (facts_of (s
 module _ (z : Sitting) (v w : View) (d c : ℕ) {a : Answer} (is : a ≡ answer_to (seen z v w) (seat_candidate d c)) where
   -- A seating that is refused.
   pub seating_refused :
-      {x : Refusal} {r : Outcome} → a ≡ Refused x → r ≡ unchanged_of v.len x z → r ≡ outcome_of z v w (seat_candidate d c)
+      {x : Refusal} {r : Outcome} → a ≡ Err x → r ≡ unchanged_of v.len x z → r ≡ outcome_of z v w (seat_candidate d c)
   unfolding outcome_of place_for record_for reply_giving reply_seen event_seen told reply_with marked_with event_of event_with act_spec sitting_after
   seating_refused given e = e ∙ rw (sym is ∙ given)
 
   -- A seating: the first empty record becomes the candidate's.
   pub seating_done_lem :
-      {n : ℕ} {r : Reply} → a ≡ Cost n → r ≡ reply_giving (Cost n) 0 z →
+      {n : ℕ} {r : Reply} → a ≡ Ok n → r ≡ reply_giving (Ok n) 0 z →
       ◌≡◌ {A = Outcome} (record { at = w.at; seat = seated_record c empty_seat; reply = r }) (outcome_of z v w (seat_candidate d c))
   unfolding outcome_of place_for record_for reply_giving reply_seen event_seen told reply_with marked_with event_of event_with act_spec sitting_after
   seating_done_lem given e = rw (e, sym is ∙ given)

@@ -2,8 +2,8 @@
 use Rattle.std.specs.Prelude.{ℕ, ◌+◌, ◌≡◌, refl, true, false, List, [], ◌∷◌}
 use Rattle.basics.specs.Core.{sym, ap, ◌∙◌, ⊎_elim}
 use Rattle.model.specs.declared.Refusal.{Refusal}
-use Rattle.model.specs.declared.Answer.{Answer}
-use Rattle.model.specs.declared.Answer.TheVariants.{Cost, Refused}
+use Rattle.model.specs.Answers.{Answer}
+use Rattle.std.specs.Prelude.{Ok, Err}
 use Rattle.model.specs.declared.Seat.{Seat}
 use Rattle.model.specs.declared.Sitting.{Sitting}
 use Rattle.model.specs.declared.Reply.{Reply}
@@ -17,8 +17,8 @@ use Rattle.basics.specs.Numbers.{true_or_false}
 use Rattle.basics.specs.Members.{Each}
 use Rattle.laws.specs.OnCard.{on_card_refused, on_card_passed}
 use Rattle.laws.specs.SittingLaws.{refused_does}
-use Rattle.card.specs.declared.Checked.{Checked}
-use Rattle.card.specs.declared.Checked.TheVariants.{Invalid}
+use Rattle.card.specs.Checking.{Checked}
+use Rattle.std.specs.Prelude.{Err}
 use Rattle.card.specs.Checking.{checked_of}
 use Rattle.card.proofs.Groups.{refused_answer}
 use Rattle.seats.specs.declared.View.{View}
@@ -27,7 +27,7 @@ use Rattle.sitting.specs.Seen.{seen, place_for, record_for, event_seen, reply_se
 
 -- What f makes of the answer is b, if it makes b of the refusal of each test and of the answer where none applies.
 first_each :
-    {B : Type 0} (f : Answer → B) (b : B) (ts : List Test) (a : Answer) → f a ≡ b → Each (λ t. f (Refused t.refusal) ≡ b) ts →
+    {B : Type 0} (f : Answer → B) (b : B) (ts : List Test) (a : Answer) → f a ≡ b → Each (λ t. f (Err t.refusal) ≡ b) ts →
     f (first_of ts a) ≡ b
 unfolding first_of
 first_each f b [] a last each = last
@@ -39,28 +39,28 @@ first_each f b (t ∷ ts) a last (this, rest) =
 
 -- What has happened by a submission that is refused.
 unfoldable refused_event : Answer → Event
-refused_event (Cost n) = nothing_done
-refused_event (Refused x) = submission_refused x
+refused_event (Ok n) = nothing_done
+refused_event (Err x) = submission_refused x
 
 -- A submission on a card that is refused does not count.
-card_not_counted : (s : List ℕ) {x : Refusal} → answer (check_card s) ≡ Refused x → submission_refused x ≡ nothing_done
+card_not_counted : (s : List ℕ) {x : Refusal} → answer (check_card s) ≡ Err x → submission_refused x ≡ nothing_done
 unfolding answer spec_of card_tests refused_event submission_refused
 card_not_counted s e =
     sym (ap refused_event e) ∙
-    first_each refused_event nothing_done (card_tests s) (Cost _) refl
+    first_each refused_event nothing_done (card_tests s) (Ok _) refl
     (refl, (refl, (refl, (refl, (refl, (refl, (refl, (refl, tt))))))))
 
 module _ (z : Sitting) (v : View) (d : ℕ) (s x : List ℕ) where
   -- A refusal by which the submission does not count.
   pub refused_answered :
-      {y : Refusal} {b : Answer} {n : ℕ} → Uncounted y z b n → answer_to (seen z v v) (submit_sheet d s x) ≡ Refused y →
+      {y : Refusal} {b : Answer} {n : ℕ} → Uncounted y z b n → answer_to (seen z v v) (submit_sheet d s x) ≡ Err y →
       submission_refused y ≡ nothing_done → Answered z v (submit_sheet d s x) b n
   unfolding event_seen event_of event_with act_spec sitting_after
   refused_answered u e none = record { answer_is = u.refused_is ∙ sym e; submissions_are = u.submissions_stay ∙ rw (e, none) }
 
   -- A submission on a card that is refused is refused with the same number.
   pub card_answered :
-      {c : Checked} {y : Refusal} {b : Answer} {n : ℕ} → Uncounted y z b n → c ≡ checked_of s → c ≡ Invalid y →
+      {c : Checked} {y : Refusal} {b : Answer} {n : ℕ} → Uncounted y z b n → c ≡ checked_of s → c ≡ Err y →
       Answered z v (submit_sheet d s x) b n
   unfolding answer_to act_spec
   card_answered u is e =
@@ -94,7 +94,7 @@ module _ (z : Sitting) (v : View) (d : ℕ) (s x : List ℕ) {a : Answer} {n : �
   module _ {after : Sitting} (after_is : after ≡ with_submissions z n) where
     -- A submission that is refused.
     pub submitting_refused :
-        {y : Refusal} {r : Outcome} → a ≡ Refused y → r ≡ unchanged_of v.len y after → r ≡ outcome_of z v v (submit_sheet d s x)
+        {y : Refusal} {r : Outcome} → a ≡ Err y → r ≡ unchanged_of v.len y after → r ≡ outcome_of z v v (submit_sheet d s x)
     unfolding outcome_of reply_giving reply_seen event_seen told reply_with marked_with event_of event_with act_spec
     submitting_refused {y} given e =
         let (place, (seat, sitting)) = refused_parts z v d s x y in
@@ -102,7 +102,7 @@ module _ (z : Sitting) (v : View) (d : ℕ) (s x : List ℕ) {a : Answer} {n : �
 
     -- A submission that is marked: the candidate's record takes its cost.
     pub submitting_marked :
-        {k : ℕ} {seat : Seat} {r : Reply} → a ≡ Cost k → seat ≡ marked_record k v.seat → r ≡ reply_giving (Cost k) 0 after →
+        {k : ℕ} {seat : Seat} {r : Reply} → a ≡ Ok k → seat ≡ marked_record k v.seat → r ≡ reply_giving (Ok k) 0 after →
         ◌≡◌ {A = Outcome} (record { at = v.at; seat = seat; reply = r }) (outcome_of z v v (submit_sheet d s x))
     unfolding outcome_of place_for record_for reply_giving reply_seen event_seen told reply_with marked_with event_of event_with act_spec
         sitting_after

@@ -4,8 +4,8 @@ use Rattle.basics.specs.Core.{sym, ap, ◌∙◌, take-append-drop, get_or-map}
 use Rattle.basics.specs.Core.{le_refl, set-append_left, set_out, not-false}
 use Rattle.basics.specs.Tests.{or_right}
 use Rattle.basics.specs.FirstPlace.{occurs, first_place, change_first, occurs_place, place_inside, change_sets, occurs_map, place_map}
-use Rattle.model.specs.declared.Answer.{Answer}
-use Rattle.model.specs.declared.Answer.TheVariants.{Cost, Refused}
+use Rattle.model.specs.Answers.{Answer}
+use Rattle.std.specs.Prelude.{Ok, Err}
 use Rattle.model.specs.declared.Seat.{Seat}
 use Rattle.model.specs.declared.Sitting.{Sitting}
 use Rattle.model.specs.Acts.{Act, seat_candidate, submit_sheet, read_least, read_lowest, Event, nothing_done, seating_done, submission_marked}
@@ -87,8 +87,8 @@ Puts v w xs e = set xs (place_for v w e) (record_for v e) ≡ seats_after e xs
 seating_put : (z : Sitting) (xs : List Seat) (d c : ℕ) (r : Answer) → answer_to (facts_of (state_of z xs)) (seat_candidate d c) ≡ r →
     Puts (scanned c xs) (scanned 0 xs) xs (event_with (λ n. seating_done c) (λ x. nothing_done) r)
 unfolding event_with place_for record_for seats_after scanned answer_to act_spec
-seating_put z xs d c (Refused x) e = set_out xs (length xs) empty_seat (le_refl (length xs))
-seating_put z xs d c (Cost n) e =
+seating_put z xs d c (Err x) e = set_out xs (length xs) empty_seat (le_refl (length xs))
+seating_put z xs d c (Ok n) e =
     let (permitted, (known, none)) = none_applies _ _ e in
     let free = not-false _ (or_right (occurs (is_for c) (map place_of (seats_of xs))) _ (or_right (eqb c 0) _ known)) in
     changed_set (is_of 0) (seated_record c) xs (sym (occurs_map place_of (is_of 0) (is_for 0) (λ s. refl) (seats_of xs)) ∙ free)
@@ -97,10 +97,10 @@ seating_put z xs d c (Cost n) e =
 submission_put : (z : Sitting) (xs : List Seat) (d : ℕ) (card sheet : List ℕ) (w : View) (r : Answer) →
     answer_to (facts_of (state_of z xs)) (submit_sheet d card sheet) ≡ r → Puts (scanned d xs) w xs (event_with (submission_marked d) submission_refused r)
 unfolding event_with act_spec place_for record_for seats_after scanned
-submission_put z xs d card sheet w (Refused x) e =
+submission_put z xs d card sheet w (Err x) e =
     let none = set_out xs (length xs) empty_seat (le_refl (length xs)) in
     refused_does (Puts (scanned d xs) w xs) (submit_sheet d card sheet) x none (λ f c s same counted. none)
-submission_put z xs d card sheet w (Cost n) e =
+submission_put z xs d card sheet w (Ok n) e =
     changed_set (is_of d) (marked_record n) xs
     (sym (occurs_map place_of (is_of d) (is_for d) (λ s. refl) (seats_of xs)) ∙ not-false _ (or_right (eqb d 0) _ (submitted_seated _ d card sheet e)))
 

@@ -1,8 +1,8 @@
 -- What an opening does, decided without the list of seats, is what it does with the list: `opening_reply`, `opening_seats`.
 use Rattle.std.specs.Prelude.{ℕ, ◌≡◌, refl, List, [], ◌∷◌, ◌++◌, map, length, replicate}
 use Rattle.basics.specs.Core.{sym, ap}
-use Rattle.model.specs.declared.Answer.{Answer}
-use Rattle.model.specs.declared.Answer.TheVariants.{Cost, Refused}
+use Rattle.model.specs.Answers.{Answer}
+use Rattle.std.specs.Prelude.{Ok, Err}
 use Rattle.model.specs.declared.Seat.{Seat}
 use Rattle.model.specs.declared.Sitting.{Sitting}
 use Rattle.model.specs.Acts.{Act, open_sitting, nothing_done, opening_done, act_spec}
@@ -40,8 +40,8 @@ module _ (z : Sitting) (xs : List Seat) (d al : ℕ) (c p w : List ℕ) where
   -- The list of seats after an answer.
   emptied_by : (r : Answer) → emptied (records_emptied r) xs ≡ seats_after (event_with (opening_done al) (λ x. nothing_done) r) xs
   unfolding records_emptied emptied seats_after event_with
-  emptied_by (Cost n) = ap (λ (l : List Seat). l ++ beyond_seats xs) (sym (map_constant empty_seat (seats_of xs)))
-  emptied_by (Refused x) = refl
+  emptied_by (Ok n) = ap (λ (l : List Seat). l ++ beyond_seats xs) (sym (map_constant empty_seat (seats_of xs)))
+  emptied_by (Err x) = refl
 
   -- The list of seats.
   pub opening_seats : emptied (opening_of z act).emptied xs ≡ seats_at_exit z xs act

@@ -1,8 +1,8 @@
 -- What an act makes of a view of the list of seats.
 use Rattle.std.specs.Prelude.{ℕ, ◌≡◌, Bool, not, ◌||◌, [], ltb, eqb}
 use Rattle.model.specs.declared.Refusal.{Refusal}
-use Rattle.model.specs.declared.Answer.{Answer}
-use Rattle.model.specs.declared.Answer.TheVariants.{Cost, Refused}
+use Rattle.model.specs.Answers.{Answer}
+use Rattle.std.specs.Prelude.{Ok, Err}
 use Rattle.model.specs.declared.Seat.{Seat}
 use Rattle.model.specs.declared.Sitting.{Sitting}
 use Rattle.model.specs.declared.Reply.{Reply}
@@ -67,12 +67,12 @@ outcome_of z v w a =
 
 -- The reply with an answer; a refusal marks nothing.
 unfoldable pub reply_giving : Answer → (marked : ℕ) → Sitting → Reply
-reply_giving (Cost n) m z = record { number = 0; cost = n; marked = m; sitting = z }
-reply_giving (Refused x) m z = record { number = refusal_number x; cost = 0; marked = 0; sitting = z }
+reply_giving (Ok n) m z = record { number = 0; cost = n; marked = m; sitting = z }
+reply_giving (Err x) m z = record { number = refusal_number x; cost = 0; marked = 0; sitting = z }
 
 -- What an act does that is refused and changes no record.
 abbrev pub unchanged_of : ℕ → Refusal → Sitting → Outcome
-unchanged_of len x z = record { at = len; seat = empty_seat; reply = reply_giving (Refused x) 0 z }
+unchanged_of len x z = record { at = len; seat = empty_seat; reply = reply_giving (Err x) 0 z }
 
 -- A sitting with another number of submissions used.
 abbrev pub with_submissions : Sitting → ℕ → Sitting
@@ -80,7 +80,7 @@ with_submissions z n = record { state = z.state; allowance = z.allowance; submis
 
 -- An answer and a number of submissions used are those of a submission that is refused and does not count.
 pub record Uncounted (x : Refusal) (z : Sitting) (answer : Answer) (submissions : ℕ) : Type 0 where
-  pub refused_is : answer ≡ Refused x
+  pub refused_is : answer ≡ Err x
   pub submissions_stay : submissions ≡ z.submissions
 
 -- An answer and a number of submissions used are those of a submission.
@@ -90,8 +90,8 @@ pub record Answered (z : Sitting) (v : View) (a : Act) (answer : Answer) (submis
 
 -- The records that an opening with an answer empties: the seats, or none.
 unfoldable pub records_emptied : Answer → ℕ
-records_emptied (Cost n) = seat_limit
-records_emptied (Refused x) = 0
+records_emptied (Ok n) = seat_limit
+records_emptied (Err x) = 0
 
 -- What an opening does, which the list of seats does not alter.
 unfoldable pub opening_of : Sitting → Act → OpenOutcome

@@ -11,12 +11,12 @@ fn answer_closing(sitting: Sitting, caller: u16) -> Answer
     ensures { result ≡ answer_to (facts_of (state_of sitting [])) (close_sitting caller) }
 {
     if caller != 0 {
-        return Answer::Refused(Refusal::NotPermitted);
+        return Err(Refusal::NotPermitted);
     }
     if sitting.state != 1 {
-        return Answer::Refused(Refusal::NotPermitted);
+        return Err(Refusal::NotPermitted);
     }
-    Answer::Cost(0)
+    Ok(0)
 }
 
 // Closes a sitting.
@@ -24,15 +24,15 @@ pub fn closing(sitting: Sitting, caller: u16) -> Reply
     ensures { result ≡ reply_of sitting [] (close_sitting caller) }
 {
     match answer_closing(sitting, caller) {
-        Answer::Refused(x) => crate::reply_giving(Answer::Refused(x), 0, sitting),
-        Answer::Cost(cost) => {
+        Err(x) => crate::reply_giving(Err(x), 0, sitting),
+        Ok(cost) => {
             let closed = Sitting {
                 state: 2,
                 allowance: sitting.allowance,
                 submissions: sitting.submissions,
                 least: sitting.least,
             };
-            crate::reply_giving(Answer::Cost(cost), 0, closed)
+            crate::reply_giving(Ok(cost), 0, closed)
         }
     }
 }

@@ -43,13 +43,13 @@ fn reply_giving(answer: Answer, marked: u64, sitting: Sitting) -> Reply
     ensures { result ≡ reply_giving answer marked sitting }
 {
     match answer {
-        Answer::Cost(cost) => Reply {
+        Ok(cost) => Reply {
             number: 0,
             cost,
             marked,
             sitting,
         },
-        Answer::Refused(x) => Reply {
+        Err(x) => Reply {
             number: model::refusal_number(x),
             cost: 0,
             marked: 0,
@@ -78,7 +78,7 @@ fn unchanged(len: usize, x: Refusal, sitting: Sitting) -> Outcome
         marked: 0,
         reserved: 0,
     };
-    let reply = reply_giving(Answer::Refused(x), 0, sitting);
+    let reply = reply_giving(Err(x), 0, sitting);
     Outcome {
         at: len,
         seat,

@@ -6,7 +6,7 @@ ghost use Rattle.card.specs.Checking.{Ready};
 ghost use Rattle.sitting.specs.Seen.{opening_of};
 
 use crate::OpenOutcome;
-use card::{Checked, Header};
+use card::Header;
 use model::{Answer, Refusal, Sitting};
 use planners::PlannerKind;
 
@@ -36,15 +36,15 @@ fn answer_opening_on(
     ensures work_after { work.new ≡ work_at_exit (act_in sitting [] (open_sitting caller allowance card.now plan.old work.old)) }
 {
     if planners::short_for(PlannerKind::Exact, card, h, plan.len(), work.len()) {
-        return Answer::Refused(Refusal::BufferTooShort);
+        return Err(Refusal::BufferTooShort);
     }
     if caller != 0 {
-        return Answer::Refused(Refusal::NotPermitted);
+        return Err(Refusal::NotPermitted);
     }
     if !allowance_in_range(allowance) {
-        return Answer::Refused(Refusal::AllowanceSpent);
+        return Err(Refusal::AllowanceSpent);
     }
-    Answer::Cost(planners::plan_by(PlannerKind::Exact, card, h, plan, work))
+    Ok(planners::plan_by(PlannerKind::Exact, card, h, plan, work))
 }
 
 // The answer to an opening: refusals 1 to 8, and then those on an accepted card.
@@ -61,8 +61,8 @@ fn answer_opening(
     ensures work_after { work.new ≡ work_at_exit (act_in sitting [] (open_sitting caller allowance card.now plan.old work.old)) }
 {
     match card::check(card) {
-        Checked::Valid(h) => answer_opening_on(sitting, caller, allowance, card, h, plan, work),
-        Checked::Invalid(x) => Answer::Refused(x),
+        Ok(h) => answer_opening_on(sitting, caller, allowance, card, h, plan, work),
+        Err(x) => Err(x),
     }
 }
 
@@ -80,11 +80,11 @@ pub fn opening(
     ensures work_after { work.new ≡ work_at_exit (act_in sitting [] (open_sitting caller allowance card.now plan.old work.old)) }
 {
     match answer_opening(sitting, caller, allowance, card, plan, work) {
-        Answer::Refused(x) => OpenOutcome {
+        Err(x) => OpenOutcome {
             emptied: 0,
-            reply: crate::reply_giving(Answer::Refused(x), 0, sitting),
+            reply: crate::reply_giving(Err(x), 0, sitting),
         },
-        Answer::Cost(cost) => {
+        Ok(cost) => {
             let opened = Sitting {
                 state: 1,
                 allowance,
@@ -93,7 +93,7 @@ pub fn opening(
             };
             OpenOutcome {
                 emptied: 32,
-                reply: crate::reply_giving(Answer::Cost(cost), 0, opened),
+                reply: crate::reply_giving(Ok(cost), 0, opened),
             }
         }
     }

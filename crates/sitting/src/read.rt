@@ -14,18 +14,18 @@ fn answer_least(sitting: Sitting, caller: u16, v: View) -> Answer
     ensures { result ≡ answer_to (seen sitting v v) (read_least caller) }
 {
     if crate::is_unopened(sitting) {
-        return Answer::Refused(Refusal::NotPermitted);
+        return Err(Refusal::NotPermitted);
     }
     if caller == 0 {
-        return Answer::Cost(sitting.least);
+        return Ok(sitting.least);
     }
     if sitting.state != 2 {
-        return Answer::Refused(Refusal::NotPermitted);
+        return Err(Refusal::NotPermitted);
     }
     if v.n <= v.at {
-        return Answer::Refused(Refusal::SeatUnavailable);
+        return Err(Refusal::SeatUnavailable);
     }
-    Answer::Cost(sitting.least)
+    Ok(sitting.least)
 }
 
 // Reads the least cost, by a view for the caller.
@@ -63,16 +63,16 @@ pub fn reading_lowest(sitting: Sitting, caller: u16, candidate: u16, v: View) ->
     ensures { result ≡ reply_seen sitting v v (read_lowest caller candidate) }
 {
     if !may_read_lowest(sitting, caller, candidate) {
-        return crate::reply_giving(Answer::Refused(Refusal::NotPermitted), 0, sitting);
+        return crate::reply_giving(Err(Refusal::NotPermitted), 0, sitting);
     }
     if no_seat(candidate, v) {
-        return crate::reply_giving(Answer::Refused(Refusal::SeatUnavailable), 0, sitting);
+        return crate::reply_giving(Err(Refusal::SeatUnavailable), 0, sitting);
     }
     let seat = v.seat;
     if seat.marked == 0 {
-        return crate::reply_giving(Answer::Cost(0), 0, sitting);
+        return crate::reply_giving(Ok(0), 0, sitting);
     }
-    crate::reply_giving(Answer::Cost(seat.lowest), 1, sitting)
+    crate::reply_giving(Ok(seat.lowest), 1, sitting)
 }
 
 // The answer to reading the submissions used: refusal 15.
@@ -80,12 +80,12 @@ fn answer_used(sitting: Sitting, caller: u16) -> Answer
     ensures { result ≡ answer_to (facts_of (state_of sitting [])) (read_used caller) }
 {
     if caller != 0 {
-        return Answer::Refused(Refusal::NotPermitted);
+        return Err(Refusal::NotPermitted);
     }
     if crate::is_unopened(sitting) {
-        return Answer::Refused(Refusal::NotPermitted);
+        return Err(Refusal::NotPermitted);
     }
-    Answer::Cost(sitting.submissions)
+    Ok(sitting.submissions)
 }
 
 // Reads the submissions used.

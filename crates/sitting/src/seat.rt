@@ -13,21 +13,21 @@ fn answer_seating(sitting: Sitting, caller: u16, candidate: u16, v: View, empty:
     ensures { result ≡ answer_to (seen sitting v empty) (seat_candidate caller candidate) }
 {
     if caller != 0 {
-        return Answer::Refused(Refusal::NotPermitted);
+        return Err(Refusal::NotPermitted);
     }
     if sitting.state != 1 {
-        return Answer::Refused(Refusal::NotPermitted);
+        return Err(Refusal::NotPermitted);
     }
     if candidate == 0 {
-        return Answer::Refused(Refusal::SeatUnavailable);
+        return Err(Refusal::SeatUnavailable);
     }
     if v.at < v.n {
-        return Answer::Refused(Refusal::SeatUnavailable);
+        return Err(Refusal::SeatUnavailable);
     }
     if empty.n <= empty.at {
-        return Answer::Refused(Refusal::SeatUnavailable);
+        return Err(Refusal::SeatUnavailable);
     }
-    Answer::Cost(0)
+    Ok(0)
 }
 
 // Seats a candidate, by a view for this candidate and one for an empty record.
@@ -35,8 +35,8 @@ pub fn seating(sitting: Sitting, caller: u16, candidate: u16, v: View, empty: Vi
     ensures { result ≡ outcome_of sitting v empty (seat_candidate caller candidate) }
 {
     match answer_seating(sitting, caller, candidate, v, empty) {
-        Answer::Refused(x) => crate::unchanged(v.len, x, sitting),
-        Answer::Cost(cost) => Outcome {
+        Err(x) => crate::unchanged(v.len, x, sitting),
+        Ok(cost) => Outcome {
             at: empty.at,
             seat: Seat {
                 lowest: 0,
@@ -44,7 +44,7 @@ pub fn seating(sitting: Sitting, caller: u16, candidate: u16, v: View, empty: Vi
                 marked: 0,
                 reserved: 0,
             },
-            reply: crate::reply_giving(Answer::Cost(cost), 0, sitting),
+            reply: crate::reply_giving(Ok(cost), 0, sitting),
         },
     }
 }

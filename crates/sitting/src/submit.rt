@@ -6,7 +6,7 @@ ghost use Rattle.card.specs.Checking.{Ready};
 ghost use Rattle.sitting.specs.Seen.{outcome_of, with_submissions, Uncounted, Answered};
 
 use crate::Outcome;
-use card::{Checked, Header};
+use card::Header;
 use model::{Answer, Refusal, Seat, Sitting};
 use seats::View;
 
@@ -22,7 +22,7 @@ fn uncounted(x: Refusal, sitting: Sitting) -> Submission
     ensures { Uncounted x sitting result.answer result.submissions }
 {
     Submission {
-        answer: Answer::Refused(x),
+        answer: Err(x),
         submissions: sitting.submissions,
     }
 }
@@ -71,8 +71,8 @@ fn answer_submission(
     ensures { Answered sitting v (submit_sheet caller card.now sheet.now) result.answer result.submissions }
 {
     match card::check(card) {
-        Checked::Valid(h) => answer_on(sitting, caller, v, card, h, sheet),
-        Checked::Invalid(x) => uncounted(x, sitting),
+        Ok(h) => answer_on(sitting, caller, v, card, h, sheet),
+        Err(x) => uncounted(x, sitting),
     }
 }
 
@@ -114,11 +114,11 @@ pub fn submitting(sitting: Sitting, caller: u16, v: View, card: &[u8], sheet: &[
     let after = with_submissions(sitting, submission.submissions);
     let answer = submission.answer;
     match answer {
-        Answer::Refused(x) => crate::unchanged(v.len, x, after),
-        Answer::Cost(cost) => Outcome {
+        Err(x) => crate::unchanged(v.len, x, after),
+        Ok(cost) => Outcome {
             at: v.at,
             seat: lowered(v.seat, cost),
-            reply: crate::reply_giving(Answer::Cost(cost), 0, after),
+            reply: crate::reply_giving(Ok(cost), 0, after),
         },
     }
 }

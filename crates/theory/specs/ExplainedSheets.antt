@@ -6,8 +6,8 @@ use Rattle.basics.specs.Core.{sym, ap, ◌∙◌, arith, lt-ltb, le-ltb, ltb-fal
 use Rattle.basics.specs.Tests.{or_left}
 use Rattle.model.specs.declared.Refusal.{Refusal}
 use Rattle.model.specs.declared.Refusal.TheVariants.{BufferTooShort}
-use Rattle.model.specs.declared.Answer.{Answer}
-use Rattle.model.specs.declared.Answer.TheVariants.{Cost, Refused}
+use Rattle.model.specs.Answers.{Answer}
+use Rattle.std.specs.Prelude.{Ok, Err}
 use Rattle.model.specs.Answers.{number_of}
 use Rattle.model.specs.Instance.{Instance, instance_of}
 use Rattle.model.specs.Sheets.{serves}
@@ -40,43 +40,43 @@ module _ (c s w : List ℕ) where
   work_left = refl
 
   -- Where the card is refused, so is the explanation, with the same number.
-  pub explain_refused : {x : Refusal} → answer (check_card c) ≡ Refused x → answer (explain_sheet c s w) ≡ Refused x
+  pub explain_refused : {x : Refusal} → answer (check_card c) ≡ Err x → answer (explain_sheet c s w) ≡ Err x
   unfolding answer spec_of
   explain_refused = on_card_refused c _ _
 
-  pub explain_short : Accepted c → length w < work_bytes exact (instance_of c) → answer (explain_sheet c s w) ≡ Refused BufferTooShort
+  pub explain_short : Accepted c → length w < work_bytes exact (instance_of c) → answer (explain_sheet c s w) ≡ Err BufferTooShort
   unfolding answer spec_of first_of any_short
   explain_short given less = on_card_passed c _ _ given ∙ rw (lt-ltb _ _ less)
 
   -- An explanation that answers a cost is on an accepted card, and its work buffer has at least the bytes asked for.
-  explained_room : {n : ℕ} → answer (explain_sheet c s w) ≡ Cost n → Accepted c × (work_bytes exact (instance_of c) ≤ length w)
+  explained_room : {n : ℕ} → answer (explain_sheet c s w) ≡ Ok n → Accepted c × (work_bytes exact (instance_of c) ≤ length w)
   unfolding answer spec_of any_short
   explained_room e = let (given, own) = on_card_cost c _ _ e in (given, ltb-false _ _ (or_left _ _ (none_applies _ _ own).0))
 
   module _ (given : Accepted c) (room : work_bytes exact (instance_of c) ≤ length w) where
     -- On an accepted card, with a work buffer that is long enough, marking's refusals decide.
-    as_marking : answer (explain_sheet c s w) ≡ first_of (sheet_tests (instance_of c) s) (Cost 0)
+    as_marking : answer (explain_sheet c s w) ≡ first_of (sheet_tests (instance_of c) s) (Ok 0)
     unfolding answer spec_of first_of any_short
     as_marking = on_card_passed c _ _ given ∙ rw (le-ltb _ _ room)
 
-    pub explain_unmarked : {x : Refusal} → answer (mark_sheet c s) ≡ Refused x → answer (explain_sheet c s w) ≡ Refused x
+    pub explain_unmarked : {x : Refusal} → answer (mark_sheet c s) ≡ Err x → answer (explain_sheet c s w) ≡ Err x
     unfolding answer spec_of
     explain_unmarked e = as_marking ∙ first_refused (sheet_tests (instance_of c) s) _ refl (sym (on_card_passed c _ _ given) ∙ e)
 
-    pub explain_marked : {n : ℕ} → answer (mark_sheet c s) ≡ Cost n → answer (explain_sheet c s w) ≡ Cost 0
+    pub explain_marked : {n : ℕ} → answer (mark_sheet c s) ≡ Ok n → answer (explain_sheet c s w) ≡ Ok 0
     unfolding answer spec_of
     explain_marked e = as_marking ∙ first_through (sheet_tests (instance_of c) s) _ _ (sym (on_card_passed c _ _ given) ∙ e)
 
     -- An explanation that answers a cost is of a sheet that marking accepts.
-    explained_marked : {n : ℕ} → answer (explain_sheet c s w) ≡ Cost n → number_of (answer (mark_sheet c s)) ≡ 0
+    explained_marked : {n : ℕ} → answer (explain_sheet c s w) ≡ Ok n → number_of (answer (mark_sheet c s)) ≡ 0
     unfolding answer spec_of
     explained_marked e = ap number_of (on_card_passed c _ _ given ∙ first_through (sheet_tests (instance_of c) s) _ _ (sym as_marking ∙ e))
 
 -- The number of an explanation is that of its answer.
 points_number : (a : Answer) (i : Instance) (s : List ℕ) → (points_with a i s).number ≡ number_of a
 unfolding points_with
-points_number (Cost n) i s = refl
-points_number (Refused x) i s = refl
+points_number (Ok n) i s = refl
+points_number (Err x) i s = refl
 
 module _ (c s w : List ℕ) where
   number_is : (points_of c s w).number ≡ number_of (answer (explain_sheet c s w))
@@ -103,7 +103,7 @@ module _ (c s w : List ℕ) where
     ready = accepted_plannable c accepted.0
 
     -- Its numbers are the three of the sheet.
-    points_are : points_of c s w ≡ points_with (Cost 0) (instance_of c) s
+    points_are : points_of c s w ≡ points_with (Ok 0) (instance_of c) s
     unfolding points_of
     points_are =
         let (marked, room) = explains_marked.0 e in

@@ -7,7 +7,7 @@ use Rattle.basics.specs.Numbers.{true_or_false}
 use Rattle.basics.specs.Tests.{and_right}
 use Rattle.basics.specs.Bytes.{little_take}
 use Rattle.model.specs.declared.Refusal.{Refusal}
-use Rattle.model.specs.declared.Answer.TheVariants.{Cost, Refused}
+use Rattle.std.specs.Prelude.{Ok, Err}
 use Rattle.model.specs.Instance.{instance_of, card_length, rack_number, head_length, version_place, modules_place, top_step_place, slots_place, load_place}
 use Rattle.model.specs.Planners.{exact}
 use Rattle.model.specs.Specs.{Test, ◌when◌, card_tests, first_of}
@@ -23,12 +23,12 @@ bytes_read = load_place 200 1024 + 1
 -- Of two lists of tests the first that applies gives the same refusal.
 record SameRefusal (ts us : List Test) : Type 0 where
   refusal : Refusal
-  one : first_of ts (Cost 0) ≡ Refused refusal
-  other : first_of us (Cost 0) ≡ Refused refusal
+  one : first_of ts (Ok 0) ≡ Err refusal
+  other : first_of us (Ok 0) ≡ Err refusal
 
 module _ {x : Refusal} {a b : Bool} {ts us : List Test} where
   same_here : a ≡ true → b ≡ true → SameRefusal (x when a ∷ ts) (x when b ∷ us)
-  same_here e d = record { refusal = x; one = first_hit (x when a) ts (Cost 0) e; other = first_hit (x when b) us (Cost 0) d }
+  same_here e d = record { refusal = x; one = first_hit (x when a) ts (Ok 0) e; other = first_hit (x when b) us (Ok 0) d }
 
   same_next : b ≡ a → (a ≡ false → SameRefusal ts us) → SameRefusal (x when a ∷ ts) (x when b ∷ us)
   same_next same rest =
@@ -38,8 +38,8 @@ module _ {x : Refusal} {a b : Bool} {ts us : List Test} where
       let r = rest e in
       record {
         refusal = r.refusal;
-        one = first_skip (x when a) ts (Cost 0) e ∙ r.one;
-        other = first_skip (x when b) us (Cost 0) (same ∙ e) ∙ r.other;
+        one = first_skip (x when a) ts (Ok 0) e ∙ r.one;
+        other = first_skip (x when b) us (Ok 0) (same ∙ e) ∙ r.other;
       })
       (true_or_false a)
 

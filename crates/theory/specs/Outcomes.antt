@@ -7,8 +7,8 @@ use Rattle.basics.specs.Core.{le-leb, le-ltb, ltb-false, eqb-true, eq-eqb, not-f
 use Rattle.basics.specs.Tests.{every_at, every_all, or_left}
 use Rattle.model.specs.declared.Refusal.{Refusal}
 use Rattle.model.specs.declared.Refusal.TheVariants.{BufferTooShort, CountList}
-use Rattle.model.specs.declared.Answer.{Answer}
-use Rattle.model.specs.declared.Answer.TheVariants.{Cost, Refused}
+use Rattle.model.specs.Answers.{Answer}
+use Rattle.std.specs.Prelude.{Ok, Err}
 use Rattle.model.specs.Answers.{number_of}
 use Rattle.model.specs.Instance.{Instance, instance_of}
 use Rattle.model.specs.Sheets.{serves, sheet_cost}
@@ -27,14 +27,14 @@ use Rattle.theory.specs.Refusals.{succeeded}
 
 -- After an answer with a cost the first k bytes of a buffer are the k bytes that are written.
 pub written_taken :
-    {a : Answer} {n : ℕ} (b : Buffer) (k : ℕ) → a ≡ Cost n → length b.writes ≡ k → take k (at_exit a b) ≡ b.writes
+    {a : Answer} {n : ℕ} (b : Buffer) (k : ℕ) → a ≡ Ok n → length b.writes ≡ k → take k (at_exit a b) ≡ b.writes
 unfolding at_exit
 written_taken b k e size = rw e (take_at b.writes _ k size)
 
 -- Marking a sheet.
 module _ (c s : List ℕ) where
   -- Marking that answers a cost is of a sheet that serves, on an accepted card.
-  marked_serves : {n : ℕ} → answer (mark_sheet c s) ≡ Cost n → Accepted c × (serves (instance_of c) s ≡ true)
+  marked_serves : {n : ℕ} → answer (mark_sheet c s) ≡ Ok n → Accepted c × (serves (instance_of c) s ≡ true)
   unfolding answer spec_of
   marked_serves e =
       let (given, own) = on_card_cost c _ _ e in
@@ -42,13 +42,13 @@ module _ (c s : List ℕ) where
       (given, (serves_parts (instance_of c) s).1 (not-false _ size, not-false _ entries, not-false _ light))
 
   -- A sheet that serves is marked with its cost on an accepted card.
-  serves_marked : Accepted c → serves (instance_of c) s ≡ true → answer (mark_sheet c s) ≡ Cost (sheet_cost (instance_of c) s)
+  serves_marked : Accepted c → serves (instance_of c) s ≡ true → answer (mark_sheet c s) ≡ Ok (sheet_cost (instance_of c) s)
   unfolding answer spec_of first_of
   serves_marked given e =
       let (size, entries, light) = (serves_parts (instance_of c) s).0 e in on_card_passed c _ _ given ∙ rw (size, entries, light)
 
   -- Marking on an accepted card gives the sheet's cost exactly if the sheet serves.
-  pub mark_accepts : Accepted c → answer (mark_sheet c s) ≡ Cost (sheet_cost (instance_of c) s) ↔ serves (instance_of c) s ≡ true
+  pub mark_accepts : Accepted c → answer (mark_sheet c s) ≡ Ok (sheet_cost (instance_of c) s) ↔ serves (instance_of c) s ≡ true
   mark_accepts given = (λ e. (marked_serves e).1, serves_marked given)
 
   -- Marking gives number 0 exactly if the card is accepted and the sheet serves.
@@ -63,17 +63,17 @@ module _ (c p s : List ℕ) where
   sheet_at_exit_lem = refl
 
   -- A sheet call that answers a cost is on an accepted card.
-  pub made_on : {n : ℕ} → answer (make_sheet c p s) ≡ Cost n → Accepted c
+  pub made_on : {n : ℕ} → answer (make_sheet c p s) ≡ Ok n → Accepted c
   unfolding answer spec_of
   made_on = on_card_accepted c _ _
 
   -- Where the sheet call answers a cost, its buffer has at least the bytes asked for.
-  pub made_room : {n : ℕ} → answer (make_sheet c p s) ≡ Cost n → sheet_bytes (instance_of c) ≤ length s
+  pub made_room : {n : ℕ} → answer (make_sheet c p s) ≡ Ok n → sheet_bytes (instance_of c) ≤ length s
   unfolding answer spec_of any_short
   made_room e = ltb-false _ _ (or_left _ _ (none_applies _ _ (on_card_cost c _ _ e).1).0)
 
   -- Where the sheet call answers a cost, the plan has a sheet that can be written.
-  pub made_fits : {n : ℕ} → answer (make_sheet c p s) ≡ Cost n → PlanFits (instance_of c) p
+  pub made_fits : {n : ℕ} → answer (make_sheet c p s) ≡ Ok n → PlanFits (instance_of c) p
   unfolding answer spec_of plan_in_rack
   made_fits e =
       let (given, own) = on_card_cost c _ _ e in
@@ -88,7 +88,7 @@ module _ (c p s : List ℕ) where
   -- Where the plan has a sheet that can be written and the buffer is long enough, the sheet call answers the plan's cost.
   fits_made :
       Accepted c → PlanFits (instance_of c) p → sheet_bytes (instance_of c) ≤ length s →
-      answer (make_sheet c p s) ≡ Cost (plan_cost (instance_of c) p)
+      answer (make_sheet c p s) ≡ Ok (plan_cost (instance_of c) p)
   unfolding answer spec_of first_of any_short plan_in_rack
   fits_made given fit room =
       let i = instance_of c in
@@ -127,7 +127,7 @@ module _ (k : Planner) (c : List ℕ) (given : Accepted c) (keeps : KeepsRules k
   -- Sheet call and marking accept the plan at its cost.
   pub sheet_accepted :
       (s : List ℕ) → sheet_bytes (instance_of c) ≤ length s →
-      Marked c (planned_by k (instance_of c)) s (Cost (planned_cost k (instance_of c)))
+      Marked c (planned_by k (instance_of c)) s (Ok (planned_cost k (instance_of c)))
   unfolding planned_by
   sheet_accepted s room =
       let made = fits_made c (planned_by k (instance_of c)) s given best_fits room in
@@ -155,23 +155,23 @@ module _ (k : Planner) (c p w : List ℕ) where
   work_at_exit_lem = refl
 
   -- A planner that answers a cost is on an accepted card.
-  pub planner_on : {n : ℕ} → answer (plan_show k c p w) ≡ Cost n → Accepted c
+  pub planner_on : {n : ℕ} → answer (plan_show k c p w) ≡ Ok n → Accepted c
   unfolding answer spec_of
   planner_on = on_card_accepted c _ _
 
   -- On a card that is refused a planner is refused too, with the same number.
-  pub planner_refused : {x : Refusal} → answer (check_card c) ≡ Refused x → answer (plan_show k c p w) ≡ Refused x
+  pub planner_refused : {x : Refusal} → answer (check_card c) ≡ Err x → answer (plan_show k c p w) ≡ Err x
   unfolding answer spec_of
   planner_refused = on_card_refused c _ _
 
   -- A planner that answers a cost keeps the rules.
-  pub planner_keeps : {n : ℕ} → answer (plan_show k c p w) ≡ Cost n → KeepsRules k (instance_of c)
+  pub planner_keeps : {n : ℕ} → answer (plan_show k c p w) ≡ Ok n → KeepsRules k (instance_of c)
   unfolding answer spec_of
   planner_keeps e = not-false _ (none_applies _ _ (sym (planner_list k _ _ _) ∙ (on_card_cost c _ _ e).1)).0
 
   -- Where a planner answers a cost, its buffers have at least the bytes asked for.
   pub planner_room :
-      {n : ℕ} → answer (plan_show k c p w) ≡ Cost n → ((instance_of c).slots ≤ length p) × (work_bytes k (instance_of c) ≤ length w)
+      {n : ℕ} → answer (plan_show k c p w) ≡ Ok n → ((instance_of c).slots ≤ length p) × (work_bytes k (instance_of c) ≤ length w)
   unfolding answer spec_of any_short
   planner_room e =
       let (keeps, (room, none)) = none_applies _ _ (sym (planner_list k _ _ _) ∙ (on_card_cost c _ _ e).1) in
@@ -180,25 +180,25 @@ module _ (k : Planner) (c p w : List ℕ) where
 
   -- On an accepted card a list against the rules is refused by 18, whatever the buffers are.
   pub planner_unlisted :
-      Accepted c → keeps_list k (instance_of c) ≡ false → answer (plan_show k c p w) ≡ Refused CountList
+      Accepted c → keeps_list k (instance_of c) ≡ false → answer (plan_show k c p w) ≡ Err CountList
   unfolding answer spec_of first_of
   planner_unlisted given against = on_card_passed c _ _ given ∙ planner_list k _ _ _ ∙ rw against
 
   -- The answer on an accepted card of a planner that keeps the rules, by the buffers.
   module _ (given : Accepted c) (keeps : KeepsRules k (instance_of c)) where
-    pub planner_short : any_short (spec_of (plan_show k c p w)).buffers ≡ true → answer (plan_show k c p w) ≡ Refused BufferTooShort
+    pub planner_short : any_short (spec_of (plan_show k c p w)).buffers ≡ true → answer (plan_show k c p w) ≡ Err BufferTooShort
     unfolding answer spec_of first_of
     planner_short short = on_card_passed c _ _ given ∙ planner_list k _ _ _ ∙ rw (keeps, short)
 
     pub planner_cost :
-        any_short (spec_of (plan_show k c p w)).buffers ≡ false → answer (plan_show k c p w) ≡ Cost (planned_cost k (instance_of c))
+        any_short (spec_of (plan_show k c p w)).buffers ≡ false → answer (plan_show k c p w) ≡ Ok (planned_cost k (instance_of c))
     unfolding answer spec_of first_of
     planner_cost room = on_card_passed c _ _ given ∙ planner_list k _ _ _ ∙ rw (keeps, room)
 
     -- The planner answers its cost wherever the buffers have the bytes asked for.
     pub planner_answer :
         (instance_of c).slots ≤ length p → work_bytes k (instance_of c) ≤ length w →
-        answer (plan_show k c p w) ≡ Cost (planned_cost k (instance_of c))
+        answer (plan_show k c p w) ≡ Ok (planned_cost k (instance_of c))
     unfolding spec_of any_short
     planner_answer room work = planner_cost (rw (le-ltb _ _ room, le-ltb _ _ work))
 

@@ -12,8 +12,8 @@ use Rattle.model.specs.CountRules.{strictly_ascends}
 use Rattle.model.specs.declared.Refusal.{Refusal}
 use Rattle.model.specs.declared.Seat.{Seat}
 use Rattle.model.specs.declared.Sitting.{Sitting}
-use Rattle.model.specs.declared.Answer.{Answer}
-use Rattle.model.specs.declared.Answer.TheVariants.{Cost, Refused}
+use Rattle.model.specs.Answers.{Answer}
+use Rattle.std.specs.Prelude.{Ok, Err}
 use Rattle.model.specs.Answers.{refusal_number, number_of}
 use Rattle.model.specs.Planners.{exact, coarse, listed}
 use Rattle.model.specs.Calls.{Call, check_card, running_cost, plan_show, make_sheet, mark_sheet, round_count, practice_card, catalogue_table, explain_sheet}
@@ -80,17 +80,17 @@ own_order_falls (allowance_first z xs d c s) order = true≢false (sym (rises or
 
 -- The test that gives a refusal applies, and stands in the list behind tests that do not.
 first_found :
-    (ts : List Test) (n : ℕ) {x : Refusal} → first_of ts (Cost n) ≡ Refused x →
+    (ts : List Test) (n : ℕ) {x : Refusal} → first_of ts (Ok n) ≡ Err x →
     (before : List Test) × (after : List Test) × (ts ≡ before ++ (x when true ∷ after)) × ((t : Test) → Memᴰ t before → t.applies ≡ false)
 unfolding first_of
 first_found [] n {x} e = let none : ◌≡◌ {A = ℕ} 0 1 = cc in absurd (omega arith)
 first_found (z ∷ zs) n {x} e =
     ⊎_elim
     (λ (t : z.applies ≡ true).
-    let same : z.refusal ≡ x = cc (first_hit z zs (Cost n) t) in
+    let same : z.refusal ≡ x = cc (first_hit z zs (Ok n) t) in
     ([], zs, (λ i. record { refusal = same i; applies = t i } ∷ zs), λ y m. absurd (mem_not_nil m)))
     (λ (t : z.applies ≡ false).
-    let (before, after, split, none) = first_found zs n (sym (first_skip z zs (Cost n) t) ∙ e) in (
+    let (before, after, split, none) = first_found zs n (sym (first_skip z zs (Ok n) t) ∙ e) in (
       z ∷ before,
       after,
       ap (λ (l : List Test). z ∷ l) split,
@@ -100,7 +100,7 @@ first_found (z ∷ zs) n {x} e =
 
 -- In a list in order no test below the one that gives the refusal applies.
 first_least :
-    (ts : List Test) (a : Answer) {x : Refusal} {y : Test} → InOrder ◌<◌ (map (λ t. refusal_number t.refusal) ts) → first_of ts a ≡ Refused x →
+    (ts : List Test) (a : Answer) {x : Refusal} {y : Test} → InOrder ◌<◌ (map (λ t. refusal_number t.refusal) ts) → first_of ts a ≡ Err x →
     Memᴰ y ts → y.applies ≡ true → refusal_number x ≤ refusal_number y.refusal
 first_least [] a order e m h = absurd (mem_not_nil m)
 first_least (z ∷ zs) a {x} {y} (next above order) e m h =
@@ -121,7 +121,7 @@ first_least (z ∷ zs) a {x} {y} (next above order) e m h =
 module _ (c : Call) where
   -- A refusal that is answered is that of the first of the call's tests that applies.
   pub answered_first :
-      {x : Refusal} → answer c ≡ Refused x →
+      {x : Refusal} → answer c ≡ Err x →
       (before : List Test) × (after : List Test) × ((spec_of c).tests ≡ before ++ (x when true ∷ after)) ×
       ((t : Test) → Memᴰ t before → t.applies ≡ false)
   unfolding answer
@@ -129,13 +129,13 @@ module _ (c : Call) where
 
   -- Where no paragraph of document 02 sets an order, a refusal that is answered is the lowest of the call's that applies.
   pub lowest_least :
-      (OwnOrder c → ⊥) → {x : Refusal} → answer c ≡ Refused x → (t : Test) → Memᴰ t (spec_of c).tests →
+      (OwnOrder c → ⊥) → {x : Refusal} → answer c ≡ Err x → (t : Test) → Memᴰ t (spec_of c).tests →
       t.applies ≡ true → refusal_number x ≤ refusal_number t.refusal
   unfolding answer
   lowest_least plain e t m h =
       ⊎_elim
       (λ (own : OwnOrder c). absurd (plain own))
-      (λ (order : InOrder ◌<◌ (test_numbers c)). first_least (spec_of c).tests (Cost (spec_of c).cost) order e m h)
+      (λ (order : InOrder ◌<◌ (test_numbers c)). first_least (spec_of c).tests (Ok (spec_of c).cost) order e m h)
       (refusals_ascend c)
 
   -- 'and 9 is never given' (02 §2): no call answers with this number.
@@ -143,28 +143,28 @@ module _ (c : Call) where
   nine_never e = go (answer c) refl e
     where
       go : (a : Answer) → answer c ≡ a → number_of a ≡ 9 → ⊥
-      go (Cost n) given nine = absurd (omega arith)
-      go (Refused x) given nine =
+      go (Ok n) given nine = absurd (omega arith)
+      go (Err x) given nine =
           let (before, after, split, none) = answered_first given in
           let listed : Memᴰ (x when true) (spec_of c).tests = rw split (mem_append_right before (mem_head refl)) in
           eqb-false (refusal_number x) 9 (not-true _ (all_of_at _ _ (numbers_seen c).0 (mem_map (λ (t : Test). refusal_number t.refusal) listed))) nine
 
   -- An answer with number 0 is the cost of the call.
-  pub succeeded : number_of (answer c) ≡ 0 → answer c ≡ Cost (spec_of c).cost
+  pub succeeded : number_of (answer c) ≡ 0 → answer c ≡ Ok (spec_of c).cost
   unfolding answer
-  succeeded e = first_through (spec_of c).tests (Cost (spec_of c).cost) _ (number_zero _ e)
+  succeeded e = first_through (spec_of c).tests (Ok (spec_of c).cost) _ (number_zero _ e)
 
   -- Where a cost is answered, none of the call's tests applies, and the cost is that of the call.
   pub accepted_none :
-      {n : ℕ} → answer c ≡ Cost n → ((t : Test) → Memᴰ t (spec_of c).tests → t.applies ≡ false) × (n ≡ (spec_of c).cost)
+      {n : ℕ} → answer c ≡ Ok n → ((t : Test) → Memᴰ t (spec_of c).tests → t.applies ≡ false) × (n ≡ (spec_of c).cost)
   unfolding answer
   accepted_none e = (λ t. each_member _ (spec_of c).tests (none_applies _ _ e), let full = succeeded (ap number_of e) in cc)
 
 -- 'A refusal .. alters no lent byte': every lent buffer is at exit as it was lent.
-pub refused_unchanged : (c : Call) {x : Refusal} → answer c ≡ Refused x → buffers_at_exit c ≡ lent c
+pub refused_unchanged : (c : Call) {x : Refusal} → answer c ≡ Err x → buffers_at_exit c ≡ lent c
 unfolding buffers_at_exit lent at_exit
 refused_unchanged c {x} e = rw e (entries (spec_of c).buffers)
   where
-    entries : (bs : List Buffer) → map (at_exit (Refused x)) bs ≡ map (λ b. b.entry) bs
+    entries : (bs : List Buffer) → map (at_exit (Err x)) bs ≡ map (λ b. b.entry) bs
     entries [] = refl
     entries (b ∷ bs) = rw (entries bs)

@@ -9,8 +9,8 @@ use Rattle.basics.specs.Numbers.{true_or_false}
 use Rattle.basics.specs.Members.{Each, each_all}
 use Rattle.basics.specs.FirstPlace.{first_place, change_first}
 use Rattle.model.specs.declared.Refusal.TheVariants.{NotPermitted}
-use Rattle.model.specs.declared.Answer.{Answer}
-use Rattle.model.specs.declared.Answer.TheVariants.{Cost, Refused}
+use Rattle.model.specs.Answers.{Answer}
+use Rattle.std.specs.Prelude.{Ok, Err}
 use Rattle.model.specs.declared.Seat.{Seat}
 use Rattle.model.specs.declared.Sitting.{Sitting}
 use Rattle.model.specs.Answers.{number_of, cost_of}
@@ -36,7 +36,7 @@ use Rattle.theory.specs.SittingEvents.{marked_possible, acts_possible}
 use Rattle.theory.specs.SittingRuns.{left_state}
 
 -- 'reads the least cost only after closing': until then every caller but the supervisor is refused by 15.
-pub least_hidden : (f : Facts) (d : ℕ) → is_closed f.phase ≡ false → eqb d 0 ≡ false → answer_to f (read_least d) ≡ Refused NotPermitted
+pub least_hidden : (f : Facts) (d : ℕ) → is_closed f.phase ≡ false → eqb d 0 ≡ false → answer_to f (read_least d) ≡ Err NotPermitted
 unfolding answer_to act_spec
 least_hidden f d before candidate = first_hit _ _ _ (rw (candidate, before) (either (is_unopened f.phase)))
   where
@@ -63,12 +63,12 @@ submission_as_marking f d card s given passed =
 
 -- A sheet that is marked in a sitting costs at least the least cost of its card (condition 3).
 submitted_least :
-    (f : Facts) (d : ℕ) (card s : List ℕ) {n : ℕ} → answer_to f (submit_sheet d card s) ≡ Cost n → planned_cost exact (instance_of card) ≤ n
+    (f : Facts) (d : ℕ) (card s : List ℕ) {n : ℕ} → answer_to f (submit_sheet d card s) ≡ Ok n → planned_cost exact (instance_of card) ≤ n
 unfolding answer_to act_spec
 submitted_least f d card s {n} e =
     let (given, own) = on_card_cost card _ _ e in
-    let passed = first_through (submission_tests f d) (Cost 0) _ (sym (first_append (submission_tests f d) _ _) ∙ own) in
-    let marked : answer (mark_sheet card s) ≡ Cost n = sym (submission_as_marking f d card s given passed) ∙ e in
+    let passed = first_through (submission_tests f d) (Ok 0) _ (sym (first_append (submission_tests f d) _ _) ∙ own) in
+    let marked : answer (mark_sheet card s) ≡ Ok n = sym (submission_as_marking f d card s given passed) ∙ e in
     let serving = ((mark_number card s).0 (ap number_of marked)).1 in
     let cost : sheet_cost (instance_of card) s ≡ n = ap cost_of (sym ((mark_accepts card s given).1 serving) ∙ marked) in
     omega (arith, planner_bound exact (accepted_plannable card given) refl s serving)
@@ -187,18 +187,18 @@ none_below_least :
     (card : List ℕ) (f : Facts) (a : Act) → LentCard card a → (r : Answer) → answer_to f a ≡ r →
     MarksAtLeast (planned_cost exact (instance_of card)) (event_with (act_spec a).done (act_spec a).refused r)
 unfolding MarksAtLeast effect_of event_with act_spec
-none_below_least card f (open_sitting d a c p w) lent (Cost n) e k = tt
-none_below_least card f (seat_candidate d c) lent (Cost n) e k = tt
-none_below_least card f (close_sitting d) lent (Cost n) e k = tt
-none_below_least card f (submit_sheet d c s) lent (Cost n) e k = either (eqb d k) (rw (sym lent.0) (submitted_least f d c s e))
+none_below_least card f (open_sitting d a c p w) lent (Ok n) e k = tt
+none_below_least card f (seat_candidate d c) lent (Ok n) e k = tt
+none_below_least card f (close_sitting d) lent (Ok n) e k = tt
+none_below_least card f (submit_sheet d c s) lent (Ok n) e k = either (eqb d k) (rw (sym lent.0) (submitted_least f d c s e))
   where
     either : {l : ℕ} (b : Bool) → l ≤ n → Each (λ m. l ≤ m) (cond b (n ∷ []) [])
     either true h = (h, tt)
     either false h = tt
-none_below_least card f (read_least d) lent (Cost n) e k = tt
-none_below_least card f (read_lowest d c) lent (Cost n) e k = tt
-none_below_least card f (read_used d) lent (Cost n) e k = tt
-none_below_least card f a lent (Refused x) e k = refused_does (MarksAtLeast _) a x (λ k. tt) (λ d c s same counted k. tt) k
+none_below_least card f (read_least d) lent (Ok n) e k = tt
+none_below_least card f (read_lowest d c) lent (Ok n) e k = tt
+none_below_least card f (read_used d) lent (Ok n) e k = tt
+none_below_least card f a lent (Err x) e k = refused_does (MarksAtLeast _) a x (λ k. tt) (λ d c s same counted k. tt) k
 
 -- 'a spent allowance gets 17': whatever the acts, no more submissions are used than the allowance.
 pub submissions_within :
@@ -224,10 +224,10 @@ read_bounded {l} {s} b d c e = go (answer_to (facts_of s) (read_lowest d c)) ref
         each_seat_at (NotBelow l) (λ u h. absurd (none-ne-some u h)) s.places (b.above o) (first_place (is_for c) s.places) v is
 
     go : (r : Answer) → answer_to (facts_of s) (read_lowest d c) ≡ r → marked_with ((act_spec (read_lowest d c)).marked (facts_of s)) r ≡ 1 → l ≤ cost_of r
-    go (Refused x) is marked = absurd (omega arith)
-    go (Cost n) is marked =
+    go (Err x) is marked = absurd (omega arith)
+    go (Ok n) is marked =
         let (permitted, rest) = none_applies _ _ is in
-        let cost : option_get_or lowest 0 ≡ n = ap cost_of (sym (first_through _ (Cost (option_get_or lowest 0)) _ is) ∙ is) in
+        let cost : option_get_or lowest 0 ≡ n = ap cost_of (sym (first_through _ (Ok (option_get_or lowest 0)) _ is) ∙ is) in
         omega (arith, read lowest refl (once_begun _ _ permitted) marked)
 
 -- A candidate's lowest cost that is read is at least the least cost of the card that the acts are lent (by condition 3).

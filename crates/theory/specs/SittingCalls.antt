@@ -5,8 +5,8 @@ use Rattle.std.specs.Prelude.{ℕ, ◌≡◌, refl, Bool, true, false, cond, ◌
 use Rattle.basics.specs.Core.{ap, false≢true, ⊎_elim, arith, eqb-true, eq-eqb, ne_eqb}
 use Rattle.basics.specs.Numbers.{true_or_false}
 use Rattle.model.specs.declared.Refusal.{Refusal}
-use Rattle.model.specs.declared.Answer.{Answer}
-use Rattle.model.specs.declared.Answer.TheVariants.{Cost, Refused}
+use Rattle.model.specs.Answers.{Answer}
+use Rattle.std.specs.Prelude.{Ok, Err}
 use Rattle.model.specs.declared.Seat.{Seat}
 use Rattle.model.specs.declared.Sitting.{Sitting}
 use Rattle.model.specs.Acts.{unopened, opened, closed, is_opened, is_closed, Act, close_sitting, read_least, read_lowest, read_used, act_spec}
@@ -27,7 +27,7 @@ module _ (z : Sitting) (xs : List Seat) where
   refused_leaves a x = refused_does (λ e. seats_after e xs ≡ xs) a x refl (λ d c s same counted. refl)
 
   -- 'A refusal .. alters no lent byte': a refused act leaves the list of seats.
-  pub refused_seats : (a : Act) {x : Refusal} → answer (act_in z xs a) ≡ Refused x → seats_at_exit z xs a ≡ xs
+  pub refused_seats : (a : Act) {x : Refusal} → answer (act_in z xs a) ≡ Err x → seats_at_exit z xs a ≡ xs
   unfolding seats_at_exit answer spec_of answer_to event_of event_with
   refused_seats a {x} e = rw e (refused_leaves a x)
 
@@ -46,8 +46,8 @@ module _ (z : Sitting) (xs : List Seat) where
   leaves a done = either (answer_to (facts_of (state_of z xs)) a)
     where
       either : (r : Answer) → seats_after (event_with (act_spec a).done (act_spec a).refused r) xs ≡ xs
-      either (Cost n) = done n
-      either (Refused x) = refused_leaves a x
+      either (Ok n) = done n
+      either (Err x) = refused_leaves a x
 
   pub close_leaves : (d : ℕ) → seats_at_exit z xs (close_sitting d) ≡ xs
   unfolding seats_after act_spec

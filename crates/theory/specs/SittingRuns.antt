@@ -3,7 +3,7 @@
 use Rattle.std.specs.Prelude.{ℕ, ◌≡◌, refl, false, List, [], ◌∷◌, length}
 use Rattle.basics.specs.Core.{sym, ap, ◌∙◌, subst, true≢false, length-map}
 use Rattle.basics.specs.FirstPlace.{occurs}
-use Rattle.model.specs.declared.Answer.{Answer}
+use Rattle.model.specs.Answers.{Answer}
 use Rattle.model.specs.declared.Seat.{Seat}
 use Rattle.model.specs.declared.Sitting.{Sitting}
 use Rattle.model.specs.Acts.{Act, open_sitting, is_unopened, Event, nothing_done, opening_done, act_spec}

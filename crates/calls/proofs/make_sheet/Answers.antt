@@ -6,7 +6,7 @@ use Rattle.calls.proofs.make_sheet.Goals as goal
 pub make_sheet_on-requires : goal.make_sheet_on-requires
 make_sheet_on-requires c = search ready
 
-pub returns-in-Invalid : goal.returns-in-Invalid
-returns-in-Invalid c =
-    let (value, sheet_after) = make_refused _ _ _ c.in-Invalid.ensures refl in
+pub returns-in-Err : goal.returns-in-Err
+returns-in-Err c =
+    let (value, sheet_after) = make_refused _ _ _ c.in-Err.ensures refl in
     record { value = value; sheet_after = sheet_after }

@@ -5,5 +5,5 @@ use Rattle.calls.proofs.mark_sheet.Goals as goal
 pub mark_sheet_on-requires : goal.mark_sheet_on-requires
 mark_sheet_on-requires c = search ready
 
-pub returns-in-Invalid : goal.returns-in-Invalid
-returns-in-Invalid c = search mark_refused
+pub returns-in-Err : goal.returns-in-Err
+returns-in-Err c = search mark_refused

@@ -6,7 +6,7 @@ use Rattle.explanation.proofs.explain.Goals as goal
 pub explain_on-requires : goal.explain_on-requires
 explain_on-requires c = search ready
 
-pub returns-in-Invalid : goal.returns-in-Invalid
-returns-in-Invalid c =
-    let (value, work_after) = refused_card _ _ _ c.in-Invalid.ensures refl c.refused.ensures in
+pub returns-in-Err : goal.returns-in-Err
+returns-in-Err c =
+    let (value, work_after) = refused_card _ _ _ c.in-Err.ensures refl c.refused.ensures in
     record { value = value; work_after = work_after }

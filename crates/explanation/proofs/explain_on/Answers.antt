@@ -14,14 +14,14 @@ points_of-requires c = record {
   work_room = search work_lent;
 }
 
-pub returns-in-Cost : goal.returns-in-Cost
-returns-in-Cost c =
-    let (value, work_after) = explained _ _ c.args.work.now c.requires c.work_bytes-asked.ensures c.if-work-asked.false c.in-Cost.ensures
+pub returns-in-Ok : goal.returns-in-Ok
+returns-in-Ok c =
+    let (value, work_after) = explained _ _ c.args.work.now c.requires c.work_bytes-asked.ensures c.if-work-asked.false c.in-Ok.ensures
     refl c.points_of.ensures.value c.points_of.ensures.work_after in
     record { value = value; work_after = work_after }
 
-pub returns-in-Refused : goal.returns-in-Refused
-returns-in-Refused c =
+pub returns-in-Err : goal.returns-in-Err
+returns-in-Err c =
     let (value, work_after) = refused_sheet _ _ c.args.work.now c.requires c.work_bytes-asked.ensures c.if-work-asked.false
-    c.in-Refused.ensures refl c.refused-in-Refused.ensures in
+    c.in-Err.ensures refl c.refused-in-Err.ensures in
     record { value = value; work_after = work_after }

@@ -1,5 +1,5 @@
 use Rattle.lamp.proofs.Promised.{refused_numbers}
 use Rattle.lamp.proofs.to_c.Goals as goal
 
-pub returns-in-Refused : goal.returns-in-Refused
-returns-in-Refused c = refused_numbers c.in-Refused.is c.refusal_number.ensures
+pub returns-in-Err : goal.returns-in-Err
+returns-in-Err c = refused_numbers c.in-Err.is c.refusal_number.ensures

@@ -1,8 +1,8 @@
 use Rattle.sitting.proofs.Replies.{giving_cost, giving_refusal}
 use Rattle.sitting.proofs.reply_giving.Goals as goal
 
-pub returns-in-Cost : goal.returns-in-Cost
-returns-in-Cost c = search giving_cost
+pub returns-in-Ok : goal.returns-in-Ok
+returns-in-Ok c = search giving_cost
 
-pub returns-in-Refused : goal.returns-in-Refused
-returns-in-Refused c = search giving_refusal
+pub returns-in-Err : goal.returns-in-Err
+returns-in-Err c = search giving_refusal
