@@ -1,25 +1,26 @@
 -- An accepted card is as long as its header says, so it has each entry of its table and each load.
 use Rattle.std.specs.Prelude.{ℕ, ◌≤◌, ◌<◌, List}
 use Rattle.basics.specs.Core.{arith}
-use Rattle.model.specs.Instance.{instance_of}
+use Rattle.model.specs.Calls.{Accepted}
 use Rattle.laws.specs.Acceptance.{card_size}
 use Rattle.card.specs.declared.Header.{Header}
-use Rattle.card.specs.Fields.{Sized, EntryThere, LoadThere}
-use Rattle.card.specs.Checking.{Ready}
+use Rattle.card.specs.declared.Card.{Card}
+use Rattle.card.specs.Fields.{HeaderOf, Sized}
+use Rattle.card.specs.Shows.{show_of}
 
-module _ {s : List ℕ} {h : Header} (r : Ready s h) where
-  pub sized : Sized s h
-  sized = record { header = r.header; size = omega (arith, card_size s r.accepted, r.header.top_is, r.header.slots_is) }
+pub sized : {s : List ℕ} {h : Header} → Accepted s → HeaderOf s h → Sized s h
+sized {s} accepted header_is = record { header = header_is; size = omega (arith, card_size s accepted, header_is.top_is, header_is.slots_is) }
 
-  pub entry_there : {k : ℕ} → k ≤ (instance_of s).top_step → EntryThere s h k
-  entry_there below = record { sized = sized; in_table = omega (arith, r.header.top_is) }
+module _ (card : Card) where
+  pub in_table : {k : ℕ} → k ≤ (show_of card).top_step → k ≤ card.header.top_step
+  in_table below = omega (arith, card.header_is.top_is)
 
   module _ {t : ℕ} where
-    pub in_header : t < h.slots → t < (instance_of s).slots
-    in_header below = omega arith
+    pub in_header : t < card.header.slots → t < (show_of card).slots
+    in_header below = omega (arith, card.header_is.slots_is)
 
-    pub past_header : h.slots ≤ t → (instance_of s).slots ≤ t
-    past_header past = omega arith
+    pub past_header : card.header.slots ≤ t → (show_of card).slots ≤ t
+    past_header past = omega (arith, card.header_is.slots_is)
 
-    pub load_there : t < (instance_of s).slots → LoadThere s h t
-    load_there below = record { sized = sized; in_show = omega (arith, r.header.slots_is) }
+    pub in_show : t < (show_of card).slots → t < card.header.slots
+    in_show below = omega (arith, card.header_is.slots_is)

@@ -7,11 +7,11 @@ use Rattle.card.proofs.read_header.Goals as goal
 pub returns : goal.returns
 unfolding instance_of
 returns c =
-    let m = c.one-modules.ensures in
-    let q = c.one-top_step.ensures in
-    let t = c.two-slots.ensures in
-    let u = c.four-power_up.ensures in
-    let d = c.four-power_down.ensures in
+    let m = c.take-modules.ensures in
+    let q = c.take-top_step.ensures in
+    let t = c.take-slots.ensures in
+    let u = c.take-power_up.ensures in
+    let d = c.take-power_down.ensures in
     record {
       modules_is = read_at m refl;
       top_is = read_at q m.position;

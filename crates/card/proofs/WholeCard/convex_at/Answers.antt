@@ -1,5 +1,5 @@
 use Rattle.model.specs.Instance.{convex_at}
-use Rattle.card.proofs.convex_at.Goals as goal
+use Rattle.card.proofs.WholeCard.convex_at.Goals as goal
 
 pub returns : goal.returns
 unfolding convex_at

@@ -1,6 +1,6 @@
 use Rattle.basics.specs.Tests.{test_failed, test_passed}
 use Rattle.card.proofs.CardTests.{body_up, body_down, body_table, body_not_convex, body_load, body_passed}
-use Rattle.card.proofs.check_body.Goals as goal
+use Rattle.card.proofs.WholeCard.check_body.Goals as goal
 
 pub returns-then-h-gt500000000 : goal.returns-then-h-gt500000000
 returns-then-h-gt500000000 c = search body_up

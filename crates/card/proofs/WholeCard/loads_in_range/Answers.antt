@@ -1,5 +1,5 @@
 use Rattle.basics.specs.Tests.{passed_none}
-use Rattle.card.proofs.loads_in_range.Goals as goal
+use Rattle.card.proofs.WholeCard.loads_in_range.Goals as goal
 
 pub loop-t-init : goal.loop-t-init
 loop-t-init c = passed_none _ _
