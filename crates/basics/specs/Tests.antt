@@ -1,8 +1,10 @@
 -- A test at every index below a bound, or at one, and at every element of a list; laws of tests; and a loop that tests one index after the other,
 -- `Passed`.
-use Rattle.std.specs.Prelude.{ℕ, zero, suc, ◌+◌, ◌≤◌, ◌<◌, ◌≡◌, refl, Bool, true, false, not, ◌&&◌, ◌||◌, List, [], ◌∷◌, ◌⊎◌}
+use Rattle.std.specs.Prelude.{ℕ, zero, suc, ◌+◌, ◌≤◌, ◌<◌, ◌≡◌, refl, Bool, true, false, not, ◌&&◌, ◌||◌, List, [], ◌∷◌, ◌⊎◌, length, get_or}
+use Rattle.std.specs.List.{list_all}
+use Rattle.std.proofs.Math.Bool.{and_assoc}
 use Rattle.basics.specs.Core.{sym, ◌∙◌, true≢false}
-use Rattle.basics.specs.Core.{inl, inr, ⊎_elim, not-suc-le-zero, le_refl, add-one, arith, not-true, not-false}
+use Rattle.basics.specs.Core.{inl, inr, ⊎_elim, not-suc-le-zero, le_refl, add-one, arith, not-true, not-false, and-true}
 use Rattle.basics.specs.Numbers.{le_or_lt, true_or_false}
 
 -- The test f holds at each of 0 to n - 1.
@@ -63,6 +65,22 @@ pub every_same : (n : ℕ) (f g : ℕ → Bool) → ((k : ℕ) → k < n → f k
 unfolding every
 every_same zero f g same = refl
 every_same (suc n) f g same = rw (every_same n f g (λ k h. same k (omega arith)), same n (omega arith))
+
+-- A test at every index below n + 1 is one at 0 and one at every index after it.
+every_first : (n : ℕ) (f : ℕ → Bool) → every (suc n) f ≡ (f 0 && every n (λ k. f (suc k)))
+unfolding every
+every_first zero f = sym (and-true (f 0))
+every_first (suc n) f = rw (every_first n f) (and_assoc (f 0) (every n (λ k. f (suc k))) (f (suc n)))
+
+-- The library's test of every element of a list is a test at every index of the list.
+pub every_element :
+    {A : Type 0} {n : ℕ} (f : A → Bool) (l : List A) (d : A) → length l ≡ n → list_all f l ≡ every n (λ k. f (get_or l k d))
+unfolding every
+every_element {A = A} f l d size = rw (← size) (each l)
+  where
+    each : (l : List A) → list_all f l ≡ every (length l) (λ k. f (get_or l k d))
+    each [] = refl
+    each (x ∷ xs) = rw (each xs) (sym (every_first (length xs) (λ k. f (get_or (x ∷ xs) k d))))
 
 -- A test that fails at one index does not hold at every index.
 pub every_fails : (n : ℕ) (f : ℕ → Bool) (k : ℕ) → k < n → f k ≡ false → every n f ≡ false
