@@ -1,5 +1,5 @@
 -- A plan's slot: its load can be read, and its count serves it.
-use Rattle.std.specs.Prelude.{ℕ, suc, ◌+◌, ◌*◌, ◌≤◌, ◌<◌, ◌≡◌, true, false, List, length, get_or, leb}
+use Rattle.std.specs.Prelude.{ℕ, suc, ◌+◌, ◌*◌, ◌≤◌, ◌<◌, ◌≡◌, true, false, List, length, get_or}
 use Rattle.basics.specs.Core.{add-one, arith, leb-true, le-leb, lt-leb}
 use Rattle.basics.specs.Tests.{every_at}
 use Rattle.model.specs.Instance.{Instance, instance_of}
@@ -26,22 +26,15 @@ slot_load_there given below = load_there given.ready (in_slots given below)
 pub no_more_slots : {s : List ℕ} {h : Header} {p : List ℕ} {t : ℕ} → PlanSized s h p → length p ≤ t → (instance_of s).slots ≤ t
 no_more_slots given past = omega arith
 
--- The tests of a count against the rack and against a load.
-module _ {s : List ℕ} {h : Header} (given : Ready s h) {n x : ℕ} (x-is : x ≡ n) where
-  pub rack_failed : h.modules < x → leb n (instance_of s).modules ≡ false
-  rack_failed above = rw (← x-is, ← given.header.modules_is) (lt-leb x h.modules above)
+-- The test of a count against a load.
+module _ {s : List ℕ} {h : Header} (given : Ready s h) {n x l y : ℕ} (x-is : x ≡ n) (y-is : y ≡ l) where
+  pub serve_failed : x * h.top_step < y → can_serve (instance_of s) n l ≡ false
+  unfolding can_serve
+  serve_failed above = rw (← x-is, ← y-is, ← given.header.top_is) (lt-leb y (x * h.top_step) above)
 
-  pub rack_passed : x ≤ h.modules → leb n (instance_of s).modules ≡ true
-  rack_passed below = rw (← x-is, ← given.header.modules_is) (le-leb x h.modules below)
-
-  module _ {l y : ℕ} (y-is : y ≡ l) where
-    pub serve_failed : x * h.top_step < y → can_serve (instance_of s) n l ≡ false
-    unfolding can_serve
-    serve_failed above = rw (← x-is, ← y-is, ← given.header.top_is) (lt-leb y (x * h.top_step) above)
-
-    pub serve_passed : y ≤ x * h.top_step → can_serve (instance_of s) n l ≡ true
-    unfolding can_serve
-    serve_passed below = rw (← x-is, ← y-is, ← given.header.top_is) (le-leb y (x * h.top_step) below)
+  pub serve_passed : y ≤ x * h.top_step → can_serve (instance_of s) n l ≡ true
+  unfolding can_serve
+  serve_passed below = rw (← x-is, ← y-is, ← given.header.top_is) (le-leb y (x * h.top_step) below)
 
 -- The cost of slot t by counts.
 abbrev pub slot_at : Instance → List ℕ → ℕ → ℕ

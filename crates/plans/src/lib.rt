@@ -31,12 +31,10 @@ pub fn plan_cost(card: &[u8], h: Header, plan: &[u8]) -> u64
 {
     let mut cost: u64 = 0;
     let mut prev: u64 = 0;
-    let mut t = 0;
-    while t < plan.len() {
-        let n = card::wide(plan[t]);
+    for (t, &count) in plan.iter().enumerate() {
+        let n = u64::from(count);
         cost += slot_cost(card, h, prev, n, card::load(card, h, t as u64));
         prev = n;
-        t += 1;
     }
     cost
 }
@@ -46,15 +44,7 @@ pub fn plan_in_rack(card: &[u8], h: Header, plan: &[u8]) -> bool
     requires { PlanSized card.now h plan.now }
     ensures { result ≡ plan_in_rack (instance_of card.now) plan.now }
 {
-    let modules = h.modules;
-    let mut t = 0;
-    while t < plan.len() {
-        if modules < card::wide(plan[t]) {
-            return false;
-        }
-        t += 1;
-    }
-    true
+    plan.iter().all(|&n| u64::from(n) <= h.modules)
 }
 
 // Each count of the plan can serve its slot's load.
@@ -62,14 +52,11 @@ pub fn plan_serves(card: &[u8], h: Header, plan: &[u8]) -> bool
     requires { PlanSized card.now h plan.now }
     ensures { result ≡ plan_serves (instance_of card.now) plan.now }
 {
-    let top_step = h.top_step;
-    let mut t = 0;
-    while t < plan.len() {
-        let most = card::wide(plan[t]) * top_step;
+    for (t, &n) in plan.iter().enumerate() {
+        let most = u64::from(n) * h.top_step;
         if most < card::load(card, h, t as u64) {
             return false;
         }
-        t += 1;
     }
     true
 }

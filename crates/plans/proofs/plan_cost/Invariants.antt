@@ -1,4 +1,4 @@
-use Rattle.std.specs.Prelude.{◌-◌, ◌≡◌, length}
+use Rattle.std.specs.Prelude.{◌≡◌}
 use Rattle.basics.specs.Summing.{Summed}
 use Rattle.model.specs.Instance.{instance_of}
 use Rattle.model.specs.Thesis.{count_at}
@@ -7,6 +7,3 @@ use Rattle.plans.proofs.plan_cost.Given as goal
 
 abbrev pub invariant-loop-t : goal.invariant-loop-t
 invariant-loop-t l = Summed (instance_of l.card).slots (slot_at (instance_of l.card) l.plan) l.t l.cost × (l.prev ≡ count_at 0 l.plan l.t)
-
-abbrev pub decreases-loop-t : goal.decreases-loop-t
-decreases-loop-t l = length l.plan - l.t

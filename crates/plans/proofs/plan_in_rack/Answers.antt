@@ -1,18 +1,15 @@
-use Rattle.basics.specs.Tests.{passed_none, passed_more, passed_all, passed_not}
+use Rattle.std.specs.Prelude.{leb}
+use Rattle.std.proofs.Common.{rules, tests}
+use Rattle.std.proofs.lemmas.Iterator.{YieldsList-from_slice}
+use Rattle.std.proofs.lemmas.Iterator.Search.{all_from_yields_List}
+use Rattle.basics.specs.Core.{◌∙◌}
+use Rattle.basics.specs.Tests.{every_element}
 use Rattle.model.specs.Plans.{plan_in_rack}
-use Rattle.plans.proofs.Loads.{in_slots, no_more_slots, rack_failed, rack_passed}
 use Rattle.plans.proofs.plan_in_rack.Goals as goal
-
-pub loop-t-init : goal.loop-t-init
-loop-t-init c = passed_none _ _
-
-pub returns-then-modules-wide : goal.returns-then-modules-wide
-unfolding plan_in_rack
-returns-then-modules-wide c = passed_not c.loop-t.invariant (search in_slots) (search rack_failed)
-
-pub loop-t-preserved : goal.loop-t-preserved
-loop-t-preserved c = passed_more c.loop-t.invariant (search in_slots) (search rack_passed)
 
 pub returns : goal.returns
 unfolding plan_in_rack
-returns c = passed_all c.loop-t.invariant (search no_more_slots)
+returns c =
+    all_from_yields_List (λ n. leb n c.args.h.modules) _ _ _ c.all.ensures.ran (YieldsList-from_slice c.args.plan.now (cc))
+    (λ x b q k. search (rules, tests)) ∙
+    rw (every_element _ c.args.plan.now 0 c.requires.slotwise, c.requires.ready.header.modules_is)

@@ -1,5 +1,3 @@
-use Rattle.std.specs.Prelude.{◌≤◌}
-use Rattle.basics.specs.Core.{mul-le-mul, arith}
 use Rattle.basics.specs.Tests.{passed_none, passed_more, passed_all, passed_not}
 use Rattle.model.specs.Plans.{plan_serves}
 use Rattle.plans.proofs.Loads.{in_slots, no_more_slots, slot_load_there, serve_failed, serve_passed}
@@ -7,11 +5,6 @@ use Rattle.plans.proofs.plan_serves.Goals as goal
 
 pub loop-t-init : goal.loop-t-init
 loop-t-init c = passed_none _ _
-
-pub overflow_mul-most : goal.overflow_mul-most
-overflow_mul-most c =
-    let n : c.wide.result ≤ 255 = omega (arith, c.type_inv.plan c.loop-t.t) in
-    record { fits = omega (arith, mul-le-mul n c.requires.ready.header.top_bound) }
 
 pub load-requires : goal.load-requires
 load-requires c = search slot_load_there

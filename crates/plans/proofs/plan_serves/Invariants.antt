@@ -1,4 +1,4 @@
-use Rattle.std.specs.Prelude.{◌-◌, length, get_or}
+use Rattle.std.specs.Prelude.{get_or}
 use Rattle.basics.specs.Tests.{Passed}
 use Rattle.model.specs.Instance.{instance_of}
 use Rattle.model.specs.Counts.{can_serve}
@@ -6,6 +6,3 @@ use Rattle.plans.proofs.plan_serves.Given as goal
 
 abbrev pub invariant-loop-t : goal.invariant-loop-t
 invariant-loop-t l = Passed (instance_of l.card).slots (λ u. can_serve (instance_of l.card) (get_or l.plan u 0) ((instance_of l.card).load u)) l.t
-
-abbrev pub decreases-loop-t : goal.decreases-loop-t
-decreases-loop-t l = length l.plan - l.t
