@@ -17,11 +17,8 @@ fn slot_cost(card: &[u8], h: Header, prev: u64, n: u64, l: u64) -> u64
     ensures { result ≡ slot_cost (instance_of card.now) prev n l }
 {
     let operating = counts::operating_cost(card, h, n, l);
-    if n <= prev {
-        return operating;
-    }
     let price = h.power_up + h.power_down;
-    operating + price * (n - prev)
+    operating + price * n.saturating_sub(prev)
 }
 
 // The cost of a plan by its counts.

@@ -1,11 +1,8 @@
 use Rattle.basics.specs.Core.{arith}
 use Rattle.laws.specs.Acceptance.{accepted_bounds}
 use Rattle.counts.proofs.Shares.{operating_most}
-use Rattle.plans.proofs.SlotCosts.{switching_most, slot_kept, slot_raised}
+use Rattle.plans.proofs.SlotCosts.{switching_most, slot_raised}
 use Rattle.plans.proofs.slot_cost.Goals as goal
-
-pub returns-then-n-prev : goal.returns-then-n-prev
-returns-then-n-prev c = search slot_kept
 
 pub overflow_add-price : goal.overflow_add-price
 overflow_add-price c =
@@ -14,11 +11,11 @@ overflow_add-price c =
 
 pub overflow_mul-result : goal.overflow_mul-result
 overflow_mul-result c =
-    record { fits = omega (arith, switching_most c.requires c.args.prev) }
+    record { fits = omega (arith, switching_most c.requires _ c.saturating_sub.ensures) }
 
 pub overflow_add-result : goal.overflow_add-result
 overflow_add-result c =
-    record { fits = omega (arith, operating_most c.requires, switching_most c.requires c.args.prev) }
+    record { fits = omega (arith, operating_most c.requires, switching_most c.requires _ c.saturating_sub.ensures) }
 
 pub returns : goal.returns
 returns c = search slot_raised
