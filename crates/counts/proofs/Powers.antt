@@ -1,19 +1,14 @@
 -- The coarse counts of a rack of at most 200: 0, the powers of two up to m, and m if it is no power. The number of powers is read
 -- off the leading zeros. What holds of one rack and the next is a test that antt computes for each rack.
-use Rattle.std.specs.Prelude.{ℕ, zero, suc, ◌-◌, ◌^◌, ◌≤◌, ◌<◌, ◌≡◌, refl, Bool, true, cond, ◌&&◌, ◌||◌, List, [], ◌∷◌, ◌++◌, get_or, eqb, leb, ltb}
+use Rattle.std.specs.Prelude.{ℕ, zero, suc, ◌-◌, ◌^◌, ◌≤◌, ◌<◌, ◌≡◌, refl, Bool, true, cond, ◌&&◌, ◌||◌, List, [], ◌∷◌, ◌++◌, eqb, leb, ltb}
 use Rattle.basics.specs.Core.{sym, ◌∙◌, or-true}
 use Rattle.basics.specs.Core.{add-one, arith, eq-eqb, ne_eqb, leb-true, ltb-true}
 use lib.Count.{count_leading_zeros}
 use Rattle.basics.specs.Tests.{every, every_at, and_left, and_right}
-use Rattle.basics.specs.Lists.{tabulate, get_or_tabulate, keep, same_list, same_list_equal}
+use Rattle.basics.specs.Lists.{tabulate, keep, same_list, same_list_equal}
 use Rattle.basics.specs.Prefixes.{tabulate_more, keep_append, keep_tabulate}
 use Rattle.model.specs.Counts.{all_counts, power_of_two, is_coarse, coarse_counts}
 use Rattle.counts.specs.AllowedCounts.{first_powers, powers_up_to}
-
--- Each entry of the table of powers is its power.
-pub table_entry : (k : ℕ) → k < 8 → get_or (1 ∷ 2 ∷ 4 ∷ 8 ∷ 16 ∷ 32 ∷ 64 ∷ 128 ∷ []) k 0 ≡ 2 ^ k
-unfolding tabulate
-table_entry k h = get_or_tabulate 8 (λ k. 2 ^ k) k 0 h
 
 -- The list of 0 and the first p powers.
 unfoldable pub zero_and_powers : ℕ → List ℕ

@@ -18,26 +18,24 @@ pub fn power(k: usize) -> u64
     requires { PowerListed k }
     ensures { result ≡ 2 ^ k }
 {
-    let read = POWERS[k];
-    read as u64
+    u64::from(POWERS[k])
 }
 
 // How many powers of two are at most n, which is the number of n's binary digits.
 pub fn powers_up_to(n: u64) -> usize
     ensures { result ≡ powers_up_to n }
 {
-    (64 - u64::leading_zeros(n)) as usize
+    (u64::BITS - n.leading_zeros()) as usize
 }
 
 // The part is filled with the first powers of two.
+#[tactic(auto, using(basics::specs::Filling::upto_all), unfolding(crate::specs::AllowedCounts::first_powers))]
 fn fill_powers(part: &mut [u64])
     requires { length part.old ≤ 8 }
     ensures { part.new ≡ first_powers (length part.old) }
 {
-    let mut k = 0;
-    while k < part.len() {
-        part[k] = power(k);
-        k += 1;
+    for (k, place) in part.iter_mut().enumerate() {
+        *place = power(k);
     }
 }
 
@@ -60,17 +58,17 @@ pub fn fill_coarse(counts: &mut [u64], m: u64) -> usize
 }
 
 // Each number of the part is its place: 0, 1, 2, and so on.
+#[tactic(auto, using(basics::specs::Filling::upto_all), unfolding(crate::specs::AllowedCounts::numbers_below))]
 fn fill_places(part: &mut [u64])
     ensures { part.new ≡ numbers_below (length part.old) }
 {
-    let mut k = 0;
-    while k < part.len() {
-        part[k] = k as u64;
-        k += 1;
+    for (k, place) in part.iter_mut().enumerate() {
+        *place = k as u64;
     }
 }
 
 // The exact planner's allowed counts for a rack of m: all from 0 to m. Returns how many they are.
+#[tactic(auto, using(crate::proofs::CountsWritten::all_written))]
 pub fn fill_all(counts: &mut [u64], m: u64) -> usize
     requires { AllRoom counts.old m }
     ensures value { result ≡ length (all_counts m) }
@@ -103,12 +101,12 @@ fn case_value(count: u64) -> u64
 
 // Rounded count: the smallest coarse count of the rack that is not below the count. It is decided by the list, as the smaller of the case's
 // value and the number of modules.
+#[tactic(auto, using(laws::specs::RoundedCounts::rounded_by_cases_lem), unfolding(model::specs::Counts::rounded_by_cases))]
 pub fn rounded(count: u64, modules: u64) -> u64
     requires { RackCount count modules }
     ensures { result ≡ rounded_count modules count }
 {
-    let value = case_value(count);
-    if value < modules { value } else { modules }
+    case_value(count).min(modules)
 }
 
 // The operating cost of a count (01: 'running cost'): (n - r)G(q) + rG(q + 1) with q = l / n and r = l % n. Below the lowest step both
