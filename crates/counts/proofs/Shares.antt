@@ -11,7 +11,8 @@ use Rattle.laws.specs.Acceptance.{card_size, accepted_bounds}
 use Rattle.laws.specs.Tables.{convex_test}
 use Rattle.laws.specs.LeastSteps.{lowest_step, active_least, least_level, least_itself}
 use Rattle.laws.specs.Operating.{operating_some, operating_bound}
-use Rattle.card.specs.declared.Header.{Header}
+use Rattle.card.specs.declared.Card.{Card}
+use Rattle.card.specs.Shows.{show_of}
 use Rattle.counts.specs.Serving.{Served}
 
 module _ (n l : ℕ) (some : n ≡ 0 → ⊥) where
@@ -51,23 +52,23 @@ module _ (s : List ℕ) (n l : ℕ) (accepted : Accepted s) (some : n ≡ 0 → 
     cost_uneven = rw (cost_by_least, own (l / n) (omega arith), own (l / n + 1) (omega arith)) refl
 
 -- A product of a count and an entry is small, and so is a step.
-module _ {s : List ℕ} {h : Header} {n l : ℕ} (p : Served s h n l) where
+module _ {card : Card} {n l : ℕ} (p : Served card n l) where
   pub product_small : {k x : ℕ} → k ≤ n → x < 256 ^ 4 → k * x ≤ 200 * 256 ^ 4
   product_small {k} {x} h b =
-      let rack = (accepted_bounds s p.ready.accepted).modules.1 in
+      let rack = (accepted_bounds _ card.accepted).modules.1 in
       mul-le-mul {n₁ = k} {m₁ = x} {n₂ = 200} {m₂ = 256 ^ 4} (omega (arith, p.in_rack)) (omega arith)
 
   pub step_small : (n ≡ 0 → ⊥) → l / n ≤ 200
-  step_small some = omega (arith, step_within n l some (instance_of s).top_step p.serves, (accepted_bounds s p.ready.accepted).top_step.1)
+  step_small some = omega (arith, step_within n l some (show_of card).top_step p.serves, (accepted_bounds _ card.accepted).top_step.1)
 
 -- A count runs at most 200 modules at 1,000,000 each.
-pub operating_most : {s : List ℕ} {h : Header} {n l : ℕ} → Served s h n l → operating_cost (instance_of s) n l ≤ 200 * 1000000
-operating_most {s} {h} {n} {l} given =
+pub operating_most : {card : Card} {n l : ℕ} → Served card n l → operating_cost (show_of card) n l ≤ 200 * 1000000
+operating_most {card} {n} {l} given =
     omega (
       arith,
-      operating_bound (instance_of s) 1000000 (accepted_bounds s given.ready.accepted).table n l given.serves,
+      operating_bound (show_of card) 1000000 (accepted_bounds _ card.accepted).table n l given.serves,
       given.in_rack,
-      (accepted_bounds s given.ready.accepted).modules.1,
+      (accepted_bounds _ card.accepted).modules.1,
     )
 
 -- The lowest step is a step of the table.

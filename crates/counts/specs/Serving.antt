@@ -1,11 +1,9 @@
 -- What serving a load with a count asks for.
 use Rattle.std.specs.Prelude.{ℕ, ◌*◌, ◌≤◌, List}
-use Rattle.model.specs.Instance.{instance_of}
-use Rattle.card.specs.declared.Header.{Header}
-use Rattle.card.specs.Checking.{Ready}
+use Rattle.card.specs.declared.Card.{Card}
+use Rattle.card.specs.Shows.{show_of}
 
--- An accepted card with its header, and a count n of its rack that can serve the load l.
-pub record Served (s : List ℕ) (h : Header) (n l : ℕ) : Type 0 where
-  pub ready : Ready s h
-  pub in_rack : n ≤ (instance_of s).modules
-  pub serves : l ≤ n * (instance_of s).top_step
+-- On an accepted card a count n of its rack that can serve the load l.
+pub record Served (card : Card) (n l : ℕ) : Type 0 where
+  pub in_rack : n ≤ (show_of card).modules
+  pub serves : l ≤ n * (show_of card).top_step

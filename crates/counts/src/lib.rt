@@ -3,12 +3,12 @@
 
 ghost use Rattle.std.specs.Prelude.{◌≡◌, ◌^◌, ◌≤◌, length};
 ghost use Rattle.basics.specs.Lists.{written_over};
-ghost use Rattle.model.specs.Instance.{instance_of};
+ghost use Rattle.card.specs.Shows.{show_of};
 ghost use Rattle.model.specs.Counts.{operating_cost, all_counts, coarse_counts, rounded_count, printed_cases, case_value};
 ghost use Rattle.counts.specs.Serving.{Served};
 ghost use Rattle.counts.specs.AllowedCounts.{AllRoom, CoarseRoom, RackCount, PowerListed, numbers_below, first_powers, powers_up_to};
 
-use card::Header;
+use card::Card;
 
 // The powers of two among the coarse counts of the largest rack.
 const POWERS: [u16; 8] = [1, 2, 4, 8, 16, 32, 64, 128];
@@ -112,24 +112,24 @@ pub fn rounded(count: u64, modules: u64) -> u64
 // The operating cost of a count (01: 'running cost'): (n - r)G(q) + rG(q + 1) with q = l / n and r = l % n. Below the lowest step both
 // are F of that step, and from there on G is F; F(q + 1) is read only if r is not 0.
 #[tactic(auto, using(crate::proofs::Shares::cost_steps))]
-pub fn operating_cost(card: &[u8], h: Header, n: u64, l: u64) -> u64
-    requires { Served card.now h n l }
-    ensures { result ≡ operating_cost (instance_of card.now) n l }
+pub fn operating_cost(card: &Card, n: u64, l: u64) -> u64
+    requires { Served card.now n l }
+    ensures { result ≡ operating_cost (show_of card.now) n l }
 {
     if n == 0 {
         return 0;
     }
     let step = l / n;
     let rest = l % n;
-    let lowest = h.lowest_step;
+    let lowest = card.lowest_step;
     if step < lowest {
-        return n * card::entry(card, h, lowest);
+        return n * card.entry(lowest);
     }
     if rest == 0 {
-        return n * card::entry(card, h, step);
+        return n * card.entry(step);
     }
     let others = n - rest;
     let next = step + 1;
-    let low = others * card::entry(card, h, step);
-    low + rest * card::entry(card, h, next)
+    let low = others * card.entry(step);
+    low + rest * card.entry(next)
 }

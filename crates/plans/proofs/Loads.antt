@@ -6,54 +6,52 @@ use Rattle.model.specs.Instance.{Instance, instance_of}
 use Rattle.model.specs.Counts.{can_serve}
 use Rattle.model.specs.Plans.{plan_serves}
 use Rattle.model.specs.Thesis.{count_at, slot_cost}
-use Rattle.card.specs.declared.Header.{Header}
-use Rattle.card.specs.Fields.{LoadThere}
-use Rattle.card.specs.Checking.{Ready}
-use Rattle.card.proofs.FieldsThere.{load_there}
+use Rattle.card.specs.declared.Card.{Card}
+use Rattle.card.specs.Shows.{show_of}
+use Rattle.card.proofs.FieldsThere.{in_show}
 use Rattle.counts.specs.Serving.{Served}
 use Rattle.plans.specs.PlanRequires.{PlanSized, PlanReady}
 use Rattle.plans.proofs.SlotCosts.{slot_most}
 
 -- A place in the plan is a slot.
-pub in_slots : {s : List ℕ} {h : Header} {p : List ℕ} {t : ℕ} → PlanSized s h p → t < length p → t < (instance_of s).slots
+pub in_slots : {card : Card} {p : List ℕ} {t : ℕ} → PlanSized card p → t < length p → t < (show_of card).slots
 in_slots given below = omega arith
 
 -- The load of a plan's slot can be read.
-pub slot_load_there : {s : List ℕ} {h : Header} {p : List ℕ} {t : ℕ} → PlanSized s h p → t < length p → LoadThere s h t
-slot_load_there given below = load_there given.ready (in_slots given below)
+pub slot_in_show : {card : Card} {p : List ℕ} {t : ℕ} → PlanSized card p → t < length p → t < card.header.slots
+slot_in_show {card} given below = in_show card (in_slots given below)
 
 -- Past the plan there are no more slots.
-pub no_more_slots : {s : List ℕ} {h : Header} {p : List ℕ} {t : ℕ} → PlanSized s h p → length p ≤ t → (instance_of s).slots ≤ t
+pub no_more_slots : {card : Card} {p : List ℕ} {t : ℕ} → PlanSized card p → length p ≤ t → (show_of card).slots ≤ t
 no_more_slots given past = omega arith
 
 -- The test of a count against a load.
-module _ {s : List ℕ} {h : Header} (given : Ready s h) {n x l y : ℕ} (x-is : x ≡ n) (y-is : y ≡ l) where
-  pub serve_failed : x * h.top_step < y → can_serve (instance_of s) n l ≡ false
+module _ (card : Card) {n l x y : ℕ} (x-is : x ≡ n) (y-is : y ≡ l) where
+  pub serve_failed : x * card.header.top_step < y → can_serve (show_of card) n l ≡ false
   unfolding can_serve
-  serve_failed above = rw (← x-is, ← y-is, ← given.header.top_is) (lt-leb y (x * h.top_step) above)
+  serve_failed above = rw (← x-is, ← y-is, ← card.header_is.top_is) (lt-leb y (x * card.header.top_step) above)
 
-  pub serve_passed : y ≤ x * h.top_step → can_serve (instance_of s) n l ≡ true
+  pub serve_passed : y ≤ x * card.header.top_step → can_serve (show_of card) n l ≡ true
   unfolding can_serve
-  serve_passed below = rw (← x-is, ← y-is, ← given.header.top_is) (le-leb y (x * h.top_step) below)
+  serve_passed below = rw (← x-is, ← y-is, ← card.header_is.top_is) (le-leb y (x * card.header.top_step) below)
 
 -- The cost of slot t by counts.
 abbrev pub slot_at : Instance → List ℕ → ℕ → ℕ
 slot_at i p t = slot_cost i (count_at 0 p t) (count_at 0 p (suc t)) (i.load t)
 
-module _ {s : List ℕ} {h : Header} {p : List ℕ} (given : PlanReady s h p) where
-  served_at_lem : (t : ℕ) → t < (instance_of s).slots → Served s h (get_or p t 0) ((instance_of s).load t)
+module _ {card : Card} {p : List ℕ} (given : PlanReady card p) where
+  served_at_lem : (t : ℕ) → t < (show_of card).slots → Served card (get_or p t 0) ((show_of card).load t)
   unfolding plan_serves can_serve
   served_at_lem t below =
       record {
-        ready = given.sized.ready;
         in_rack = given.in_rack t below;
-        serves = leb-true _ _ (every_at (instance_of s).slots _ given.served t below);
+        serves = leb-true _ _ (every_at (show_of card).slots _ given.served t below);
       }
 
-  pub slot_served : {t n l : ℕ} → t < length p → n ≡ get_or p t 0 → l ≡ (instance_of s).load t → Served s h n l
+  pub slot_served : {t n l : ℕ} → t < length p → n ≡ get_or p t 0 → l ≡ (show_of card).load t → Served card n l
   slot_served {t} below e f = rw (e, f) (served_at_lem t (in_slots given.sized below))
 
-  pub slot_at_most : (t : ℕ) → t < (instance_of s).slots → slot_at (instance_of s) p t ≤ 200200000000
+  pub slot_at_most : (t : ℕ) → t < (show_of card).slots → slot_at (show_of card) p t ≤ 200200000000
   unfolding count_at
   slot_at_most t below = slot_most (served_at_lem t below) (count_at 0 p t)
 

@@ -10,6 +10,6 @@ use Rattle.plans.proofs.plan_in_rack.Goals as goal
 pub returns : goal.returns
 unfolding plan_in_rack
 returns c =
-    all_from_yields_List (λ n. leb n c.args.h.modules) _ _ _ c.all.ensures.ran (YieldsList-from_slice c.args.plan.now (cc))
+    all_from_yields_List (λ n. leb n c.args.card.now.header.modules) _ _ _ c.all.ensures.ran (YieldsList-from_slice c.args.plan.now (cc))
     (λ x b q k. search (rules, tests)) ∙
-    rw (every_element _ c.args.plan.now 0 c.requires.slotwise, c.requires.ready.header.modules_is)
+    rw (every_element _ c.args.plan.now 0 c.requires.slotwise, c.args.card.now.header_is.modules_is)

@@ -1,13 +1,13 @@
 use Rattle.basics.specs.Tests.{passed_none, passed_more, passed_all, passed_not}
 use Rattle.model.specs.Plans.{plan_serves}
-use Rattle.plans.proofs.Loads.{in_slots, no_more_slots, slot_load_there, serve_failed, serve_passed}
+use Rattle.plans.proofs.Loads.{in_slots, no_more_slots, slot_in_show, serve_failed, serve_passed}
 use Rattle.plans.proofs.plan_serves.Goals as goal
 
 pub loop-t-init : goal.loop-t-init
 loop-t-init c = passed_none _ _
 
 pub load-requires : goal.load-requires
-load-requires c = search slot_load_there
+load-requires c = search slot_in_show
 
 pub returns-then-most-load : goal.returns-then-most-load
 unfolding plan_serves

@@ -6,7 +6,7 @@ use Rattle.plans.proofs.slot_cost.Goals as goal
 
 pub overflow_add-price : goal.overflow_add-price
 overflow_add-price c =
-    let accepted = c.requires.ready.accepted in
+    let accepted = c.args.card.now.accepted in
     record { fits = omega (arith, (accepted_bounds _ accepted).power_up, (accepted_bounds _ accepted).power_down) }
 
 pub overflow_mul-result : goal.overflow_mul-result
