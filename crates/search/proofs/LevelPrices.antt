@@ -1,6 +1,6 @@
 -- Levels of an accepted card's list of allowed counts, and what they cost.
 use Rattle.std.specs.Prelude.{ℕ, ◌+◌, ◌-◌, ◌*◌, ◌≤◌, ◌<◌, ◌≡◌, true, false, List, length}
-use Rattle.basics.specs.Core.{ap, ⊎_elim, mul-le-mul, mul-le-mul_right, mul-zero, sub-le}
+use Rattle.basics.specs.Core.{ap, ⊎_elim, mul-le-mul, mul-le-mul_right, sub-le}
 use Rattle.basics.specs.Core.{le_trans, le_of_lt, arith, get_or-eq_default, le-leb, lt-leb}
 use Rattle.basics.specs.Numbers.{le_or_lt}
 use Rattle.model.specs.Instance.{instance_of}
@@ -9,7 +9,7 @@ use Rattle.model.specs.Thesis.{switching_price}
 use Rattle.laws.specs.Acceptance.{accepted_bounds}
 use Rattle.card.specs.declared.Header.{Header}
 use Rattle.counts.specs.Serving.{Served}
-use Rattle.thresholds.specs.Places.{count_at_place, last_place, count_fits, length_fits}
+use Rattle.thresholds.specs.Places.{count_at_place, count_fits, length_fits}
 use Rattle.thresholds.specs.Thresholds.{level_price}
 use Rattle.search.specs.SearchRequires.{OnCard, most_lead}
 
@@ -61,13 +61,6 @@ module _ {s : List ℕ} {h : Header} {counts : List ℕ} (on : OnCard s h counts
   low_top j =
       mul-le-mul {n₁ = count_at_place counts j} {n₂ = 200} {m₂ = 200} (count_most j)
       (omega (arith, (accepted_bounds s on.ready.accepted).top_step.1, on.ready.header.top_is))
-
-  -- Beyond the list a level has no price.
-  pub price_beyond : (j : ℕ) → last_place counts ≤ j → 0 ≡ level_price (instance_of s) counts j
-  price_beyond j beyond =
-      let none = get_or-eq_default counts 0 {n = j + 1} (omega arith) in
-      let flat : count_at_place counts (j + 1) - count_at_place counts j ≡ 0 = omega arith in
-      rw (flat, mul-zero (switching_price (instance_of s)))
 
   pub price_there :
       (j : ℕ) → (h.power_up + h.power_down) * (count_at_place counts (j + 1) - count_at_place counts j) ≡ level_price (instance_of s) counts j

@@ -1,4 +1,3 @@
-pub mod Verdicts
 pub mod LevelPrices
 pub mod ForwardWalk
 pub mod BackwardWalk

@@ -1,9 +1,8 @@
 -- The places found become counts, and these are the plan by thresholds.
-use Rattle.std.specs.Prelude.{ℕ, ◌+◌, ◌≤◌, ◌<◌, ◌≡◌, refl, List, ◌++◌, length, get_or, set, take, drop, replicate}
+use Rattle.std.specs.Prelude.{ℕ, ◌≤◌, ◌≡◌, refl, List, ◌++◌, length, take, drop, replicate}
 use Rattle.basics.specs.Core.{ap, ◌∙◌, arith, length-take-le}
 use Rattle.basics.specs.Core.{length-append, length-drop, length-replicate}
 use Rattle.basics.specs.Lists.{tabulate, zeros_at}
-use Rattle.basics.specs.Filling.{Upto, upto_more, upto_all}
 use Rattle.model.specs.Instance.{instance_of}
 use Rattle.card.specs.declared.Header.{Header}
 use Rattle.counts.specs.AllowedCounts.{powers_up_to}
@@ -14,25 +13,6 @@ use Rattle.search.specs.Written.{counts_at}
 use Rattle.search.specs.SearchRequires.{Placed, RoundsReady, Searchable}
 use Rattle.search.proofs.LevelPrices.{few_places, count_most}
 use Rattle.search.proofs.RoundsWalk.{rounds_inside}
-
--- Up to slot t the plan has counts, and from there on places.
-abbrev pub CountsLoop : (counts plan₀ plan : List ℕ) → ℕ → Type 0
-CountsLoop counts plan₀ plan t = Upto (λ u. count_at_place counts (in_slot plan₀ u)) t plan₀ plan
-
-module _ (counts : List ℕ) {plan₀ plan : List ℕ} {t : ℕ} (f : CountsLoop counts plan₀ plan t) where
-  module _ {place : ℕ} (inside : t < length plan₀) (place_is : place ≡ get_or plan t 0) where
-    place_same : place ≡ in_slot plan₀ t
-    place_same = place_is ∙ f.kept t (omega arith)
-
-    pub place_there : Placed counts plan₀ → place < length counts
-    place_there p = rw place_same (p.inside t inside)
-
-    pub counts_turn : CountsLoop counts plan₀ (set plan t (count_at_place counts place)) (t + 1)
-    counts_turn = upto_more f inside (ap (count_at_place counts) place_same)
-
-  pub counts_end : length plan ≤ t → plan ≡ counts_at counts plan₀
-  unfolding counts_at
-  counts_end past = upto_all f (omega (arith, f.size))
 
 -- A list whose first n entries were written and that was then cleared is as long as it was.
 pub cleared_whole :

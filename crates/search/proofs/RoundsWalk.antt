@@ -6,7 +6,7 @@ use Rattle.model.specs.Instance.{Instance, instance_of}
 use Rattle.card.specs.declared.Header.{Header}
 use Rattle.thresholds.specs.Thresholds.{side_at, in_slot, forward, backward, round, rounds}
 use Rattle.thresholds.specs.ThresholdLaws.{side_most, side_inside, raised_inside, raised_step, forward_entry, backward_entry}
-use Rattle.search.specs.SearchRequires.{Width, RoundReady, BackReady, RoundsReady}
+use Rattle.search.specs.SearchRequires.{Width, BackReady, RoundsReady}
 use Rattle.search.proofs.LevelPrices.{few_places}
 
 -- A power of two up to 128 is a width.
@@ -51,26 +51,11 @@ pub record RoundsLoop (i : Instance) (counts : List ℕ) (digits : ℕ) (plan₀
   pub sides_kept : length sides ≡ length sides₀
   pub rest : rounds i counts 0 e plan ≡ rounds i counts 0 digits plan₀
 
-pub rounds_start : (i : Instance) (counts : List ℕ) (digits : ℕ) (plan sides : List ℕ) → RoundsLoop i counts digits plan sides plan sides digits
-rounds_start i counts digits plan sides = record { within = omega arith; plan_kept = refl; sides_kept = refl; rest = refl }
-
 module _ {s : List ℕ} {h : Header} {counts : List ℕ} {digits : ℕ} {plan₀ sides₀ plan sides : List ℕ} {e : ℕ}
     (p : RoundsReady s h counts digits plan₀ sides₀) (f : RoundsLoop (instance_of s) counts digits plan₀ sides₀ plan sides e)
     (left : 0 < e) {b : ℕ} (b-is : b ≡ 2 ^ (e - 1)) where
   width : Width b
   width = rw b-is (power_width (e - 1) (omega (arith, p.few, f.within)))
-
-  pub forward_ready : RoundReady s h counts b plan sides
-  forward_ready =
-      record {
-        slots =
-            record {
-              on_card = p.slots.on_card;
-              plan_size = f.plan_kept ∙ p.slots.plan_size;
-              sides_size = f.sides_kept ∙ p.slots.sides_size;
-            };
-        width = width;
-      }
 
   module _ {found : List ℕ} (found-is : found ≡ forward (instance_of s) counts 0 b plan) where
     pub backward_ready : length found ≡ length sides → BackReady b plan found

@@ -2,11 +2,11 @@
 // digit of the places. A place is an index of the list, and level j lies between place j and place j + 1.
 #![tactic(auto)]
 
-ghost use Rattle.std.specs.Prelude.{◌-◌, min, ◌≡◌, length, replicate};
+ghost use Rattle.std.specs.Prelude.{◌≡◌, length, replicate};
 ghost use Rattle.model.specs.Instance.{instance_of};
 ghost use Rattle.counts.specs.AllowedCounts.{powers_up_to};
 ghost use Rattle.thresholds.specs.Places.{last_place};
-ghost use Rattle.thresholds.specs.Thresholds.{is_less, weighed, level_price, carried, judge as judged, raised_place};
+ghost use Rattle.thresholds.specs.Thresholds.{weighed, level_price, carried, judge as judged, raised_place};
 ghost use Rattle.thresholds.specs.Thresholds.{forward as sides_found, backward as places_raised, rounds as places_found, threshold_plan};
 ghost use Rattle.search.specs.Written.{verdict_of, counts_at};
 ghost use Rattle.search.specs.SearchRequires.{OnCard, Weighable, LevelReady, Raisable, RoundReady, BackReady, RoundsReady, Placed, Searchable};
@@ -21,40 +21,14 @@ struct Verdict {
     side: u8,
 }
 
-fn wide(x: u8) -> usize
-    ensures { result ≡ x }
-{
-    x as usize
-}
-
-// One if x is less than y, and otherwise 0.
-fn is_less(x: u64, y: u64) -> u8
-    ensures { result ≡ is_less x y }
-{
-    if x < y { 1 } else { 0 }
-}
-
-// How much more x is than y, and 0 if it is not more.
-fn excess(x: u64, y: u64) -> u64
-    ensures { result ≡ x - y }
-{
-    if y < x { x - y } else { 0 }
-}
-
-// The smaller of two numbers.
-fn smaller(x: u64, y: u64) -> u64
-    ensures { result ≡ min x y }
-{
-    if x < y { x } else { y }
-}
-
 // The verdict where the place above a level costs upper and the place below it lower, and rising over the level costs price.
+#[tactic(auto, unfolding(thresholds::specs::Thresholds::is_less))]
 fn weigh(price: u64, upper: u64, lower: u64) -> Verdict
     requires { Weighable price lower }
     ensures { verdict_of result ≡ weighed price upper lower }
 {
-    let side = is_less(upper, lower) + is_less(upper, lower + price);
-    let lead = smaller(price, excess(upper, lower));
+    let side = u8::from(upper < lower) + u8::from(upper < lower + price);
+    let lead = price.min(upper.saturating_sub(lower));
     Verdict { lead, side }
 }
 
@@ -117,9 +91,8 @@ fn forward(card: &[u8], h: Header, counts: &[u64], width: usize, plan: &[u8], si
     let reach = width - 1;
     let mut before = 0;
     let mut lead = level_price(card, h, counts, reach);
-    let mut t = 0;
-    while t < plan.len() {
-        let place = wide(plan[t]);
+    for (t, &place) in plan.iter().enumerate() {
+        let place = usize::from(place);
         let level = place + reach;
         let price = level_price(card, h, counts, level);
         let carried = carry(price, before, place, lead);
@@ -135,17 +108,17 @@ fn forward(card: &[u8], h: Header, counts: &[u64], width: usize, plan: &[u8], si
         sides[t] = verdict.side;
         lead = verdict.lead;
         before = place;
-        t += 1;
     }
 }
 
 // The place after a round, by the side found and the next slot's place after the round.
+#[tactic(auto, unfolding(thresholds::specs::Thresholds::is_less, thresholds::specs::Thresholds::raised_place))]
 fn raise(width: usize, place: usize, side: u8, next: usize) -> usize
     requires { Raisable width place side }
     ensures { result ≡ raised_place width place side next }
 {
     let level = place + width - 1;
-    let votes = side + is_less(level as u64, next as u64);
+    let votes = side + u8::from(level < next);
     if votes < 2 { place } else { place + width }
 }
 
@@ -155,10 +128,8 @@ fn backward(width: usize, plan: &mut [u8], sides: &[u8])
     ensures { plan.new ≡ places_raised (length plan.old) width plan.old sides.now }
 {
     let mut next = 0;
-    let mut t = plan.len();
-    while 0 < t {
-        t -= 1;
-        next = raise(width, wide(plan[t]), sides[t], next);
+    for t in (0..plan.len()).rev() {
+        next = raise(width, usize::from(plan[t]), sides[t], next);
         plan[t] = next as u8;
     }
 }
@@ -168,9 +139,7 @@ fn rounds(card: &[u8], h: Header, counts: &[u64], digits: usize, plan: &mut [u8]
     requires { RoundsReady card.now h counts.now digits plan.old sides.old }
     ensures { plan.new ≡ places_found (instance_of card.now) counts.now 0 digits plan.old }
 {
-    let mut e = digits;
-    while 0 < e {
-        e -= 1;
+    for e in (0..digits).rev() {
         let width = counts::power(e) as usize;
         forward(card, h, counts, width, plan, sides);
         backward(width, plan, sides);
@@ -182,10 +151,8 @@ fn to_counts(counts: &[u64], plan: &mut [u8])
     requires { Placed counts.now plan.old }
     ensures { plan.new ≡ counts_at counts.now plan.old }
 {
-    let mut t = 0;
-    while t < plan.len() {
-        plan[t] = counts[wide(plan[t])] as u8;
-        t += 1;
+    for place in plan.iter_mut() {
+        *place = counts[usize::from(*place)] as u8;
     }
 }
 

@@ -4,6 +4,3 @@ use Rattle.search.proofs.rounds.Given as goal
 
 abbrev pub invariant-loop-e : goal.invariant-loop-e
 invariant-loop-e l = RoundsLoop (instance_of l.card) l.counts l.digits l.initial.plan l.initial.sides l.plan l.sides l.e
-
-abbrev pub decreases-loop-e : goal.decreases-loop-e
-decreases-loop-e l = l.e
