@@ -10,7 +10,7 @@ loop-t-init c = forward_starts c.requires c.level_price-lead.ensures
 pub load-requires : goal.load-requires
 load-requires c =
     let p = c.requires in
-    load_there p.slots.on_card.ready (omega (arith, p.slots.plan_size, c.loop-t-test.true))
+    load_there p.slots.on_card.ready (omega arith)
 
 pub judge-verdict-requires : goal.judge-verdict-requires
 judge-verdict-requires c =
@@ -26,7 +26,7 @@ pub loop-t-preserved : goal.loop-t-preserved
 loop-t-preserved c =
     let p = c.requires in
     forward_turns p c.loop-t.invariant c.from-place.ensures refl c.level_price-price.ensures c.carry-carried.ensures
-    c.load.ensures.is c.judge-verdict.ensures (omega (arith, p.slots.plan_size, p.slots.sides_size))
+    c.load.ensures.is c.judge-verdict.ensures (omega arith)
 
 pub returns : goal.returns
 returns c = forward_ends c.requires c.loop-t.invariant c.loop-t-test.false

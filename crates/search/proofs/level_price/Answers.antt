@@ -7,4 +7,4 @@ overflow_add-result c = omega (arith, price_most c.requires)
 
 pub overflow_mul-result : goal.overflow_mul-result
 overflow_mul-result c =
-    record { fits = omega (arith, price_fits c.requires c.args.level) }
+    omega (arith, price_fits c.requires c.args.level)
