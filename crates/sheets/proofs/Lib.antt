@@ -1,3 +1,4 @@
+pub mod ListSums
 pub mod Row
 pub mod SheetBytes
 pub mod RowPlaces

@@ -1,15 +1,13 @@
 -- A sheet's byte: whether it is an entry, its step and its cost.
 use Rattle.std.specs.Prelude.{ℕ, ◌+◌, ◌*◌, ◌≤◌, ◌<◌, ◌≡◌, Bool, true, false, cond, not, List, length, get_or, leb}
-use Rattle.basics.specs.Core.{◌∙◌, or-true, or-false, ⊎_elim, mul-le-mul, arith}
+use Rattle.basics.specs.Core.{◌∙◌, or-false, ⊎_elim, mul-le-mul, arith}
 use Rattle.basics.specs.Core.{leb-true, eq-eqb, ne_eqb, eqb-false}
-use mir.Syntax.{w8}
-use mir.Val.{Fits}
 use Rattle.basics.specs.Numbers.{true_or_false}
 use Rattle.basics.specs.Tests.{every_at, test_failed, test_passed}
 use Rattle.basics.specs.Sums.{sum_at_most}
 use Rattle.basics.specs.Parts.{get_or_within}
 use Rattle.model.specs.Instance.{Instance, instance_of}
-use Rattle.model.specs.Sheets.{is_entry, off, is_off, step_of, sheet_entries, step_cost, change_cost}
+use Rattle.model.specs.Sheets.{is_entry, off, is_off, sheet_entries, step_cost, change_cost}
 use Rattle.model.specs.Specs.{sheet_bytes}
 use Rattle.model.specs.Calls.{Accepted}
 use Rattle.card.specs.declared.Header.{Header}
@@ -20,25 +18,9 @@ use Rattle.laws.specs.Acceptance.{accepted_bounds}
 use Rattle.sheets.specs.Marks.{byte_cost, bytes_cost, stop_cost}
 use Rattle.sheets.specs.SheetRequires.{ByteReady, BytesReady, SheetReady}
 
-module _ {b : ℕ} (is-off : b ≡ off) where
-  pub off_entry : (top : ℕ) → true ≡ is_entry top b
-  off_entry top = rw (eq-eqb b off is-off, or-true (leb b top))
-
-  -- A module that is off has 0 of what only active modules have.
-  pub off_none : (x : ℕ) → 0 ≡ cond (is_off b) 0 x
-  off_none x = rw (eq-eqb b off is-off)
-
-module _ {b : ℕ} (active : b ≡ off → ⊥) where
-  pub active_entry : (top : ℕ) {x : ℕ} → x ≡ b → leb x top ≡ is_entry top b
-  active_entry top {x} e = rw (ne_eqb b off active, or-false (leb b top), e)
-
-  -- An active module has all of what only active modules have.
-  pub active_all : (x : ℕ) → x ≡ cond (is_off b) 0 x
-  active_all x = rw (ne_eqb b off active)
-
-  -- The step of an active module is at most the top step.
-  active_step_lem : (top : ℕ) → is_entry top b ≡ true → b ≤ top
-  active_step_lem top e = leb-true b top (rw (ne_eqb b off active, or-false (leb b top)) at e)
+-- The step of an active module is at most the top step.
+active_step_lem : {b : ℕ} → (b ≡ off → ⊥) → (top : ℕ) → is_entry top b ≡ true → b ≤ top
+active_step_lem {b} active top e = leb-true b top (rw (ne_eqb b off active, or-false (leb b top)) at e)
 
 -- The test of a byte against the card's top step.
 module _ {s : List ℕ} {h : Header} (given : Ready s h) (sheet : List ℕ) {x : ℕ} (inside : x < length sheet) {flag : Bool}
@@ -102,10 +84,6 @@ at_most b {x} {y} h = go (is_off b)
     go : (t : Bool) → cond t 0 x ≤ y
     go true = omega arith
     go false = h
-
--- The step of any byte is at most 255.
-pub step_each : (row : List ℕ) → ((j : ℕ) → Fits w8 (get_or row j 0)) → (k : ℕ) → k < length row → step_of (get_or row k 0) ≤ 255
-step_each row bytes k h = let b = bytes k in at_most (get_or row k 0) (omega arith)
 
 -- The change of any byte to off costs at most the price.
 pub stop_each : (row : List ℕ) {down most : ℕ} → down ≤ most → (k : ℕ) → k < length row → stop_cost down (get_or row k 0) ≤ most

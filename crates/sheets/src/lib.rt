@@ -46,14 +46,11 @@ pub fn write_sheet(card: &[u8], h: Header, plan: &[u8], sheet: &mut [u8])
     ensures { sheet.new ≡ written_over (sheet_of (instance_of card.now) plan.now) sheet.old }
 {
     let modules = h.modules as usize;
-    let mut t = 0;
-    while t < plan.len() {
-        let n = card::wide(plan[t]);
+    for (t, &count) in plan.iter().enumerate() {
         let l = card::load(card, h, t as u64);
         let start = t * modules;
         let end = start + modules;
-        write_slot(card, h, n, l, &mut sheet[start..end]);
-        t += 1;
+        write_slot(card, h, u64::from(count), l, &mut sheet[start..end]);
     }
 }
 
@@ -61,24 +58,19 @@ pub fn write_sheet(card: &[u8], h: Header, plan: &[u8], sheet: &mut [u8])
 fn is_entry(top: u64, b: u8) -> bool
     ensures { result ≡ is_entry top b }
 {
-    if b == 255 {
-        return true;
-    }
-    card::wide(b) <= top
+    u64::from(b) <= top || b == 255
 }
 
-// Each byte of the sheet is a step of the table, or off.
+// Each byte of the sheet is a step of the table, or off. The machine code of this loop is shorter than that of `all`.
 pub fn sheet_entries(card: &[u8], h: Header, sheet: &[u8]) -> bool
     requires { Ready card.now h }
     ensures { result ≡ sheet_entries (instance_of card.now) sheet.now }
 {
     let top = h.top_step;
-    let mut x = 0;
-    while x < sheet.len() {
-        if !is_entry(top, sheet[x]) {
+    for &b in sheet {
+        if !is_entry(top, b) {
             return false;
         }
-        x += 1;
     }
     true
 }
@@ -90,7 +82,7 @@ fn step_of(b: u8) -> u16
     if b == 255 {
         return 0;
     }
-    b as u16
+    u16::from(b)
 }
 
 // The steps of a row's active modules, summed: at most 200 × 255.
@@ -98,13 +90,8 @@ fn slot_light(row: &[u8]) -> u64
     requires { RowShort row.now }
     ensures { result ≡ row_light row.now }
 {
-    let mut light: u16 = 0;
-    let mut k = 0;
-    while k < row.len() {
-        light += step_of(row[k]);
-        k += 1;
-    }
-    light as u64
+    let light: u16 = row.iter().map(|&b| step_of(b)).sum();
+    u64::from(light)
 }
 
 // In every slot the steps of the active modules sum to the load or more.
@@ -113,16 +100,13 @@ pub fn sheet_light(card: &[u8], h: Header, sheet: &[u8]) -> bool
     ensures { result ≡ sheet_light (instance_of card.now) sheet.now }
 {
     let modules = h.modules as usize;
-    let slots = h.slots as usize;
-    let mut t = 0;
-    while t < slots {
-        let start = t * modules;
+    for t in 0..h.slots {
+        let start = t as usize * modules;
         let end = start + modules;
         let light = slot_light(&sheet[start..end]);
-        if light < card::load(card, h, t as u64) {
+        if light < card::load(card, h, t) {
             return false;
         }
-        t += 1;
     }
     true
 }
@@ -146,7 +130,7 @@ fn byte_cost(card: &[u8], h: Header, prev: u8, byte: u8) -> u64
     if byte == 255 {
         return stop_cost(h.power_down, prev);
     }
-    let operating = card::entry(card, h, card::wide(byte));
+    let operating = card::entry(card, h, u64::from(byte));
     if prev == 255 {
         return operating + h.power_up;
     }
@@ -159,25 +143,22 @@ fn row_start_cost(card: &[u8], h: Header, row: &[u8]) -> u64
     ensures { result ≡ bytes_cost (instance_of card.now) all_off row.now }
 {
     let mut cost: u64 = 0;
-    let mut k = 0;
-    while k < row.len() {
-        cost += byte_cost(card, h, 255, row[k]);
-        k += 1;
+    for &b in row {
+        cost += byte_cost(card, h, 255, b);
     }
     cost
 }
 
-// The cost of the later slots' rows, each byte with the change from the byte of the same module in the slot before.
+// The cost of the later slots' rows, each byte with the change from the byte of the same module in the slot before. One index serves both
+// parts, since a `zip` tests the length of each at every byte.
 fn rows_cost(card: &[u8], h: Header, earlier: &[u8], later: &[u8]) -> u64
     requires bytes_ready { BytesReady card.now h later.now }
     requires earlier_len { length earlier.now ≡ length later.now }
     ensures { result ≡ bytes_cost (instance_of card.now) (byte_at earlier.now) later.now }
 {
     let mut cost: u64 = 0;
-    let mut x = 0;
-    while x < later.len() {
+    for x in 0..later.len() {
         cost += byte_cost(card, h, earlier[x], later[x]);
-        x += 1;
     }
     cost
 }
@@ -187,13 +168,7 @@ fn row_stop_cost(down: u64, row: &[u8]) -> u64
     requires { RowPriced down row.now }
     ensures { result ≡ row_stop_cost down row.now }
 {
-    let mut cost: u64 = 0;
-    let mut k = 0;
-    while k < row.len() {
-        cost += stop_cost(down, row[k]);
-        k += 1;
-    }
-    cost
+    row.iter().map(|&b| stop_cost(down, b)).sum()
 }
 
 // Marking: the cost of a sheet, that of its first row, of the later rows, and of the changes to off after the last.

@@ -4,8 +4,8 @@ use Rattle.sheets.specs.Marks.{bytes_cost, all_off}
 use Rattle.sheets.proofs.SheetBytes.{byte_ready, bytes_each}
 use Rattle.sheets.proofs.row_start_cost.Goals as goal
 
-pub loop-k-init : goal.loop-k-init
-loop-k-init c = summed_none _ _
+pub loop-b-init : goal.loop-b-init
+loop-b-init c = summed_none _ _
 
 pub byte_cost-cost-requires : goal.byte_cost-cost-requires
 byte_cost-cost-requires c = search byte_ready
@@ -13,11 +13,11 @@ byte_cost-cost-requires c = search byte_ready
 pub overflow_add-cost : goal.overflow_add-cost
 overflow_add-cost c =
     let each = bytes_each c.requires all_off in
-    let room = summed_room c.loop-k.invariant c.loop-k-test.true c.byte_cost-cost.ensures each in
+    let room = summed_room c.loop-b.invariant c.loop-b-test.true c.byte_cost-cost.ensures each in
     record { fits = omega (arith, room) }
 
-pub loop-k-preserved : goal.loop-k-preserved
-loop-k-preserved c = search summed_more
+pub loop-b-preserved : goal.loop-b-preserved
+loop-b-preserved c = search summed_more
 
 pub returns : goal.returns
 unfolding bytes_cost

@@ -3,17 +3,17 @@ use Rattle.model.specs.Sheets.{sheet_entries}
 use Rattle.sheets.proofs.SheetBytes.{entry_failed, entry_passed}
 use Rattle.sheets.proofs.sheet_entries.Goals as goal
 
-pub loop-x-init : goal.loop-x-init
-loop-x-init c = passed_none _ _
+pub loop-b-init : goal.loop-b-init
+loop-b-init c = passed_none _ _
 
 pub returns-then-not-is_entry : goal.returns-then-not-is_entry
 unfolding sheet_entries
 returns-then-not-is_entry c =
-    passed_not c.loop-x.invariant c.loop-x-test.true (search entry_failed)
+    passed_not c.loop-b.invariant c.loop-b-test.true (search entry_failed)
 
-pub loop-x-preserved : goal.loop-x-preserved
-loop-x-preserved c =
-    passed_more c.loop-x.invariant c.loop-x-test.true (search entry_passed)
+pub loop-b-preserved : goal.loop-b-preserved
+loop-b-preserved c =
+    passed_more c.loop-b.invariant c.loop-b-test.true (search entry_passed)
 
 pub returns : goal.returns
 unfolding sheet_entries

@@ -1,10 +1,6 @@
-use Rattle.std.specs.Prelude.{◌-◌, length}
 use Rattle.model.specs.Instance.{instance_of}
 use Rattle.sheets.proofs.Filled.{Filled}
 use Rattle.sheets.proofs.write_sheet.Given as goal
 
 abbrev pub invariant-loop-t : goal.invariant-loop-t
 invariant-loop-t l = Filled (instance_of l.card) l.plan l.initial.sheet l.t l.sheet
-
-abbrev pub decreases-loop-t : goal.decreases-loop-t
-decreases-loop-t l = length l.plan - l.t
