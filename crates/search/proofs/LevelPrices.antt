@@ -3,28 +3,28 @@ use Rattle.std.specs.Prelude.{ℕ, ◌+◌, ◌-◌, ◌*◌, ◌≤◌, ◌<◌
 use Rattle.basics.specs.Core.{ap, ⊎_elim, mul-le-mul, mul-le-mul_right, sub-le}
 use Rattle.basics.specs.Core.{le_trans, le_of_lt, arith, get_or-eq_default, le-leb, lt-leb}
 use Rattle.basics.specs.Numbers.{le_or_lt}
-use Rattle.model.specs.Instance.{instance_of}
+use Rattle.card.specs.Shows.{show_of}
 use Rattle.model.specs.Counts.{can_serve}
 use Rattle.model.specs.Thesis.{switching_price}
 use Rattle.laws.specs.Acceptance.{accepted_bounds}
-use Rattle.card.specs.declared.Header.{Header}
+use Rattle.card.specs.declared.Card.{Card}
 use Rattle.counts.specs.Serving.{Served}
 use Rattle.thresholds.specs.Places.{count_at_place, count_fits, length_fits}
 use Rattle.thresholds.specs.Thresholds.{level_price}
 use Rattle.search.specs.SearchRequires.{OnCard, most_lead}
 
-module _ {s : List ℕ} {h : Header} {counts : List ℕ} (on : OnCard s h counts) where
+module _ {card : Card} {counts : List ℕ} (on : OnCard card counts) where
   pub few_places : length counts ≤ 201
-  few_places = omega (arith, length_fits on.allowed, (accepted_bounds s on.ready.accepted).modules)
+  few_places = omega (arith, length_fits on.allowed, (accepted_bounds _ card.accepted).modules)
 
-  pub price_most : h.power_up + h.power_down ≤ 1000000000
-  price_most = omega (arith, (accepted_bounds s on.ready.accepted).power_up, (accepted_bounds s on.ready.accepted).power_down)
+  pub price_most : card.header.power_up + card.header.power_down ≤ 1000000000
+  price_most = omega (arith, (accepted_bounds _ card.accepted).power_up, (accepted_bounds _ card.accepted).power_down)
 
-  price_is : h.power_up + h.power_down ≡ switching_price (instance_of s)
+  price_is : card.header.power_up + card.header.power_down ≡ switching_price (show_of card)
   price_is = omega arith
 
   -- No count exceeds the rack.
-  in_rack : (j : ℕ) → count_at_place counts j ≤ (instance_of s).modules
+  in_rack : (j : ℕ) → count_at_place counts j ≤ (show_of card).modules
   in_rack j =
       ⊎_elim
       (λ (g : length counts ≤ j). omega (arith, get_or-eq_default counts 0 g))
@@ -32,45 +32,45 @@ module _ {s : List ℕ} {h : Header} {counts : List ℕ} (on : OnCard s h counts
       (le_or_lt (length counts) j)
 
   pub count_most : (j : ℕ) → count_at_place counts j ≤ 200
-  count_most j = omega (arith, in_rack j, (accepted_bounds s on.ready.accepted).modules.1)
+  count_most j = omega (arith, in_rack j, (accepted_bounds _ card.accepted).modules.1)
 
   -- What the test on a place's count and the load says.
   module _ {l : ℕ} (j : ℕ) where
-    pub cannot_serve : count_at_place counts j * h.top_step < l → can_serve (instance_of s) (count_at_place counts j) l ≡ false
+    pub cannot_serve : count_at_place counts j * card.header.top_step < l → can_serve (show_of card) (count_at_place counts j) l ≡ false
     unfolding can_serve
-    cannot_serve less = lt-leb l (count_at_place counts j * (instance_of s).top_step) (rw on.ready.header.top_is at less)
+    cannot_serve less = lt-leb l (count_at_place counts j * (show_of card).top_step) (rw card.header_is.top_is at less)
 
-    module _ (enough : l ≤ count_at_place counts j * h.top_step) where
-      enough_light : l ≤ count_at_place counts j * (instance_of s).top_step
-      enough_light = rw on.ready.header.top_is at enough
+    module _ (enough : l ≤ count_at_place counts j * card.header.top_step) where
+      enough_light : l ≤ count_at_place counts j * (show_of card).top_step
+      enough_light = rw card.header_is.top_is at enough
 
-      pub can_serve_lem : can_serve (instance_of s) (count_at_place counts j) l ≡ true
+      pub can_serve_lem : can_serve (show_of card) (count_at_place counts j) l ≡ true
       unfolding can_serve
-      can_serve_lem = le-leb l (count_at_place counts j * (instance_of s).top_step) enough_light
+      can_serve_lem = le-leb l (count_at_place counts j * (show_of card).top_step) enough_light
 
-      pub served_at_lem : Served s h (count_at_place counts j) l
-      served_at_lem = record { ready = on.ready; in_rack = in_rack j; serves = enough_light }
+      pub served_at_lem : Served card (count_at_place counts j) l
+      served_at_lem = record { in_rack = in_rack j; serves = enough_light }
 
       -- What the place below a level can serve, the place above it can.
-      pub served_above : j + 1 < length counts → Served s h (count_at_place counts (j + 1)) l
+      pub served_above : j + 1 < length counts → Served card (count_at_place counts (j + 1)) l
       served_above inside =
-          let more = mul-le-mul_right (instance_of s).top_step (le_of_lt (on.allowed.rises j inside)) in
-          record { ready = on.ready; in_rack = in_rack (j + 1); serves = le_trans enough_light more }
+          let more = mul-le-mul_right (show_of card).top_step (le_of_lt (on.allowed.rises j inside)) in
+          record { in_rack = in_rack (j + 1); serves = le_trans enough_light more }
 
-  pub low_top : (j : ℕ) → count_at_place counts j * h.top_step ≤ 40000
+  pub low_top : (j : ℕ) → count_at_place counts j * card.header.top_step ≤ 40000
   low_top j =
       mul-le-mul {n₁ = count_at_place counts j} {n₂ = 200} {m₂ = 200} (count_most j)
-      (omega (arith, (accepted_bounds s on.ready.accepted).top_step.1, on.ready.header.top_is))
+      (omega (arith, (accepted_bounds _ card.accepted).top_step.1, card.header_is.top_is))
 
   pub price_there :
-      (j : ℕ) → (h.power_up + h.power_down) * (count_at_place counts (j + 1) - count_at_place counts j) ≡ level_price (instance_of s) counts j
+      (j : ℕ) → (card.header.power_up + card.header.power_down) * (count_at_place counts (j + 1) - count_at_place counts j) ≡ level_price (show_of card) counts j
   price_there j = ap (λ (x : ℕ). x * (count_at_place counts (j + 1) - count_at_place counts j)) price_is
 
-  pub price_fits : (j : ℕ) → (h.power_up + h.power_down) * (count_at_place counts (j + 1) - count_at_place counts j) ≤ most_lead
+  pub price_fits : (j : ℕ) → (card.header.power_up + card.header.power_down) * (count_at_place counts (j + 1) - count_at_place counts j) ≤ most_lead
   price_fits j =
-      mul-le-mul {n₁ = h.power_up + h.power_down} {n₂ = 1000000000} {m₂ = 200} price_most
+      mul-le-mul {n₁ = card.header.power_up + card.header.power_down} {n₂ = 1000000000} {m₂ = 200} price_most
       (le_trans (sub-le (count_at_place counts (j + 1)) (count_at_place counts j)) (count_most (j + 1)))
 
   -- No level has a price above the largest lead.
-  pub level_most : (j : ℕ) → level_price (instance_of s) counts j ≤ most_lead
+  pub level_most : (j : ℕ) → level_price (show_of card) counts j ≤ most_lead
   level_most j = rw (price_there j) at (price_fits j)

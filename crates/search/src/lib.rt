@@ -3,7 +3,7 @@
 #![tactic(auto)]
 
 ghost use Rattle.std.specs.Prelude.{◌≡◌, length, replicate};
-ghost use Rattle.model.specs.Instance.{instance_of};
+ghost use Rattle.card.specs.Shows.{show_of};
 ghost use Rattle.counts.specs.AllowedCounts.{powers_up_to};
 ghost use Rattle.thresholds.specs.Places.{last_place};
 ghost use Rattle.thresholds.specs.Thresholds.{weighed, level_price, carried, judge as judged, raised_place};
@@ -11,7 +11,7 @@ ghost use Rattle.thresholds.specs.Thresholds.{forward as sides_found, backward a
 ghost use Rattle.search.specs.Written.{verdict_of, counts_at};
 ghost use Rattle.search.specs.SearchRequires.{OnCard, Weighable, LevelReady, Raisable, RoundReady, BackReady, RoundsReady, Placed, Searchable};
 
-use card::Header;
+use card::Card;
 
 // What a slot says of a level: how much dearer the slots up to it make the place above the level than the place below it; and the side of the
 // level on which the least plan is in the slot, 2 above, 0 below, 1 where it is in the next slot.
@@ -33,41 +33,40 @@ fn weigh(price: u64, upper: u64, lower: u64) -> Verdict
 }
 
 // The price of rising over a level, 0 beyond the list.
-fn level_price(card: &[u8], h: Header, counts: &[u64], level: usize) -> u64
-    requires { OnCard card.now h counts.now }
-    ensures { result ≡ level_price (instance_of card.now) counts.now level }
+fn level_price(card: &Card, counts: &[u64], level: usize) -> u64
+    requires { OnCard card.now counts.now }
+    ensures { result ≡ level_price (show_of card.now) counts.now level }
 {
     if counts.len() - 1 <= level {
         return 0;
     }
-    (h.power_up + h.power_down) * (counts[level + 1] - counts[level])
+    (card.header.power_up + card.header.power_down) * (counts[level + 1] - counts[level])
 }
 
 // The verdict of a slot with load l on a level with its price, by the lead before it. No plan is above a level beyond the list, and every plan is above one
 // whose place below cannot serve.
 #[tactic(auto, using(crate::proofs::LevelPrices::low_top, crate::proofs::LevelPrices::cannot_serve, thresholds::specs::ThresholdLaws::judge_forced))]
 fn judge(
-    card: &[u8],
-    h: Header,
+    card: &Card,
     counts: &[u64],
     level: usize,
     price: u64,
     l: u64,
     lead: u64,
 ) -> Verdict
-    requires { LevelReady card.now h counts.now level price lead }
-    ensures { verdict_of result ≡ judged (instance_of card.now) counts.now level l lead }
+    requires { LevelReady card.now counts.now level price lead }
+    ensures { verdict_of result ≡ judged (show_of card.now) counts.now level l lead }
 {
     if counts.len() - 1 <= level {
         return Verdict { lead: 0, side: 0 };
     }
     let low = counts[level];
     let high = counts[level + 1];
-    if low * h.top_step < l {
+    if low * card.header.top_step < l {
         return Verdict { lead: 0, side: 2 };
     }
-    let upper = lead + counts::operating_cost(card, h, high, l);
-    let lower = counts::operating_cost(card, h, low, l);
+    let upper = lead + counts::operating_cost(card, high, l);
+    let lower = counts::operating_cost(card, low, l);
     weigh(price, upper, lower)
 }
 
@@ -84,25 +83,24 @@ fn carry(price: u64, before: usize, place: usize, lead: u64) -> u64
 }
 
 // Forward through the slots: each slot's side of the level in the middle of the places that are left to it. Before the first slot the place is 0.
-fn forward(card: &[u8], h: Header, counts: &[u64], width: usize, plan: &[u8], sides: &mut [u8])
-    requires { RoundReady card.now h counts.now width plan.now sides.old }
-    ensures { sides.new ≡ sides_found (instance_of card.now) counts.now 0 width plan.now }
+fn forward(card: &Card, counts: &[u64], width: usize, plan: &[u8], sides: &mut [u8])
+    requires { RoundReady card.now counts.now width plan.now sides.old }
+    ensures { sides.new ≡ sides_found (show_of card.now) counts.now 0 width plan.now }
 {
     let reach = width - 1;
     let mut before = 0;
-    let mut lead = level_price(card, h, counts, reach);
+    let mut lead = level_price(card, counts, reach);
     for (t, &place) in plan.iter().enumerate() {
         let place = usize::from(place);
         let level = place + reach;
-        let price = level_price(card, h, counts, level);
+        let price = level_price(card, counts, level);
         let carried = carry(price, before, place, lead);
         let verdict = judge(
             card,
-            h,
             counts,
             level,
             price,
-            card::load(card, h, t as u64),
+            card.load(t as u64),
             carried,
         );
         sides[t] = verdict.side;
@@ -135,13 +133,13 @@ fn backward(width: usize, plan: &mut [u8], sides: &[u8])
 }
 
 // The rounds, one for each digit from the highest down.
-fn rounds(card: &[u8], h: Header, counts: &[u64], digits: usize, plan: &mut [u8], sides: &mut [u8])
-    requires { RoundsReady card.now h counts.now digits plan.old sides.old }
-    ensures { plan.new ≡ places_found (instance_of card.now) counts.now 0 digits plan.old }
+fn rounds(card: &Card, counts: &[u64], digits: usize, plan: &mut [u8], sides: &mut [u8])
+    requires { RoundsReady card.now counts.now digits plan.old sides.old }
+    ensures { plan.new ≡ places_found (show_of card.now) counts.now 0 digits plan.old }
 {
     for e in (0..digits).rev() {
         let width = counts::power(e) as usize;
-        forward(card, h, counts, width, plan, sides);
+        forward(card, counts, width, plan, sides);
         backward(width, plan, sides);
     }
 }
@@ -157,17 +155,17 @@ fn to_counts(counts: &[u64], plan: &mut [u8])
 }
 
 // The least plan over a list of allowed counts. The work bytes are 0 afterwards.
-pub fn search(card: &[u8], h: Header, counts: &[u64], plan: &mut [u8], work: &mut [u8])
-    requires { Searchable card.now h counts.now plan.old work.old }
+pub fn search(card: &Card, counts: &[u64], plan: &mut [u8], work: &mut [u8])
+    requires { Searchable card.now counts.now plan.old work.old }
     ensures plan { plan.new ≡
-        threshold_plan (instance_of card.now) counts.now 0 (powers_up_to (last_place counts.now)) }
+        threshold_plan (show_of card.now) counts.now 0 (powers_up_to (last_place counts.now)) }
     ensures work { work.new ≡ replicate (length work.old) 0 }
 {
     let slots = plan.len();
     let last = counts.len() - 1;
     let digits = counts::powers_up_to(last as u64);
     buffers::fill(plan, 0);
-    rounds(card, h, counts, digits, plan, &mut work[..slots]);
+    rounds(card, counts, digits, plan, &mut work[..slots]);
     to_counts(counts, plan);
     buffers::fill(work, 0);
 }

@@ -13,7 +13,7 @@ use Rattle.model.specs.MoreLight.{active_step}
 use Rattle.model.specs.Plans.{module_byte}
 use Rattle.laws.specs.Acceptance.{accepted_bounds}
 use Rattle.laws.specs.Operating.{byte_off}
-use Rattle.card.specs.declared.Header.{Header}
+use Rattle.card.specs.declared.Card.{Card}
 use Rattle.card.proofs.Lowest.{active_most}
 use Rattle.counts.specs.Serving.{Served}
 use Rattle.counts.proofs.Shares.{step_small}
@@ -21,9 +21,9 @@ use Rattle.sheets.specs.Marks.{slot_byte}
 
 -- The active step of a step at most one above the quotient fits a byte.
 pub active_fits :
-    {s : List ℕ} {h : Header} {n l k j : ℕ} → Served s h n l → (n ≡ 0 → ⊥) → j ≡ active_step (instance_of s) k → k ≤ l / n + 1 → Fits w8 j
+    {card : Card} {n l k j : ℕ} → Served card n l → (n ≡ 0 → ⊥) → j ≡ active_step (show_of card) k → k ≤ l / n + 1 → Fits w8 j
 active_fits {s} {h} {n} {l} {k} given some is near =
-    record { fits = omega (arith, active_most given.ready k, step_small given some, (accepted_bounds s given.ready.accepted).top_step.1) }
+    record { fits = omega (arith, active_most given.ready k, step_small given some, (accepted_bounds _ card.accepted).top_step.1) }
 
 -- Where no module is active, the row is all off.
 pub row_off :

@@ -10,9 +10,9 @@ use Rattle.model.specs.Instance.{Instance, instance_of}
 use Rattle.model.specs.Sheets.{is_entry, off, is_off, sheet_entries, step_cost, change_cost}
 use Rattle.model.specs.Specs.{sheet_bytes}
 use Rattle.model.specs.Calls.{Accepted}
-use Rattle.card.specs.declared.Header.{Header}
+use Rattle.card.specs.declared.Card.{Card}
 use Rattle.card.specs.Fields.{EntryThere}
-use Rattle.card.specs.Checking.{Ready}
+use Rattle.card.specs.Shows.{show_of}
 use Rattle.card.proofs.FieldsThere.{entry_there}
 use Rattle.laws.specs.Acceptance.{accepted_bounds}
 use Rattle.sheets.specs.Marks.{byte_cost, bytes_cost, stop_cost}
@@ -23,40 +23,40 @@ active_step_lem : {b : ℕ} → (b ≡ off → ⊥) → (top : ℕ) → is_entry
 active_step_lem {b} active top e = leb-true b top (rw (ne_eqb b off active, or-false (leb b top)) at e)
 
 -- The test of a byte against the card's top step.
-module _ {s : List ℕ} {h : Header} (given : Ready s h) (sheet : List ℕ) {x : ℕ} (inside : x < length sheet) {flag : Bool}
-    (flag_is : flag ≡ is_entry h.top_step (get_or sheet x 0)) where
-  entry_is : is_entry (instance_of s).top_step (get_or sheet x off) ≡ is_entry h.top_step (get_or sheet x 0)
+module _ {card : Card} (given : Ready card) (sheet : List ℕ) {x : ℕ} (inside : x < length sheet) {flag : Bool}
+    (flag_is : flag ≡ is_entry card.header.top_step (get_or sheet x 0)) where
+  entry_is : is_entry (show_of card).top_step (get_or sheet x off) ≡ is_entry card.header.top_step (get_or sheet x 0)
   entry_is = rw (get_or_within sheet x off 0 inside, given.header.top_is)
 
-  pub entry_failed : not flag ≡ true → is_entry (instance_of s).top_step (get_or sheet x off) ≡ false
+  pub entry_failed : not flag ≡ true → is_entry (show_of card).top_step (get_or sheet x off) ≡ false
   entry_failed f = entry_is ∙ test_failed flag_is f
 
-  pub entry_passed : not flag ≡ false → is_entry (instance_of s).top_step (get_or sheet x off) ≡ true
+  pub entry_passed : not flag ≡ false → is_entry (show_of card).top_step (get_or sheet x off) ≡ true
   entry_passed f = entry_is ∙ test_passed flag_is f
 
 -- Each of some bytes that are ready is ready alone.
 pub byte_ready :
-    {s : List ℕ} {h : Header} {bytes : List ℕ} (x : ℕ) → BytesReady s h bytes → x < length bytes → ByteReady s h (get_or bytes x 0)
+    {card : Card} {bytes : List ℕ} (x : ℕ) → BytesReady card bytes → x < length bytes → ByteReady card (get_or bytes x 0)
 byte_ready x given below = record { ready = given.ready; in_range = given.in_range x below }
 
 -- The table has the entry of an active module's step.
 pub step_there :
-    {s : List ℕ} {h : Header} {b x : ℕ} → ByteReady s h b → (b ≡ off → ⊥) → x ≡ b → EntryThere s h x
+    {card : Card} {b x : ℕ} → ByteReady card b → (b ≡ off → ⊥) → x ≡ b → EntryThere s h x
 step_there given active e = rw e (entry_there given.ready (active_step_lem active _ given.in_range))
 
 -- A sheet has at most 200 × 1,024 bytes.
-pub area_small : (s : List ℕ) → Accepted s → sheet_bytes (instance_of s) ≤ 204800
+pub area_small : (s : List ℕ) → Accepted s → sheet_bytes (show_of card) ≤ 204800
 area_small s accepted = mul-le-mul (accepted_bounds s accepted).modules.1 (accepted_bounds s accepted).slots
 
 -- The part of a sheet from place a on is ready as the sheet is.
 pub part_ready :
-    {s : List ℕ} {h : Header} {sheet : List ℕ} → SheetReady s h sheet → (a : ℕ) (part : List ℕ) → a + length part ≤ length sheet →
-    ((x : ℕ) → x < length part → get_or part x 0 ≡ get_or sheet (a + x) 0) → BytesReady s h part
+    {card : Card} {sheet : List ℕ} → SheetReady card sheet → (a : ℕ) (part : List ℕ) → a + length part ≤ length sheet →
+    ((x : ℕ) → x < length part → get_or part x 0 ≡ get_or sheet (a + x) 0) → BytesReady card part
 unfolding sheet_entries
 part_ready {s} {h} {sheet} given a part inside same =
     record {
       ready = given.sized.ready;
-      few = omega (arith, area_small s given.sized.ready.accepted);
+      few = omega (arith, area_small s card.accepted);
       in_range = λ x below.
           let place : a + x < length sheet = omega arith in
           rw (same x below, get_or_within sheet (a + x) 0 off place) (every_at (length sheet) _ given.entries (a + x) place);
@@ -90,33 +90,33 @@ pub stop_each : (row : List ℕ) {down most : ℕ} → down ≤ most → (k : �
 stop_each row below k h = at_most (get_or row k 0) below
 
 -- A byte costs at most 501,000,000.
-module _ (s : List ℕ) (h : Header) (prev b : ℕ) (given : ByteReady s h b) where
-  step_most : step_cost (instance_of s) b ≤ 1000000
+module _ (card : Card) (prev b : ℕ) (given : ByteReady card b) where
+  step_most : step_cost (show_of card) b ≤ 1000000
   unfolding step_cost
   step_most =
       ⊎_elim
       (λ (t : is_off b ≡ true). rw t (omega arith))
-      (λ (t : is_off b ≡ false). rw t ((accepted_bounds s given.ready.accepted).table b (active_step_lem (eqb-false b off t) _ given.in_range)))
+      (λ (t : is_off b ≡ false). rw t ((accepted_bounds _ card.accepted).table b (active_step_lem (eqb-false b off t) _ given.in_range)))
       (true_or_false (is_off b))
 
-  change_most : change_cost (instance_of s) prev b ≤ 500000000
+  change_most : change_cost (show_of card) prev b ≤ 500000000
   unfolding change_cost
   change_most = go (is_off prev) (is_off b)
     where
-      go : (x y : Bool) → cond x (cond y 0 (instance_of s).power_up) (cond y (instance_of s).power_down 0) ≤ 500000000
+      go : (x y : Bool) → cond x (cond y 0 (show_of card).power_up) (cond y (show_of card).power_down 0) ≤ 500000000
       go true true = omega arith
-      go true false = (accepted_bounds s given.ready.accepted).power_up
-      go false true = (accepted_bounds s given.ready.accepted).power_down
+      go true false = (accepted_bounds _ card.accepted).power_up
+      go false true = (accepted_bounds _ card.accepted).power_down
       go false false = omega arith
 
-  byte_most : byte_cost (instance_of s) prev b ≤ 501000000
+  byte_most : byte_cost (show_of card) prev b ≤ 501000000
   unfolding byte_cost
   byte_most = omega (arith, step_most, change_most)
 
-module _ {s : List ℕ} {h : Header} {bytes : List ℕ} (given : BytesReady s h bytes) (before : ℕ → ℕ) where
-  pub bytes_each : (x : ℕ) → x < length bytes → byte_cost (instance_of s) (before x) (get_or bytes x 0) ≤ 501000000
+module _ {card : Card} {bytes : List ℕ} (given : BytesReady card bytes) (before : ℕ → ℕ) where
+  pub bytes_each : (x : ℕ) → x < length bytes → byte_cost (show_of card) (before x) (get_or bytes x 0) ≤ 501000000
   bytes_each x below = byte_most s h (before x) (get_or bytes x 0) (byte_ready x given below)
 
-  pub bytes_most : {cost : ℕ} → cost ≡ bytes_cost (instance_of s) before bytes → cost ≤ 204800 * 501000000
+  pub bytes_most : {cost : ℕ} → cost ≡ bytes_cost (show_of card) before bytes → cost ≤ 204800 * 501000000
   unfolding bytes_cost
   bytes_most e = omega (arith, sum_at_most (length bytes) bytes_each)

@@ -9,7 +9,7 @@ use Rattle.basics.specs.Parts.{get_or_within, part_length, part_at}
 use Rattle.basics.specs.Rows.{row_within}
 use Rattle.model.specs.Instance.{Instance, instance_of}
 use Rattle.model.specs.Sheets.{off, step_of, state_at, light_at}
-use Rattle.card.specs.declared.Header.{Header}
+use Rattle.card.specs.declared.Card.{Card}
 use Rattle.sheets.specs.Marks.{row_light}
 use Rattle.sheets.specs.SheetRequires.{SheetSized}
 
@@ -50,15 +50,15 @@ module _ (i : Instance) (s : List ℕ) (size : length s ≡ i.modules * i.slots)
 
 -- The test of a slot's light against its load.
 module _
-    {s : List ℕ} {h : Header} {sheet : List ℕ} (given : SheetSized s h sheet) {t : ℕ} (below : t < h.slots) {x y : ℕ}
-    (x-is : x ≡ row_light (mid_of (t * h.modules) (t * h.modules + h.modules - t * h.modules) sheet)) (y-is : y ≡ (instance_of s).load t) where
-  light_is : x ≡ light_at (instance_of s) sheet (suc t)
+    {card : Card} {sheet : List ℕ} (given : SheetSized card sheet) {t : ℕ} (below : t < card.header.slots) {x y : ℕ}
+    (x-is : x ≡ row_light (mid_of (t * card.header.modules) (t * card.header.modules + card.header.modules - t * card.header.modules) sheet)) (y-is : y ≡ (show_of card).load t) where
+  light_is : x ≡ light_at (show_of card) sheet (suc t)
   light_is =
-      let m = given.ready.header.modules_is in
-      x-is ∙ row_light_is (instance_of s) sheet given.size m (ap (λ (n : ℕ). t * n) m) (omega arith)
+      let m = card.header_is.modules_is in
+      x-is ∙ row_light_is (show_of card) sheet given.size m (ap (λ (n : ℕ). t * n) m) (omega arith)
 
-  pub light_failed : x < y → leb ((instance_of s).load t) (light_at (instance_of s) sheet (suc t)) ≡ false
+  pub light_failed : x < y → leb ((show_of card).load t) (light_at (show_of card) sheet (suc t)) ≡ false
   light_failed less = rw (← light_is, ← y-is) (lt-leb y x less)
 
-  pub light_passed : y ≤ x → leb ((instance_of s).load t) (light_at (instance_of s) sheet (suc t)) ≡ true
+  pub light_passed : y ≤ x → leb ((show_of card).load t) (light_at (show_of card) sheet (suc t)) ≡ true
   light_passed enough = rw (← light_is, ← y-is) (le-leb y x enough)

@@ -7,7 +7,7 @@ use mir.Val.{Fits}
 use Rattle.basics.specs.Sums.{sum, sum_ext, sum_add, sum_const, sum_at_most, sum_blocks}
 use Rattle.model.specs.Instance.{Instance, instance_of}
 use Rattle.model.specs.Sheets.{state_at, step_cost, change_cost, sheet_operating_cost, sheet_switching_cost, sheet_cost}
-use Rattle.card.specs.declared.Header.{Header}
+use Rattle.card.specs.declared.Card.{Card}
 use Rattle.laws.specs.Acceptance.{accepted_bounds}
 use Rattle.sheets.specs.Marks.{byte_cost, bytes_cost, all_off, byte_at, stop_cost, row_stop_cost}
 use Rattle.sheets.specs.SheetRequires.{BytesReady, RowPriced, SheetReady}
@@ -89,73 +89,73 @@ row_stop_most {down} {stop} {row} given e =
 
 -- The place where the last row begins, by a header.
 abbrev last_place : Header → ℕ
-last_place h = (h.slots - 1) * h.modules
+last_place h = (card.header.slots - 1) * card.header.modules
 
 -- A sheet's rows and their costs by its header.
-module _ {s : List ℕ} {h : Header} {sheet : List ℕ} (given : SheetReady s h sheet) where
-  pub sheet_empty : h.slots ≡ 0 → 0 ≡ sheet_cost (instance_of s) sheet
-  sheet_empty e = cost_empty (instance_of s) sheet given.sized.size (sym given.sized.ready.header.slots_is ∙ e)
+module _ {card : Card} {sheet : List ℕ} (given : SheetReady card sheet) where
+  pub sheet_empty : card.header.slots ≡ 0 → 0 ≡ sheet_cost (show_of card) sheet
+  sheet_empty e = cost_empty (show_of card) sheet given.sized.size (sym card.header_is.slots_is ∙ e)
 
-  module _ (some : h.slots ≡ 0 → ⊥) where
-    slots_before : suc (h.slots - 1) ≡ (instance_of s).slots
+  module _ (some : card.header.slots ≡ 0 → ⊥) where
+    slots_before : suc (card.header.slots - 1) ≡ (show_of card).slots
     slots_before = omega arith
 
     -- The first row and as many bytes as stand before the last row are the whole.
-    header_rows : h.modules + last_place h ≡ length sheet
-    header_rows = rw given.sized.ready.header.modules_is (rows_all (instance_of s) sheet given.sized.size slots_before refl)
+    header_rows : card.header.modules + last_place h ≡ length sheet
+    header_rows = rw card.header_is.modules_is (rows_all (show_of card) sheet given.sized.size slots_before refl)
 
-    pub first_inside : h.modules ≤ length sheet
+    pub first_inside : card.header.modules ≤ length sheet
     first_inside = omega (arith, header_rows)
 
     pub earlier_inside : last_place h ≤ length sheet
     earlier_inside = omega (arith, header_rows)
 
     pub earlier_fits : Fits w64 (last_place h)
-    earlier_fits = record { fits = omega (arith, earlier_inside, area_small s given.sized.ready.accepted) }
+    earlier_fits = record { fits = omega (arith, earlier_inside, area_small s card.accepted) }
 
-    pub first_counted : h.modules ≡ length (take h.modules sheet)
+    pub first_counted : card.header.modules ≡ length (take card.header.modules sheet)
     first_counted = sym (first_length sheet _ _ header_rows)
 
     pub earlier_counted : last_place h ≡ length (take (last_place h) sheet)
     earlier_counted = sym (earlier_length sheet _ _ header_rows)
 
-    pub first_ready : BytesReady s h (take h.modules sheet)
+    pub first_ready : BytesReady card (take card.header.modules sheet)
     first_ready =
         part_ready given 0 _ (omega (arith, first_counted, first_inside))
-        (λ x below. rw (zero-add x) (get_or-take h.modules sheet x 0 (omega (arith, first_counted))))
+        (λ x below. rw (zero-add x) (get_or-take card.header.modules sheet x 0 (omega (arith, first_counted))))
 
-    pub later_ready : BytesReady s h (from h.modules sheet)
+    pub later_ready : BytesReady card (from card.header.modules sheet)
     later_ready =
-        part_ready given h.modules _ (omega (arith, later_length sheet _ _ header_rows, header_rows))
+        part_ready given card.header.modules _ (omega (arith, later_length sheet _ _ header_rows, header_rows))
         (λ x below. later_at sheet _ _ header_rows x (omega (arith, later_length sheet _ _ header_rows)))
 
-    pub rows_paired : length (take (last_place h) sheet) ≡ length (from h.modules sheet)
+    pub rows_paired : length (take (last_place h) sheet) ≡ length (from card.header.modules sheet)
     rows_paired = omega (arith, earlier_counted, later_length sheet _ _ header_rows)
 
-    pub last_priced : RowPriced h.power_down (from (last_place h) sheet)
+    pub last_priced : RowPriced card.header.power_down (from (last_place h) sheet)
     last_priced =
-        let accepted = given.sized.ready.accepted in
+        let accepted = card.accepted in
         record {
           short = omega (arith, last_length sheet _ _ header_rows, (accepted_bounds s accepted).modules.1);
           priced = omega (arith, (accepted_bounds s accepted).power_down);
         }
 
     module _
-        {start rest : ℕ} (start_is : start ≡ bytes_cost (instance_of s) all_off (take h.modules sheet))
-        (rest-is : rest ≡ bytes_cost (instance_of s) (byte_at (take (last_place h) sheet)) (from h.modules sheet)) where
+        {start rest : ℕ} (start_is : start ≡ bytes_cost (show_of card) all_off (take card.header.modules sheet))
+        (rest-is : rest ≡ bytes_cost (show_of card) (byte_at (take (last_place h) sheet)) (from card.header.modules sheet)) where
       rows_small : start + rest ≤ 2 * 204800 * 501000000
       rows_small = omega (arith, bytes_most first_ready _ start_is, bytes_most later_ready _ rest-is)
 
       pub rows_fit : Fits w64 (start + rest)
       rows_fit = record { fits = omega (arith, rows_small) }
 
-      module _ {stop : ℕ} (stop_is : stop ≡ row_stop_cost h.power_down (from (last_place h) sheet)) where
+      module _ {stop : ℕ} (stop_is : stop ≡ row_stop_cost card.header.power_down (from (last_place h) sheet)) where
         pub total_small : start + rest + stop ≤ 3 * 204800 * 501000000
         total_small = omega (arith, rows_small, row_stop_most last_priced stop_is)
 
-        pub sheet_whole : start + rest + stop ≡ sheet_cost (instance_of s) sheet
+        pub sheet_whole : start + rest + stop ≡ sheet_cost (show_of card) sheet
         sheet_whole =
-            let m = given.sized.ready.header.modules_is in
-            let d = given.sized.ready.header.down_is in
-            cost_whole (instance_of s) sheet given.sized.size slots_before refl (rw m at start_is) (rw m at rest-is)
+            let m = card.header_is.modules_is in
+            let d = card.header_is.down_is in
+            cost_whole (show_of card) sheet given.sized.size slots_before refl (rw m at start_is) (rw m at rest-is)
             (rw (m, d) at stop_is)

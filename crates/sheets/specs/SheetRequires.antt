@@ -3,31 +3,29 @@ use Rattle.std.specs.Prelude.{ℕ, ◌≤◌, ◌<◌, ◌≡◌, true, List, le
 use Rattle.model.specs.Instance.{instance_of}
 use Rattle.model.specs.Sheets.{is_entry, sheet_entries}
 use Rattle.model.specs.Specs.{sheet_bytes}
-use Rattle.card.specs.declared.Header.{Header}
-use Rattle.card.specs.Checking.{Ready}
+use Rattle.card.specs.declared.Card.{Card}
+use Rattle.card.specs.Shows.{show_of}
 use Rattle.counts.specs.Serving.{Served}
 use Rattle.plans.specs.PlanRequires.{PlanReady}
 
 -- An accepted card with its header, a count n of its rack that can serve the load l, and a row with room for n active modules.
-pub record RowFits (s : List ℕ) (h : Header) (n l : ℕ) (row : List ℕ) : Type 0 where
-  pub served : Served s h n l
+pub record RowFits (card : Card) (n l : ℕ) (row : List ℕ) : Type 0 where
+  pub served : Served card n l
   pub in_row : n ≤ length row
 
 -- A plan that is ready, and a sheet buffer of at least m × T bytes.
-pub record SheetRoom (s : List ℕ) (h : Header) (p sheet : List ℕ) : Type 0 where
-  pub plan : PlanReady s h p
-  pub room : sheet_bytes (instance_of s) ≤ length sheet
+pub record SheetRoom (card : Card) (p sheet : List ℕ) : Type 0 where
+  pub plan : PlanReady card p
+  pub room : sheet_bytes (show_of card) ≤ length sheet
 
 -- An accepted card with its header, and a byte that is 0 to Q or 255.
-pub record ByteReady (s : List ℕ) (h : Header) (byte : ℕ) : Type 0 where
-  pub ready : Ready s h
-  pub in_range : is_entry (instance_of s).top_step byte ≡ true
+pub record ByteReady (card : Card) (byte : ℕ) : Type 0 where
+  pub in_range : is_entry (show_of card).top_step byte ≡ true
 
 -- An accepted card with its header, and at most 200 × 1,024 bytes, each of which is 0 to Q or 255.
-pub record BytesReady (s : List ℕ) (h : Header) (bytes : List ℕ) : Type 0 where
-  pub ready : Ready s h
+pub record BytesReady (card : Card) (bytes : List ℕ) : Type 0 where
   pub few : length bytes ≤ 204800
-  pub in_range : (x : ℕ) → x < length bytes → is_entry (instance_of s).top_step (get_or bytes x 0) ≡ true
+  pub in_range : (x : ℕ) → x < length bytes → is_entry (show_of card).top_step (get_or bytes x 0) ≡ true
 
 -- The row has at most 200 bytes.
 pub record RowShort (row : List ℕ) : Type 0 where
@@ -39,11 +37,10 @@ pub record RowPriced (price : ℕ) (row : List ℕ) : Type 0 where
   pub priced : price ≤ 500000000
 
 -- An accepted card with its header, and a sheet of m × T bytes.
-pub record SheetSized (s : List ℕ) (h : Header) (sheet : List ℕ) : Type 0 where
-  pub ready : Ready s h
-  pub size : length sheet ≡ sheet_bytes (instance_of s)
+pub record SheetSized (card : Card) (sheet : List ℕ) : Type 0 where
+  pub size : length sheet ≡ sheet_bytes (show_of card)
 
 -- An accepted card with its header, and a sheet of m × T bytes, each of which is 0 to Q or 255.
-pub record SheetReady (s : List ℕ) (h : Header) (sheet : List ℕ) : Type 0 where
-  pub sized : SheetSized s h sheet
-  pub entries : sheet_entries (instance_of s) sheet ≡ true
+pub record SheetReady (card : Card) (sheet : List ℕ) : Type 0 where
+  pub sized : SheetSized card sheet
+  pub entries : sheet_entries (show_of card) sheet ≡ true

@@ -1,6 +1,6 @@
 use Rattle.std.specs.Prelude.{refl}
 use Rattle.basics.specs.Core.{arith}
-use Rattle.card.proofs.FieldsThere.{load_there}
+use Rattle.card.proofs.FieldsThere.{in_show}
 use Rattle.search.proofs.ForwardWalk.{forward_starts, carried_small, forward_turns, forward_ends}
 use Rattle.search.proofs.forward.Goals as goal
 
@@ -10,7 +10,7 @@ loop-t-init c = forward_starts c.requires c.level_price-lead.ensures
 pub load-requires : goal.load-requires
 load-requires c =
     let p = c.requires in
-    load_there p.slots.on_card.ready (omega arith)
+    in_show c.args.card.now (omega arith)
 
 pub judge-verdict-requires : goal.judge-verdict-requires
 judge-verdict-requires c =

@@ -1,6 +1,6 @@
-use Rattle.model.specs.Instance.{instance_of}
+use Rattle.card.specs.Shows.{show_of}
 use Rattle.search.proofs.ForwardWalk.{ForwardLoop}
 use Rattle.search.proofs.forward.Given as goal
 
 abbrev pub invariant-loop-t : goal.invariant-loop-t
-invariant-loop-t l = ForwardLoop (instance_of l.card) l.counts l.width l.plan l.initial.sides l.sides l.before l.lead l.t
+invariant-loop-t l = ForwardLoop (show_of l.card) l.counts l.width l.plan l.initial.sides l.sides l.before l.lead l.t

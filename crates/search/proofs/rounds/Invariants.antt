@@ -1,6 +1,6 @@
-use Rattle.model.specs.Instance.{instance_of}
+use Rattle.card.specs.Shows.{show_of}
 use Rattle.search.proofs.RoundsWalk.{RoundsLoop}
 use Rattle.search.proofs.rounds.Given as goal
 
 abbrev pub invariant-loop-e : goal.invariant-loop-e
-invariant-loop-e l = RoundsLoop (instance_of l.card) l.counts l.digits l.initial.plan l.initial.sides l.plan l.sides l.e
+invariant-loop-e l = RoundsLoop (show_of l.card) l.counts l.digits l.initial.plan l.initial.sides l.plan l.sides l.e

@@ -8,7 +8,7 @@ entry-operating-requires c = search step_there
 
 pub overflow_add-result : goal.overflow_add-result
 overflow_add-result c =
-    let bounds = accepted_bounds _ c.requires.ready.accepted in
+    let bounds = accepted_bounds _ c.args.card.now.accepted in
     record { fits = omega (arith, bounds.power_up, bounds.power_down) }
 
 pub returns-then-prev-eq255 : goal.returns-then-prev-eq255

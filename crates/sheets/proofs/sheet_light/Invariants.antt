@@ -1,8 +1,8 @@
 use Rattle.std.specs.Prelude.{suc, leb}
 use Rattle.basics.specs.Tests.{Passed}
-use Rattle.model.specs.Instance.{instance_of}
+use Rattle.card.specs.Shows.{show_of}
 use Rattle.model.specs.Sheets.{light_at}
 use Rattle.sheets.proofs.sheet_light.Given as goal
 
 abbrev pub invariant-loop-t : goal.invariant-loop-t
-invariant-loop-t l = Passed (instance_of l.card).slots (λ u. leb ((instance_of l.card).load u) (light_at (instance_of l.card) l.sheet (suc u))) l.t
+invariant-loop-t l = Passed (show_of l.card).slots (λ u. leb ((show_of l.card).load u) (light_at (show_of l.card) l.sheet (suc u))) l.t
