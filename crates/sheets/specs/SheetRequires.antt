@@ -8,7 +8,7 @@ use Rattle.card.specs.Shows.{show_of}
 use Rattle.counts.specs.Serving.{Served}
 use Rattle.plans.specs.PlanRequires.{PlanReady}
 
--- An accepted card with its header, a count n of its rack that can serve the load l, and a row with room for n active modules.
+-- On an accepted card a count n of its rack that can serve the load l, and a row with room for n active modules.
 pub record RowFits (card : Card) (n l : ℕ) (row : List ℕ) : Type 0 where
   pub served : Served card n l
   pub in_row : n ≤ length row
@@ -18,11 +18,11 @@ pub record SheetRoom (card : Card) (p sheet : List ℕ) : Type 0 where
   pub plan : PlanReady card p
   pub room : sheet_bytes (show_of card) ≤ length sheet
 
--- An accepted card with its header, and a byte that is 0 to Q or 255.
+-- A byte of an accepted card that is 0 to Q or 255.
 pub record ByteReady (card : Card) (byte : ℕ) : Type 0 where
   pub in_range : is_entry (show_of card).top_step byte ≡ true
 
--- An accepted card with its header, and at most 200 × 1,024 bytes, each of which is 0 to Q or 255.
+-- On an accepted card at most 200 × 1,024 bytes, each of which is 0 to Q or 255.
 pub record BytesReady (card : Card) (bytes : List ℕ) : Type 0 where
   pub few : length bytes ≤ 204800
   pub in_range : (x : ℕ) → x < length bytes → is_entry (show_of card).top_step (get_or bytes x 0) ≡ true
@@ -36,11 +36,11 @@ pub record RowPriced (price : ℕ) (row : List ℕ) : Type 0 where
   pub short : length row ≤ 200
   pub priced : price ≤ 500000000
 
--- An accepted card with its header, and a sheet of m × T bytes.
+-- On an accepted card a sheet of m × T bytes.
 pub record SheetSized (card : Card) (sheet : List ℕ) : Type 0 where
   pub size : length sheet ≡ sheet_bytes (show_of card)
 
--- An accepted card with its header, and a sheet of m × T bytes, each of which is 0 to Q or 255.
+-- On an accepted card a sheet of m × T bytes, each of which is 0 to Q or 255.
 pub record SheetReady (card : Card) (sheet : List ℕ) : Type 0 where
   pub sized : SheetSized card sheet
   pub entries : sheet_entries (show_of card) sheet ≡ true

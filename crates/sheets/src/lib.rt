@@ -98,7 +98,7 @@ pub fn sheet_light(card: &Card, sheet: &[u8]) -> bool
     ensures { result ≡ sheet_light (show_of card.now) sheet.now }
 {
     let modules = card.header.modules as usize;
-    for t in 0..h.slots {
+    for t in 0..card.header.slots {
         let start = t as usize * modules;
         let end = start + modules;
         let light = slot_light(&sheet[start..end]);
