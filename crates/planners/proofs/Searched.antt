@@ -2,14 +2,15 @@
 use Rattle.std.specs.Prelude.{ℕ, ◌≤◌, ◌≡◌, List, ◌++◌, length, take, drop, replicate}
 use Rattle.basics.specs.Core.{sym, ◌∙◌, ap, arith, length-replicate, length-take-le}
 use Rattle.basics.specs.Lists.{written_over}
-use Rattle.model.specs.Instance.{Instance, instance_of}
+use Rattle.model.specs.Instance.{Instance}
 use Rattle.model.specs.Thesis.{counts_cost}
 use Rattle.model.specs.Plans.{least_plan, least_cost}
 use Rattle.thresholds.specs.Places.{last_place}
 use Rattle.thresholds.specs.Thresholds.{threshold_plan}
 use Rattle.theory.specs.Hypotheses.{Plannable, PlanFits}
 use Rattle.theory.specs.Condition3.{accepted_plannable, threshold_plan_lem, least_plan_fits, least_cost_counts}
-use Rattle.card.specs.declared.Header.{Header}
+use Rattle.card.specs.declared.Card.{Card}
+use Rattle.card.specs.Shows.{show_of}
 use Rattle.counts.specs.AllowedCounts.{powers_up_to}
 use Rattle.counts.proofs.Powers.{digits_known}
 use Rattle.plans.specs.PlanRequires.{PlanReady}
@@ -23,19 +24,19 @@ abbrev pub LeastWritten : Instance → (counts : List ℕ) (asked : ℕ) (p w : 
 LeastWritten i counts asked p w cost plan work =
     (cost ≡ least_cost i counts) × ((plan ≡ written_over (least_plan i counts) p) × (work ≡ written_over (replicate asked 0) w))
 
-module _ {s : List ℕ} {h : Header} {counts : List ℕ} {asked : ℕ} {p w : List ℕ} (given : CountsReady s h counts asked p w) where
-  pub plan_long : h.slots ≤ length p
-  plan_long = omega (arith, given.buffers.plan_room, given.buffers.ready.header.slots_is)
+module _ {card : Card} {counts : List ℕ} {asked : ℕ} {p w : List ℕ} (given : CountsReady card counts asked p w) where
+  pub plan_long : card.header.slots ≤ length p
+  plan_long = omega (arith, given.buffers.plan_room, card.header_is.slots_is)
 
   pub work_long : asked ≤ length w
   work_long = given.buffers.work_room
 
   -- The parts of the buffers that are lent to the search.
-  pub searchable : Searchable s h counts (take h.slots p) (take asked w)
+  pub searchable : Searchable card counts (take card.header.slots p) (take asked w)
   searchable =
       record {
-        on_card = record { ready = given.buffers.ready; allowed = given.allowed };
-        plan_size = length-take-le h.slots p plan_long ∙ given.buffers.ready.header.slots_is;
+        on_card = record { allowed = given.allowed };
+        plan_size = length-take-le card.header.slots p plan_long ∙ card.header_is.slots_is;
         work_room = omega (arith, given.enough, length-take-le asked w work_long);
       }
 
@@ -43,36 +44,36 @@ module _ {s : List ℕ} {h : Header} {counts : List ℕ} {asked : ℕ} {p w : Li
   pub few_counts : length counts ≤ 201
   few_counts = omega (arith, few_places searchable.on_card)
 
-  plannable : Plannable (instance_of s)
-  plannable = accepted_plannable s given.buffers.ready.accepted
+  plannable : Plannable (show_of card)
+  plannable = accepted_plannable _ card.accepted
 
-  fits : PlanFits (instance_of s) (least_plan (instance_of s) counts)
+  fits : PlanFits (show_of card) (least_plan (show_of card) counts)
   fits = least_plan_fits plannable counts given.allowed
 
-  size : h.slots ≡ length (least_plan (instance_of s) counts)
-  size = given.buffers.ready.header.slots_is ∙ sym fits.slotwise
+  size : card.header.slots ≡ length (least_plan (show_of card) counts)
+  size = card.header_is.slots_is ∙ sym fits.slotwise
 
-  module _ {made : List ℕ} (made-is : made ≡ threshold_plan (instance_of s) counts 0 (powers_up_to (last_place counts))) where
-    filled : made ++ drop h.slots p ≡ written_over (least_plan (instance_of s) counts) p
+  module _ {made : List ℕ} (made-is : made ≡ threshold_plan (show_of card) counts 0 (powers_up_to (last_place counts))) where
+    filled : made ++ drop card.header.slots p ≡ written_over (least_plan (show_of card) counts) p
     filled =
         let digits = digits_known (last_place counts) (omega (arith, few_places searchable.on_card)) in
-        let least : made ≡ least_plan (instance_of s) counts = made-is ∙ threshold_plan_lem plannable counts given.allowed _ digits.0 in
-        ap (λ (l : List ℕ). l ++ drop h.slots p) least ∙ ap (λ (n : ℕ). least_plan (instance_of s) counts ++ drop n p) size
+        let least : made ≡ least_plan (show_of card) counts = made-is ∙ threshold_plan_lem plannable counts given.allowed _ digits.0 in
+        ap (λ (l : List ℕ). l ++ drop card.header.slots p) least ∙ ap (λ (n : ℕ). least_plan (show_of card) counts ++ drop n p) size
 
-    pub made_ready : PlanReady s h (take h.slots (made ++ drop h.slots p))
+    pub made_ready : PlanReady card (take card.header.slots (made ++ drop card.header.slots p))
     made_ready =
-        rw (front_is (least_plan (instance_of s) counts) p size filled)
+        rw (front_is (least_plan (show_of card) counts) p size filled)
         (record {
-          sized = record { ready = given.buffers.ready; slotwise = fits.slotwise };
+          sized = record { slotwise = fits.slotwise };
           in_rack = fits.in_rack;
           served = fits.served;
         })
 
     pub least_written :
-        {cost : ℕ} {cleared : List ℕ} → cost ≡ counts_cost (instance_of s) 0 (take h.slots (made ++ drop h.slots p)) →
+        {cost : ℕ} {cleared : List ℕ} → cost ≡ counts_cost (show_of card) 0 (take card.header.slots (made ++ drop card.header.slots p)) →
         cleared ≡ replicate (length (take asked w)) 0 →
-        LeastWritten (instance_of s) counts asked p w cost (made ++ drop h.slots p) (cleared ++ drop asked w)
+        LeastWritten (show_of card) counts asked p w cost (made ++ drop card.header.slots p) (cleared ++ drop asked w)
     least_written cost_is zeros = (
-      cost_is ∙ rw (front_is (least_plan (instance_of s) counts) p size filled) (sym (least_cost_counts plannable counts given.allowed)),
+      cost_is ∙ rw (front_is (least_plan (show_of card) counts) p size filled) (sym (least_cost_counts plannable counts given.allowed)),
       (filled, rw (zeros, length-take-le asked w work_long, length-replicate {A = ℕ} asked 0)),
     )
