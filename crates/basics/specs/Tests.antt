@@ -67,7 +67,7 @@ every_same zero f g same = refl
 every_same (suc n) f g same = rw (every_same n f g (λ k h. same k (omega arith)), same n (omega arith))
 
 -- A test at every index below n + 1 is one at 0 and one at every index after it.
-every_first : (n : ℕ) (f : ℕ → Bool) → every (suc n) f ≡ (f 0 && every n (λ k. f (suc k)))
+pub every_first : (n : ℕ) (f : ℕ → Bool) → every (suc n) f ≡ (f 0 && every n (λ k. f (suc k)))
 unfolding every
 every_first zero f = sym (and-true (f 0))
 every_first (suc n) f = rw (every_first n f) (and_assoc (f 0) (every n (λ k. f (suc k))) (f (suc n)))

@@ -9,14 +9,7 @@ ghost use Rattle.count_rules.specs.RuleRequires.{Rising};
 fn strictly_ascends(list: &[u16]) -> bool
     ensures { result ≡ strictly_ascends list.now }
 {
-    let mut k = 0;
-    while k + 1 < list.len() {
-        if list[k + 1] <= list[k] {
-            return false;
-        }
-        k += 1;
-    }
-    true
+    list.is_sorted_by(|low, high| low < high)
 }
 
 // Of three entries that rise the second gap is at most the ratio times the first one.
@@ -24,8 +17,8 @@ fn gap_grows(low: u16, middle: u16, high: u16, ratio: u64) -> bool
     requires { Rising low middle high ratio }
     ensures { result ≡ leb (high - middle) (ratio * (middle - low)) }
 {
-    let gap = (high - middle) as u64;
-    let before = (middle - low) as u64;
+    let gap = u64::from(high - middle);
+    let before = u64::from(middle - low);
     gap <= ratio * before
 }
 
@@ -35,59 +28,39 @@ fn gaps_grow(list: &[u16], ratio: u64) -> bool
     requires ratio_bound { ratio ≤ 200 }
     ensures { result ≡ gaps_grow_by ratio list.now }
 {
-    let mut k = 0;
-    while k + 2 < list.len() {
-        let next = k + 1;
-        if !gap_grows(list[k], list[next], list[next + 1], ratio) {
+    for window in list.windows(3) {
+        if !gap_grows(window[0], window[1], window[2], ratio) {
             return false;
         }
-        k += 1;
     }
     true
 }
 
 // The list has two to 201 entries, and is from 0 to the rack's modules.
+#[tactic(auto, unfolding(model::specs::CountRules::ends_at))]
 fn ends_at(list: &[u16], modules: u64) -> bool
     ensures { result ≡ ends_at list.now modules }
 {
     let entries = list.len();
-    if entries < 2 {
-        return false;
-    }
-    if 201 < entries {
-        return false;
-    }
-    if list[0] != 0 {
-        return false;
-    }
-    list[entries - 1] as u64 == modules
+    (2..=201).contains(&entries) && list[0] == 0 && u64::from(list[entries - 1]) == modules
 }
 
 // The ratio is from 1 to 200.
+#[tactic(auto, unfolding(model::specs::CountRules::ratio_in_range))]
 fn ratio_in_range(ratio: u64) -> bool
     ensures { result ≡ ratio_in_range ratio }
 {
-    if ratio < 1 {
-        return false;
-    }
-    ratio <= 200
+    (1..=200).contains(&ratio)
 }
 
 // A list of allowed counts and its ratio keep the rules in a rack.
+#[tactic(auto, using(crate::proofs::Rules::ends_two, crate::proofs::Rules::ratio_most), unfolding(model::specs::CountRules::keeps_rules))]
 pub fn keeps_rules(list: &[u16], ratio: u64, modules: u64) -> bool
     ensures { result ≡ keeps_rules list.now ratio modules }
 {
-    if !ends_at(list, modules) {
-        return false;
-    }
-    if !strictly_ascends(list) {
-        return false;
-    }
-    if !ratio_in_range(ratio) {
-        return false;
-    }
-    if ratio < list[1] as u64 {
-        return false;
-    }
-    gaps_grow(list, ratio)
+    ends_at(list, modules)
+        && strictly_ascends(list)
+        && ratio_in_range(ratio)
+        && u64::from(list[1]) <= ratio
+        && gaps_grow(list, ratio)
 }

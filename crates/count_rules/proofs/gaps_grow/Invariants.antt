@@ -1,10 +1,9 @@
-use Rattle.std.specs.Prelude.{◌+◌, ◌-◌, ◌*◌, length, leb}
-use Rattle.basics.specs.Tests.{Passed}
-use Rattle.model.specs.CountRules.{gap_after}
+use Rattle.std.specs.Prelude.{◌≡◌, true}
+use Rattle.std.specs.Slice.Iter.{windows_size, windows_rest}
+use Rattle.model.specs.CountRules.{strictly_ascends, gaps_grow_by}
 use Rattle.count_rules.proofs.gaps_grow.Given as goal
 
-abbrev pub invariant-loop-k : goal.invariant-loop-k
-invariant-loop-k l = Passed (length l.list - 2) (λ j. leb (gap_after l.list (j + 1)) (l.ratio * gap_after l.list j)) l.k
-
-abbrev pub decreases-loop-k : goal.decreases-loop-k
-decreases-loop-k l = length l.list - l.k
+abbrev pub invariant-loop-window : goal.invariant-loop-window
+invariant-loop-window l =
+    (windows_size l.window-iterator ≡ 3) × (strictly_ascends (windows_rest l.window-iterator) ≡ true)
+    × (gaps_grow_by l.ratio (windows_rest l.window-iterator) ≡ gaps_grow_by l.ratio l.list)
