@@ -1,2 +1,1 @@
 mod Widened
-mod Listed
