@@ -5,6 +5,7 @@ ghost use Rattle.std.specs.Prelude.{◌≡◌, length};
 ghost use Rattle.model.specs.Planners.{listed};
 
 use card::Card;
+use model::{Answer, Refusal};
 use planners::PlannerKind;
 
 // The entries of a list as numbers of eight bytes.
@@ -27,8 +28,11 @@ pub struct Listed<'a> {
 impl PlannerKind for Listed<'_> {
     ghost planner = { λ l. listed l.list.now l.ratio };
 
-    fn keeps_list(&self, card: &Card) -> bool {
-        count_rules::keeps_rules(self.list, self.ratio, card.header.modules)
+    fn check_list(&self, card: &Card) -> Answer {
+        if !count_rules::keeps_rules(self.list, self.ratio, card.header.modules) {
+            return Err(Refusal::CountList);
+        }
+        Ok(0)
     }
 
     fn fill_counts(&self, _card: &Card, counts: &mut [u64]) -> usize {

@@ -1,5 +1,5 @@
 -- A planner that keeps the rules: its counts as a list that is searched, its answer by the test on its buffers, and its buffers at exit.
-use Rattle.std.specs.Prelude.{ℕ, ◌≤◌, ◌<◌, ◌≡◌, Bool, true, false, ◌||◌, List, length, take, replicate, ltb, Err, Ok}
+use Rattle.std.specs.Prelude.{ℕ, ◌≤◌, ◌<◌, ◌≡◌, refl, Bool, true, false, cond, not, ◌||◌, List, length, take, replicate, ltb, Err, Ok}
 use Rattle.basics.specs.Core.{sym, ap, ◌∙◌, or-false, mul-le-mul_right, arith, ltb-false, lt-ltb, le-ltb}
 use Rattle.basics.specs.Lists.{written_over}
 use Rattle.basics.specs.Tests.{or_left, or_right}
@@ -8,7 +8,7 @@ use Rattle.model.specs.declared.Refusal.TheVariants.{BufferTooShort, CountList}
 use Rattle.model.specs.Answers.{Answer}
 use Rattle.model.specs.Instance.{Instance}
 use Rattle.model.specs.Planners.{Planner, exact, coarse, listed, allowed_counts, work_bytes, keeps_list, planned_by, planned_cost}
-use Rattle.model.specs.Specs.{any_short, at_exit}
+use Rattle.model.specs.Specs.{first_of, list_tests, any_short, at_exit}
 use Rattle.model.specs.Calls.{check_card, plan_show, spec_of, answer, plan_at_exit, work_at_exit}
 use Rattle.model.specs.Promises.{KeepsRules}
 use Rattle.laws.specs.Acceptance.{accepted_bounds}
@@ -48,6 +48,32 @@ unfolding allowed_counts work_bytes
 work_enough exact i some = omega arith
 work_enough coarse i some = omega arith
 work_enough (listed l r) i some = omega (arith, mul-le-mul_right i.slots some)
+
+answer_if : Bool → Answer
+answer_if kept = cond (not kept) (Err CountList) (Ok 0)
+
+kept_if : (kept : Bool) {n : ℕ} → answer_if kept ≡ Ok n → kept ≡ true
+unfolding answer_if
+kept_if true e = refl
+kept_if false e = cc
+
+broken_if : (kept : Bool) {x : Refusal} → answer_if kept ≡ Err x → (kept ≡ false) × (x ≡ CountList)
+unfolding answer_if
+broken_if true e = (cc, cc)
+broken_if false e = (refl, cc)
+
+-- What the test of a planner's list says: the list keeps the rules, or the refusal is 18.
+pub list_kept : (k : Planner) (i : Instance) {n : ℕ} → first_of (list_tests k i) (Ok 0) ≡ Ok n → KeepsRules k i
+unfolding first_of answer_if
+list_kept exact i e = refl
+list_kept coarse i e = refl
+list_kept (listed l r) i e = kept_if (keeps_list (listed l r) i) e
+
+pub list_broken : (k : Planner) (i : Instance) {x : Refusal} → first_of (list_tests k i) (Ok 0) ≡ Err x → (keeps_list k i ≡ false) × (x ≡ CountList)
+unfolding first_of answer_if
+list_broken exact i e = (cc, cc)
+list_broken coarse i e = (cc, cc)
+list_broken (listed l r) i e = broken_if (keeps_list (listed l r) i) e
 
 -- A cost and two buffers at exit are those of a planner's plan, where p and w are the buffers at entry.
 abbrev pub PlanWritten : Planner → Instance → (p w : List ℕ) (cost : ℕ) (plan work : List ℕ) → Type 0

@@ -2,10 +2,11 @@
 // input. What the planners differ in stands in a trait, with the exact and the coarse one here and one over a list of counts in count_lists.
 #![tactic(auto)]
 
-ghost use Rattle.std.specs.Prelude.{◌≡◌, ◌≤◌, length, replicate};
+ghost use Rattle.std.specs.Prelude.{◌≡◌, ◌≤◌, Ok, length, replicate};
 ghost use Rattle.basics.specs.Lists.{written_over};
 ghost use Rattle.model.specs.Plans.{least_plan, least_cost};
-ghost use Rattle.model.specs.Planners.{Planner, exact, coarse, allowed_counts, work_bytes, keeps_list, planned_by, planned_cost};
+ghost use Rattle.model.specs.Planners.{Planner, exact, coarse, allowed_counts, work_bytes, planned_by, planned_cost};
+ghost use Rattle.model.specs.Specs.{first_of, list_tests};
 ghost use Rattle.model.specs.Calls.{plan_show, answer, plan_at_exit, work_at_exit};
 ghost use Rattle.model.specs.Promises.{KeepsRules};
 ghost use Rattle.card.specs.Shows.{show_of};
@@ -19,9 +20,9 @@ pub trait PlannerKind {
     // The planner that the kind stands for.
     ghost planner: { Self → Planner };
 
-    // Whether its list of counts and the ratio, if it has them, keep the rules.
-    fn keeps_list(&self, card: &Card) -> bool
-        ensures { result ≡ keeps_list (planner self.now) (show_of card.now) };
+    // Refusal 18, where its list of counts and the ratio, if it has them, do not keep the rules.
+    fn check_list(&self, card: &Card) -> Answer
+        ensures { result ≡ first_of (list_tests (planner self.now) (show_of card.now)) (Ok 0) };
 
     // Its allowed counts for the card's rack. Returns how many they are.
     fn fill_counts(&self, card: &Card, counts: &mut [u64]) -> usize
@@ -43,8 +44,9 @@ pub struct Exact;
 impl PlannerKind for Exact {
     ghost planner = { λ _. exact };
 
-    fn keeps_list(&self, _card: &Card) -> bool {
-        true
+    #[tactic(auto, unfolding(model::specs::Specs::first_of))]
+    fn check_list(&self, _card: &Card) -> Answer {
+        Ok(0)
     }
 
     fn fill_counts(&self, card: &Card, counts: &mut [u64]) -> usize {
@@ -63,8 +65,9 @@ pub struct Coarse;
 impl PlannerKind for Coarse {
     ghost planner = { λ _. coarse };
 
-    fn keeps_list(&self, _card: &Card) -> bool {
-        true
+    #[tactic(auto, unfolding(model::specs::Specs::first_of))]
+    fn check_list(&self, _card: &Card) -> Answer {
+        Ok(0)
     }
 
     fn fill_counts(&self, card: &Card, counts: &mut [u64]) -> usize {
@@ -123,9 +126,7 @@ pub fn plan_show_on<P: PlannerKind>(
     ensures plan_after { plan.new ≡ plan_at_exit (plan_show (P.planner kind.now) card.now.bytes.now plan.old work.old) }
     ensures work_after { work.new ≡ work_at_exit (plan_show (P.planner kind.now) card.now.bytes.now plan.old work.old) }
 {
-    if !kind.keeps_list(card) {
-        return Err(Refusal::CountList);
-    }
+    kind.check_list(card)?;
     if short_for(kind, card, plan.len(), work.len()) {
         return Err(Refusal::BufferTooShort);
     }
@@ -133,12 +134,7 @@ pub fn plan_show_on<P: PlannerKind>(
 }
 
 // A planner: refusals 1 to 8, and then those on an accepted card.
-pub fn plan_show<P: PlannerKind>(
-    kind: &P,
-    card: &[u8],
-    plan: &mut [u8],
-    work: &mut [u8],
-) -> Answer
+pub fn plan_show<P: PlannerKind>(kind: &P, card: &[u8], plan: &mut [u8], work: &mut [u8]) -> Answer
     ensures value { result ≡ answer (plan_show (P.planner kind.now) card.now plan.old work.old) }
     ensures plan_after { plan.new ≡ plan_at_exit (plan_show (P.planner kind.now) card.now plan.old work.old) }
     ensures work_after { work.new ≡ work_at_exit (plan_show (P.planner kind.now) card.now plan.old work.old) }
