@@ -8,12 +8,13 @@ use borrow.Rule.Slice.PartMut.{mid_of, put_mid}
 use Rattle.basics.specs.Lists.{tabulate, tabulate_same, tabulate_constant}
 use Rattle.basics.specs.Filling.{Upto, upto_all}
 use Rattle.basics.specs.Parts.{upto_front, upto_part}
-use Rattle.model.specs.Instance.{Instance, instance_of}
+use Rattle.model.specs.Instance.{Instance}
 use Rattle.model.specs.MoreLight.{active_step}
 use Rattle.model.specs.Plans.{module_byte}
 use Rattle.laws.specs.Acceptance.{accepted_bounds}
 use Rattle.laws.specs.Operating.{byte_off}
 use Rattle.card.specs.declared.Card.{Card}
+use Rattle.card.specs.Shows.{show_of}
 use Rattle.card.proofs.Lowest.{active_most}
 use Rattle.counts.specs.Serving.{Served}
 use Rattle.counts.proofs.Shares.{step_small}
@@ -22,8 +23,8 @@ use Rattle.sheets.specs.Marks.{slot_byte}
 -- The active step of a step at most one above the quotient fits a byte.
 pub active_fits :
     {card : Card} {n l k j : ℕ} → Served card n l → (n ≡ 0 → ⊥) → j ≡ active_step (show_of card) k → k ≤ l / n + 1 → Fits w8 j
-active_fits {s} {h} {n} {l} {k} given some is near =
-    record { fits = omega (arith, active_most given.ready k, step_small given some, (accepted_bounds _ card.accepted).top_step.1) }
+active_fits {card} {n} {l} {k} given some is near =
+    record { fits = omega (arith, active_most card k, step_small given some, (accepted_bounds _ card.accepted).top_step.1) }
 
 -- Where no module is active, the row is all off.
 pub row_off :

@@ -6,14 +6,12 @@ use Rattle.basics.specs.Numbers.{true_or_false}
 use Rattle.basics.specs.Tests.{every_at, test_failed, test_passed}
 use Rattle.basics.specs.Sums.{sum_at_most}
 use Rattle.basics.specs.Parts.{get_or_within}
-use Rattle.model.specs.Instance.{Instance, instance_of}
+use Rattle.model.specs.Instance.{Instance}
 use Rattle.model.specs.Sheets.{is_entry, off, is_off, sheet_entries, step_cost, change_cost}
 use Rattle.model.specs.Specs.{sheet_bytes}
-use Rattle.model.specs.Calls.{Accepted}
 use Rattle.card.specs.declared.Card.{Card}
-use Rattle.card.specs.Fields.{EntryThere}
 use Rattle.card.specs.Shows.{show_of}
-use Rattle.card.proofs.FieldsThere.{entry_there}
+use Rattle.card.proofs.FieldsThere.{in_table}
 use Rattle.laws.specs.Acceptance.{accepted_bounds}
 use Rattle.sheets.specs.Marks.{byte_cost, bytes_cost, stop_cost}
 use Rattle.sheets.specs.SheetRequires.{ByteReady, BytesReady, SheetReady}
@@ -23,10 +21,10 @@ active_step_lem : {b : ℕ} → (b ≡ off → ⊥) → (top : ℕ) → is_entry
 active_step_lem {b} active top e = leb-true b top (rw (ne_eqb b off active, or-false (leb b top)) at e)
 
 -- The test of a byte against the card's top step.
-module _ {card : Card} (given : Ready card) (sheet : List ℕ) {x : ℕ} (inside : x < length sheet) {flag : Bool}
+module _ (card : Card) (sheet : List ℕ) {x : ℕ} (inside : x < length sheet) {flag : Bool}
     (flag_is : flag ≡ is_entry card.header.top_step (get_or sheet x 0)) where
   entry_is : is_entry (show_of card).top_step (get_or sheet x off) ≡ is_entry card.header.top_step (get_or sheet x 0)
-  entry_is = rw (get_or_within sheet x off 0 inside, given.header.top_is)
+  entry_is = rw (get_or_within sheet x off 0 inside, card.header_is.top_is)
 
   pub entry_failed : not flag ≡ true → is_entry (show_of card).top_step (get_or sheet x off) ≡ false
   entry_failed f = entry_is ∙ test_failed flag_is f
@@ -37,26 +35,25 @@ module _ {card : Card} (given : Ready card) (sheet : List ℕ) {x : ℕ} (inside
 -- Each of some bytes that are ready is ready alone.
 pub byte_ready :
     {card : Card} {bytes : List ℕ} (x : ℕ) → BytesReady card bytes → x < length bytes → ByteReady card (get_or bytes x 0)
-byte_ready x given below = record { ready = given.ready; in_range = given.in_range x below }
+byte_ready x given below = record { in_range = given.in_range x below }
 
--- The table has the entry of an active module's step.
+-- An active module's step is in the table.
 pub step_there :
-    {card : Card} {b x : ℕ} → ByteReady card b → (b ≡ off → ⊥) → x ≡ b → EntryThere s h x
-step_there given active e = rw e (entry_there given.ready (active_step_lem active _ given.in_range))
+    {card : Card} {b x : ℕ} → ByteReady card b → (b ≡ off → ⊥) → x ≡ b → x ≤ card.header.top_step
+step_there {card} given active e = rw e (in_table card (active_step_lem active _ given.in_range))
 
 -- A sheet has at most 200 × 1,024 bytes.
-pub area_small : (s : List ℕ) → Accepted s → sheet_bytes (show_of card) ≤ 204800
-area_small s accepted = mul-le-mul (accepted_bounds s accepted).modules.1 (accepted_bounds s accepted).slots
+pub area_small : (card : Card) → sheet_bytes (show_of card) ≤ 204800
+area_small card = mul-le-mul (accepted_bounds _ card.accepted).modules.1 (accepted_bounds _ card.accepted).slots
 
 -- The part of a sheet from place a on is ready as the sheet is.
 pub part_ready :
     {card : Card} {sheet : List ℕ} → SheetReady card sheet → (a : ℕ) (part : List ℕ) → a + length part ≤ length sheet →
     ((x : ℕ) → x < length part → get_or part x 0 ≡ get_or sheet (a + x) 0) → BytesReady card part
 unfolding sheet_entries
-part_ready {s} {h} {sheet} given a part inside same =
+part_ready {card} {sheet} given a part inside same =
     record {
-      ready = given.sized.ready;
-      few = omega (arith, area_small s card.accepted);
+      few = omega (arith, area_small card);
       in_range = λ x below.
           let place : a + x < length sheet = omega arith in
           rw (same x below, get_or_within sheet (a + x) 0 off place) (every_at (length sheet) _ given.entries (a + x) place);
@@ -115,7 +112,7 @@ module _ (card : Card) (prev b : ℕ) (given : ByteReady card b) where
 
 module _ {card : Card} {bytes : List ℕ} (given : BytesReady card bytes) (before : ℕ → ℕ) where
   pub bytes_each : (x : ℕ) → x < length bytes → byte_cost (show_of card) (before x) (get_or bytes x 0) ≤ 501000000
-  bytes_each x below = byte_most s h (before x) (get_or bytes x 0) (byte_ready x given below)
+  bytes_each x below = byte_most card (before x) (get_or bytes x 0) (byte_ready x given below)
 
   pub bytes_most : {cost : ℕ} → cost ≡ bytes_cost (show_of card) before bytes → cost ≤ 204800 * 501000000
   unfolding bytes_cost

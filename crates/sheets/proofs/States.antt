@@ -7,9 +7,10 @@ use borrow.Rule.Slice.PartMut.{mid_of}
 use Rattle.basics.specs.Sums.{sum_ext}
 use Rattle.basics.specs.Parts.{get_or_within, part_length, part_at}
 use Rattle.basics.specs.Rows.{row_within}
-use Rattle.model.specs.Instance.{Instance, instance_of}
+use Rattle.model.specs.Instance.{Instance}
 use Rattle.model.specs.Sheets.{off, step_of, state_at, light_at}
 use Rattle.card.specs.declared.Card.{Card}
+use Rattle.card.specs.Shows.{show_of}
 use Rattle.sheets.specs.Marks.{row_light}
 use Rattle.sheets.specs.SheetRequires.{SheetSized}
 

@@ -5,9 +5,10 @@ use Rattle.basics.specs.Core.{arith, get_or-take, le-ltb}
 use mir.Syntax.{w64}
 use mir.Val.{Fits}
 use Rattle.basics.specs.Sums.{sum, sum_ext, sum_add, sum_const, sum_at_most, sum_blocks}
-use Rattle.model.specs.Instance.{Instance, instance_of}
+use Rattle.model.specs.Instance.{Instance}
 use Rattle.model.specs.Sheets.{state_at, step_cost, change_cost, sheet_operating_cost, sheet_switching_cost, sheet_cost}
 use Rattle.card.specs.declared.Card.{Card}
+use Rattle.card.specs.Shows.{show_of}
 use Rattle.laws.specs.Acceptance.{accepted_bounds}
 use Rattle.sheets.specs.Marks.{byte_cost, bytes_cost, all_off, byte_at, stop_cost, row_stop_cost}
 use Rattle.sheets.specs.SheetRequires.{BytesReady, RowPriced, SheetReady}
@@ -87,9 +88,9 @@ row_stop_most {down} {stop} {row} given e =
     let each = sum_at_most (length row) (stop_each row given.priced) in
     omega (arith, each)
 
--- The place where the last row begins, by a header.
-abbrev last_place : Header → ℕ
-last_place h = (card.header.slots - 1) * card.header.modules
+-- The place where the last row begins.
+abbrev last_place : Card → ℕ
+last_place card = (card.header.slots - 1) * card.header.modules
 
 -- A sheet's rows and their costs by its header.
 module _ {card : Card} {sheet : List ℕ} (given : SheetReady card sheet) where
@@ -101,22 +102,22 @@ module _ {card : Card} {sheet : List ℕ} (given : SheetReady card sheet) where
     slots_before = omega arith
 
     -- The first row and as many bytes as stand before the last row are the whole.
-    header_rows : card.header.modules + last_place h ≡ length sheet
+    header_rows : card.header.modules + last_place card ≡ length sheet
     header_rows = rw card.header_is.modules_is (rows_all (show_of card) sheet given.sized.size slots_before refl)
 
     pub first_inside : card.header.modules ≤ length sheet
     first_inside = omega (arith, header_rows)
 
-    pub earlier_inside : last_place h ≤ length sheet
+    pub earlier_inside : last_place card ≤ length sheet
     earlier_inside = omega (arith, header_rows)
 
-    pub earlier_fits : Fits w64 (last_place h)
-    earlier_fits = record { fits = omega (arith, earlier_inside, area_small s card.accepted) }
+    pub earlier_fits : Fits w64 (last_place card)
+    earlier_fits = record { fits = omega (arith, earlier_inside, area_small card) }
 
     pub first_counted : card.header.modules ≡ length (take card.header.modules sheet)
     first_counted = sym (first_length sheet _ _ header_rows)
 
-    pub earlier_counted : last_place h ≡ length (take (last_place h) sheet)
+    pub earlier_counted : last_place card ≡ length (take (last_place card) sheet)
     earlier_counted = sym (earlier_length sheet _ _ header_rows)
 
     pub first_ready : BytesReady card (take card.header.modules sheet)
@@ -129,27 +130,26 @@ module _ {card : Card} {sheet : List ℕ} (given : SheetReady card sheet) where
         part_ready given card.header.modules _ (omega (arith, later_length sheet _ _ header_rows, header_rows))
         (λ x below. later_at sheet _ _ header_rows x (omega (arith, later_length sheet _ _ header_rows)))
 
-    pub rows_paired : length (take (last_place h) sheet) ≡ length (from card.header.modules sheet)
+    pub rows_paired : length (take (last_place card) sheet) ≡ length (from card.header.modules sheet)
     rows_paired = omega (arith, earlier_counted, later_length sheet _ _ header_rows)
 
-    pub last_priced : RowPriced card.header.power_down (from (last_place h) sheet)
+    pub last_priced : RowPriced card.header.power_down (from (last_place card) sheet)
     last_priced =
-        let accepted = card.accepted in
         record {
-          short = omega (arith, last_length sheet _ _ header_rows, (accepted_bounds s accepted).modules.1);
-          priced = omega (arith, (accepted_bounds s accepted).power_down);
+          short = omega (arith, last_length sheet _ _ header_rows, (accepted_bounds _ card.accepted).modules.1);
+          priced = omega (arith, (accepted_bounds _ card.accepted).power_down);
         }
 
     module _
         {start rest : ℕ} (start_is : start ≡ bytes_cost (show_of card) all_off (take card.header.modules sheet))
-        (rest-is : rest ≡ bytes_cost (show_of card) (byte_at (take (last_place h) sheet)) (from card.header.modules sheet)) where
+        (rest-is : rest ≡ bytes_cost (show_of card) (byte_at (take (last_place card) sheet)) (from card.header.modules sheet)) where
       rows_small : start + rest ≤ 2 * 204800 * 501000000
       rows_small = omega (arith, bytes_most first_ready _ start_is, bytes_most later_ready _ rest-is)
 
       pub rows_fit : Fits w64 (start + rest)
       rows_fit = record { fits = omega (arith, rows_small) }
 
-      module _ {stop : ℕ} (stop_is : stop ≡ row_stop_cost card.header.power_down (from (last_place h) sheet)) where
+      module _ {stop : ℕ} (stop_is : stop ≡ row_stop_cost card.header.power_down (from (last_place card) sheet)) where
         pub total_small : start + rest + stop ≤ 3 * 204800 * 501000000
         total_small = omega (arith, rows_small, row_stop_most last_priced stop_is)
 

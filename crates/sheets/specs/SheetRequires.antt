@@ -1,6 +1,5 @@
 -- What the functions of this crate ask for.
 use Rattle.std.specs.Prelude.{ℕ, ◌≤◌, ◌<◌, ◌≡◌, true, List, length, get_or}
-use Rattle.model.specs.Instance.{instance_of}
 use Rattle.model.specs.Sheets.{is_entry, sheet_entries}
 use Rattle.model.specs.Specs.{sheet_bytes}
 use Rattle.card.specs.declared.Card.{Card}

@@ -3,8 +3,8 @@ use Rattle.basics.specs.Core.{arith}
 use Rattle.sheets.proofs.Totals.{first_inside, earlier_inside, earlier_fits, first_counted, earlier_counted, first_ready, later_ready, rows_paired, last_priced, rows_fit, total_small, sheet_empty, sheet_whole}
 use Rattle.sheets.proofs.sheet_cost.Goals as goal
 
-pub returns-then-h-eq0 : goal.returns-then-h-eq0
-returns-then-h-eq0 c = search sheet_empty
+pub returns-then-card-eq0 : goal.returns-then-card-eq0
+returns-then-card-eq0 c = search sheet_empty
 
 pub overflow_mul-last : goal.overflow_mul-last
 overflow_mul-last c = search earlier_fits

@@ -1,8 +1,7 @@
-use Rattle.std.proofs.Common.{rules}
 use Rattle.basics.specs.Core.{arith}
 use Rattle.basics.specs.Tests.{passed_none, passed_more, passed_all, passed_not}
 use Rattle.model.specs.Sheets.{sheet_light}
-use Rattle.card.proofs.FieldsThere.{sized, in_header, past_header}
+use Rattle.card.proofs.FieldsThere.{in_header, past_header}
 use Rattle.sheets.proofs.RowPlaces.{row_there, row_small, row_short}
 use Rattle.sheets.proofs.States.{light_failed, light_passed}
 use Rattle.sheets.proofs.sheet_light.Goals as goal
@@ -12,21 +11,15 @@ loop-t-init c = passed_none _ _
 
 pub overflow_mul-start : goal.overflow_mul-start
 overflow_mul-start c =
-    let ready = c.requires.ready in
-    record { fits = omega (arith, row_small ready (in_header ready c.loop-t-test.true)) }
+    omega (arith, row_small c.args.card.now c.loop-t-test.true)
 
 pub overflow_add-end : goal.overflow_add-end
 overflow_add-end c =
-    let ready = c.requires.ready in
-    record { fits = omega (arith, row_small ready (in_header ready c.loop-t-test.true)) }
+    omega (arith, row_small c.args.card.now c.loop-t-test.true)
 
 pub slot_light-light-requires : goal.slot_light-light-requires
 slot_light-light-requires c =
-    let ready = c.requires.ready in
-    row_short _ _ ready (row_there ready (in_header ready c.loop-t-test.true) (omega arith))
-
-pub load-requires : goal.load-requires
-load-requires c = record { sized = search sized; in_show = search rules }
+    row_short c.args.card.now _ _ (row_there c.args.card.now c.loop-t-test.true (omega arith))
 
 pub returns-then-light-load : goal.returns-then-light-load
 unfolding sheet_light

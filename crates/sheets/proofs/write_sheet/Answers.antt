@@ -1,5 +1,5 @@
 use Rattle.basics.specs.Core.{arith}
-use Rattle.plans.proofs.Loads.{in_slots, no_more_slots, slot_load_there}
+use Rattle.plans.proofs.Loads.{in_slots, no_more_slots, slot_in_show}
 use Rattle.sheets.proofs.RowPlaces.{row_there, row_small, row_fits}
 use Rattle.sheets.proofs.Filled.{filled_none, filled_room, filled_more, filled_all}
 use Rattle.sheets.proofs.write_sheet.Goals as goal
@@ -8,23 +8,21 @@ pub loop-t-init : goal.loop-t-init
 loop-t-init c = filled_none _ _ _
 
 pub load-l-requires : goal.load-l-requires
-load-l-requires c = search slot_load_there
+load-l-requires c = search slot_in_show
 
 pub overflow_mul-start : goal.overflow_mul-start
 overflow_mul-start c =
-    let sized = c.requires.plan.sized in
-    record { fits = omega (arith, row_small sized.ready (in_slots sized c.loop-t-test.true)) }
+    omega (arith, row_small c.args.card.now (slot_in_show c.requires.plan.sized c.loop-t-test.true))
 
 pub overflow_add-end : goal.overflow_add-end
 overflow_add-end c =
-    let sized = c.requires.plan.sized in
-    record { fits = omega (arith, row_small sized.ready (in_slots sized c.loop-t-test.true)) }
+    omega (arith, row_small c.args.card.now (slot_in_show c.requires.plan.sized c.loop-t-test.true))
 
 pub write_slot-requires : goal.write_slot-requires
 write_slot-requires c =
     let given = c.requires in
-    let below = in_slots given.plan.sized c.loop-t-test.true in
-    let inside = row_there given.plan.sized.ready below (filled_room c.loop-t.invariant given.room) in
+    let below = slot_in_show given.plan.sized c.loop-t-test.true in
+    let inside = row_there c.args.card.now below (filled_room c.loop-t.invariant given.room) in
     search row_fits
 
 pub loop-t-preserved : goal.loop-t-preserved
