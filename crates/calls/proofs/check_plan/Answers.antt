@@ -22,7 +22,7 @@ returns-then-not-plan_serves c = search (make_load, test_failed, test_passed)
 pub plan_cost-requires : goal.plan_cost-requires
 plan_cost-requires c =
     let entries = (sym c.plan_in_rack.ensures ∙ c.if-not-plan_in_rack.false) in
-    plan_ready _ _ c.args.sheet.now c.requires c.if-plan-slots.false entries
+    plan_ready _ _ c.args.sheet.now c.if-plan-slots.false entries
     (sym c.plan_serves.ensures ∙ c.if-not-plan_serves.false)
 
 pub returns : goal.returns
