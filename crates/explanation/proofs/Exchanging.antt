@@ -11,7 +11,7 @@ use Rattle.laws.specs.Acceptance.{accepted_bounds}
 use Rattle.theory.specs.SheetLaws.{counts_length}
 use Rattle.card.specs.declared.Header.{Header}
 use Rattle.sheets.specs.SheetRequires.{RowShort}
-use Rattle.sheets.proofs.RowPlaces.{row_there, row_small, row_short}
+use Rattle.sheets.proofs.RowPlaces.{row_there, row_short}
 use Rattle.sheets.proofs.States.{row_length}
 use Rattle.explanation.specs.Exchanges.{row_starts, starts_after, exchanged_after, exchanged}
 use Rattle.explanation.specs.ExplanationRequires.{CountsKnown}
@@ -22,14 +22,11 @@ abbrev pub Counted : (s sheet : List ℕ) → (t total : ℕ) → Type 0
 Counted s sheet = Summed ((instance_of s).slots - 1) (exchanged_after (instance_of s) sheet)
 
 module _ {s : List ℕ} {h : Header} {sheet counts : List ℕ} {t total : ℕ} (known : CountsKnown s h sheet counts) (inv : Counted s sheet t total) where
-  pub next_fits : Fits w64 (t + 1)
-  next_fits = record { fits = omega (arith, inv.within, (accepted_bounds s known.sized.ready.accepted).slots) }
-
   slotwise : length counts ≡ (instance_of s).slots
   slotwise = ap length known.counts_are ∙ counts_length (instance_of s) sheet
 
   -- Another turn.
-  module _ (below : t + 1 < length counts) where
+  module _ {n : ℕ} (n-is : n ≡ length counts - 1) (below : t < n) where
     next_slot : suc t < (instance_of s).slots
     next_slot = omega (arith, slotwise)
 
@@ -49,18 +46,6 @@ module _ {s : List ℕ} {h : Header} {sheet counts : List ℕ} {t total : ℕ} (
     pub next_end : t * h.modules + h.modules + h.modules ≤ length sheet
     next_end =
         omega (arith, row_there {t = suc t} {size = length sheet} known.sized.ready next_slot (omega (arith, known.sized.size)))
-
-    small : t * h.modules + h.modules + h.modules ≤ 204800
-    small = omega (arith, row_small {t = suc t} known.sized.ready next_slot)
-
-    pub start_fits : Fits w64 (t * h.modules)
-    start_fits = record { fits = omega (arith, small) }
-
-    pub row_fits : Fits w64 (t * h.modules + h.modules)
-    row_fits = record { fits = omega (arith, small) }
-
-    pub end_fits : Fits w64 (t * h.modules + h.modules + h.modules)
-    end_fits = record { fits = omega (arith, small) }
 
     -- A row and the next one, as they are lent.
     abbrev row : List ℕ
@@ -109,6 +94,6 @@ module _ {s : List ℕ} {h : Header} {sheet counts : List ℕ} {t total : ℕ} (
       change_counted = summed_more inv turn_below change_is
 
   -- After the last turn the total is the whole.
-  pub all_counted : length counts ≤ t + 1 → total ≡ exchanged (instance_of s) sheet
+  pub all_counted : {n : ℕ} → n ≡ length counts - 1 → n ≤ t → total ≡ exchanged (instance_of s) sheet
   unfolding exchanged
-  all_counted done = summed_all inv (omega (arith, slotwise))
+  all_counted n-is done = summed_all inv (omega (arith, slotwise))

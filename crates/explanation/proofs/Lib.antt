@@ -1,4 +1,3 @@
-mod RowCounts
 mod SheetRows
 mod WritingCounts
 mod Exchanging

@@ -1,8 +1,6 @@
 -- The loop that writes the counts of a sheet.
 use Rattle.std.specs.Prelude.{ℕ, suc, ◌+◌, ◌-◌, ◌*◌, ◌≤◌, ◌<◌, ◌≡◌, List, length, set}
 use Rattle.basics.specs.Core.{ap, ◌∙◌, arith}
-use mir.Syntax.{w64}
-use mir.Val.{Fits}
 use borrow.Rule.Slice.PartMut.{mid_of}
 use Rattle.basics.specs.Lists.{tabulate}
 use Rattle.basics.specs.Filling.{Upto, upto_more, upto_all}
@@ -10,7 +8,7 @@ use Rattle.model.specs.Instance.{instance_of}
 use Rattle.model.specs.Sheets.{active_at, counts_of}
 use Rattle.card.specs.declared.Header.{Header}
 use Rattle.sheets.specs.SheetRequires.{RowShort}
-use Rattle.sheets.proofs.RowPlaces.{row_there, row_small, row_short}
+use Rattle.sheets.proofs.RowPlaces.{row_there, row_short}
 use Rattle.explanation.specs.Exchanges.{row_active}
 use Rattle.explanation.specs.ExplanationRequires.{CountsRoom}
 use Rattle.explanation.proofs.SheetRows.{row_active_is}
@@ -23,18 +21,12 @@ module _
     {s : List ℕ} {h : Header} {sheet counts₀ counts : List ℕ} {t : ℕ} (room : CountsRoom s h sheet counts₀)
     (inv : Written s sheet t counts₀ counts) where
   -- Another turn.
-  module _ (below : t < length counts) where
+  module _ (below : t < length counts₀) where
     in_show : t < (instance_of s).slots
     in_show = omega arith
 
     pub row_end : t * h.modules + h.modules ≤ length sheet
     row_end = row_there room.sized.ready in_show (omega (arith, room.sized.size))
-
-    pub row_fits : Fits w64 (t * h.modules + h.modules)
-    row_fits = record { fits = omega (arith, row_small room.sized.ready in_show) }
-
-    pub start_fits : Fits w64 (t * h.modules)
-    start_fits = record { fits = omega (arith, row_small room.sized.ready in_show) }
 
     pub short : RowShort (mid_of (t * h.modules) (t * h.modules + h.modules - t * h.modules) sheet)
     short = row_short sheet _ room.sized.ready row_end
@@ -48,6 +40,6 @@ module _
         upto_more inv (omega (arith, inv.size)) (e ∙ is)
 
   -- After the last turn all counts are written.
-  pub counts_written : length counts ≤ t → counts ≡ counts_of (instance_of s) sheet
+  pub counts_written : length counts₀ ≤ t → counts ≡ counts_of (instance_of s) sheet
   unfolding counts_of
   counts_written done = upto_all inv (omega (arith, inv.size)) ∙ ap (λ (n : ℕ). tabulate n (λ u. active_at (instance_of s) sheet (suc u))) room.slotwise

@@ -44,13 +44,7 @@ fn row_active(row: &[u8]) -> u8
     requires { RowShort row.now }
     ensures { result ≡ row_active row.now }
 {
-    let mut n: u8 = 0;
-    let mut k = 0;
-    while k < row.len() {
-        n += active_of(row[k]);
-        k += 1;
-    }
-    n
+    row.iter().map(|&b| active_of(b)).sum()
 }
 
 // How many modules go on from the row before to a row: at most 200.
@@ -59,13 +53,10 @@ fn row_starts(before: &[u8], row: &[u8]) -> u8
     requires before_len { length before.now ≡ length row.now }
     ensures { result ≡ row_starts before.now row.now }
 {
-    let mut n: u8 = 0;
-    let mut k = 0;
-    while k < row.len() {
-        n += start_of(before[k], row[k]);
-        k += 1;
-    }
-    n
+    row.iter()
+        .zip(before)
+        .map(|(&b, &was)| start_of(was, b))
+        .sum()
 }
 
 // Writes the counts of a sheet, slot by slot.
@@ -74,12 +65,10 @@ fn write_counts(card: &[u8], h: Header, sheet: &[u8], counts: &mut [u8])
     ensures { counts.new ≡ counts_of (instance_of card.now) sheet.now }
 {
     let modules = h.modules as usize;
-    let mut t = 0;
-    while t < counts.len() {
+    for t in 0..counts.len() {
         let start = t * modules;
         let end = start + modules;
         counts[t] = row_active(&sheet[start..end]);
-        t += 1;
     }
 }
 
@@ -88,10 +77,7 @@ fn beyond_rise(starts: u8, was: u8, n: u8) -> u64
     requires { n - was ≤ starts }
     ensures { result ≡ starts - (n - was) }
 {
-    if n <= was {
-        return card::wide(starts);
-    }
-    card::wide(starts - (n - was))
+    u64::from(starts - n.saturating_sub(was))
 }
 
 // How many modules go on beyond the rises of the counts, from each slot to the next. Into the first slot none does.
@@ -101,14 +87,12 @@ fn exchanged_modules(card: &[u8], h: Header, sheet: &[u8], counts: &[u8]) -> u64
 {
     let modules = h.modules as usize;
     let mut total: u64 = 0;
-    let mut t = 0;
-    while t + 1 < counts.len() {
+    for t in 0..counts.len().saturating_sub(1) {
         let start = t * modules;
         let next = start + modules;
         let end = next + modules;
         let starts = row_starts(&sheet[start..next], &sheet[next..end]);
         total += beyond_rise(starts, counts[t], counts[t + 1]);
-        t += 1;
     }
     total
 }

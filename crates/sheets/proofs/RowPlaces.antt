@@ -12,15 +12,10 @@ use Rattle.card.proofs.FieldsThere.{in_header}
 use Rattle.plans.specs.PlanRequires.{PlanReady}
 use Rattle.plans.proofs.Loads.{slot_served}
 use Rattle.sheets.specs.SheetRequires.{RowFits, RowShort}
-use Rattle.sheets.proofs.SheetBytes.{area_small}
 
 -- The row of slot t lies inside a sheet.
 pub row_there : (card : Card) {t size : ℕ} → t < card.header.slots → sheet_bytes (show_of card) ≤ size → t * card.header.modules + card.header.modules ≤ size
 row_there card below room = rw card.header_is.modules_is (row_within (show_of card).modules (in_header card below) room)
-
--- A row ends among the first 200 × 1,024 bytes.
-pub row_small : (card : Card) {t : ℕ} → t < card.header.slots → t * card.header.modules + card.header.modules ≤ 204800
-row_small card below = row_there card below (area_small card)
 
 -- A row has at most 200 bytes.
 pub row_short :

@@ -1,21 +1,9 @@
 use Rattle.basics.specs.Summing.{summed_none}
-use Rattle.explanation.proofs.Exchanging.{next_fits, start_fits, row_fits, end_fits, row_end, next_end, next_short, rows_paired, rise_there, total_fits, change_counted, all_counted}
+use Rattle.explanation.proofs.Exchanging.{row_end, next_end, next_short, rows_paired, rise_there, total_fits, change_counted, all_counted}
 use Rattle.explanation.proofs.exchanged_modules.Goals as goal
 
 pub loop-t-init : goal.loop-t-init
 loop-t-init c = summed_none _ _
-
-pub overflow_add-t : goal.overflow_add-t
-overflow_add-t c = search next_fits
-
-pub overflow_mul-start : goal.overflow_mul-start
-overflow_mul-start c = search start_fits
-
-pub overflow_add-next : goal.overflow_add-next
-overflow_add-next c = search row_fits
-
-pub overflow_add-end : goal.overflow_add-end
-overflow_add-end c = search end_fits
 
 pub row_starts-starts-requires : goal.row_starts-starts-requires
 row_starts-starts-requires c = record {

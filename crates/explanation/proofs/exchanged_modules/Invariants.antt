@@ -1,9 +1,5 @@
-use Rattle.std.specs.Prelude.{◌-◌, length}
 use Rattle.explanation.proofs.Exchanging.{Counted}
 use Rattle.explanation.proofs.exchanged_modules.Given as goal
 
 abbrev pub invariant-loop-t : goal.invariant-loop-t
 invariant-loop-t l = Counted l.card l.sheet l.t l.total
-
-abbrev pub decreases-loop-t : goal.decreases-loop-t
-decreases-loop-t l = length l.counts - l.t

@@ -1,15 +1,9 @@
 use Rattle.basics.specs.Filling.{upto_none}
-use Rattle.explanation.proofs.WritingCounts.{row_fits, start_fits, short, count_written, counts_written}
+use Rattle.explanation.proofs.WritingCounts.{short, count_written, counts_written}
 use Rattle.explanation.proofs.write_counts.Goals as goal
 
 pub loop-t-init : goal.loop-t-init
 loop-t-init c = upto_none _ _
-
-pub overflow_mul-start : goal.overflow_mul-start
-overflow_mul-start c = search start_fits
-
-pub overflow_add-end : goal.overflow_add-end
-overflow_add-end c = search row_fits
 
 pub row_active-requires : goal.row_active-requires
 row_active-requires c = search short

@@ -2,20 +2,12 @@ use Rattle.basics.specs.Core.{arith}
 use Rattle.basics.specs.Tests.{passed_none, passed_more, passed_all, passed_not}
 use Rattle.model.specs.Sheets.{sheet_light}
 use Rattle.card.proofs.FieldsThere.{in_header, past_header}
-use Rattle.sheets.proofs.RowPlaces.{row_there, row_small, row_short}
+use Rattle.sheets.proofs.RowPlaces.{row_there, row_short}
 use Rattle.sheets.proofs.States.{light_failed, light_passed}
 use Rattle.sheets.proofs.sheet_light.Goals as goal
 
 pub loop-t-init : goal.loop-t-init
 loop-t-init c = passed_none _ _
-
-pub overflow_mul-start : goal.overflow_mul-start
-overflow_mul-start c =
-    omega (arith, row_small c.args.card.now c.loop-t-test.true)
-
-pub overflow_add-end : goal.overflow_add-end
-overflow_add-end c =
-    omega (arith, row_small c.args.card.now c.loop-t-test.true)
 
 pub slot_light-light-requires : goal.slot_light-light-requires
 slot_light-light-requires c =

@@ -1,6 +1,5 @@
-use Rattle.basics.specs.Core.{arith}
 use Rattle.plans.proofs.Loads.{in_slots, no_more_slots, slot_in_show}
-use Rattle.sheets.proofs.RowPlaces.{row_there, row_small, row_fits}
+use Rattle.sheets.proofs.RowPlaces.{row_there, row_fits}
 use Rattle.sheets.proofs.Filled.{filled_none, filled_room, filled_more, filled_all}
 use Rattle.sheets.proofs.write_sheet.Goals as goal
 
@@ -9,14 +8,6 @@ loop-t-init c = filled_none _ _ _
 
 pub load-l-requires : goal.load-l-requires
 load-l-requires c = search slot_in_show
-
-pub overflow_mul-start : goal.overflow_mul-start
-overflow_mul-start c =
-    omega (arith, row_small c.args.card.now (slot_in_show c.requires.plan.sized c.loop-t-test.true))
-
-pub overflow_add-end : goal.overflow_add-end
-overflow_add-end c =
-    omega (arith, row_small c.args.card.now (slot_in_show c.requires.plan.sized c.loop-t-test.true))
 
 pub write_slot-requires : goal.write_slot-requires
 write_slot-requires c =
