@@ -60,7 +60,7 @@ fn is_entry(top: u64, b: u8) -> bool
     u64::from(b) <= top || b == 255
 }
 
-// Each byte of the sheet is a step of the table, or off. The loop takes one instruction a byte less than `all`.
+// Each byte of the sheet is a step of the table, or off. In a trial build `all` took one instruction more for each byte.
 pub fn sheet_entries(card: &Card, sheet: &[u8]) -> bool
     ensures { result ≡ sheet_entries (show_of card.now) sheet.now }
 {
