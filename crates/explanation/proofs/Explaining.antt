@@ -16,7 +16,7 @@ use Rattle.model.specs.ExplainedPoints.{explained_work, no_points, points_with, 
 use Rattle.laws.specs.Acceptance.{accepted_bounds}
 use Rattle.theory.specs.Outcomes.{mark_number, mark_accepts}
 use Rattle.theory.specs.ExplainedSheets.{work_left, explain_refused, explain_short, explain_unmarked, explain_marked}
-use Rattle.card.specs.declared.Header.{Header}
+use Rattle.card.specs.declared.Card.{Card}
 use Rattle.card.specs.Checking.{Checked}
 use Rattle.std.specs.Prelude.{Err}
 use Rattle.card.specs.Checking.{Ready, checked_of}
@@ -24,8 +24,8 @@ use Rattle.card.proofs.Groups.{refused_answer}
 use Rattle.explanation.specs.ExplanationRequires.{Marked, WorkRoom}
 
 -- The longest show has 1,024 slots.
-pub slots_most : {s : List ℕ} {h : Header} → Ready s h → h.slots ≤ 1024
-slots_most {s} r = omega (arith, r.header.slots_is, (accepted_bounds s r.accepted).slots)
+pub slots_most : {card : Card} → Ready card → card.header.slots ≤ 1024
+slots_most {s} r = omega (arith, r.header.slots_is, (accepted_bounds _ card.accepted).slots)
 
 -- Numbers and a buffer are those of an explanation at exit.
 abbrev pub Explained : (c s w : List ℕ) → Points → (work : List ℕ) → Type 0

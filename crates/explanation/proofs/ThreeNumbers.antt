@@ -7,7 +7,7 @@ use mir.Val.{Fits}
 use Rattle.basics.specs.Sums.{sum_at_most}
 use Rattle.std.specs.Prelude.{Ok}
 use Rattle.model.specs.declared.Points.{Points}
-use Rattle.model.specs.Instance.{instance_of}
+use Rattle.card.specs.Shows.{show_of}
 use Rattle.model.specs.Sheets.{sheet_length, sheet_cost, counts_of}
 use Rattle.model.specs.Thesis.{switching_price, counts_cost}
 use Rattle.model.specs.Plans.{plan_cost}
@@ -20,7 +20,7 @@ use Rattle.theory.specs.CountCosts.{counts_cost_parts}
 use Rattle.theory.specs.SheetLaws.{serves_parts, sheet_counts_fit, counts_length, plan_cost_counts}
 use Rattle.theory.specs.Condition3.{accepted_plannable}
 use Rattle.theory.specs.Explanations.{spread_whole, counts_whole}
-use Rattle.card.specs.declared.Header.{Header}
+use Rattle.card.specs.declared.Card.{Card}
 use Rattle.plans.specs.PlanRequires.{PlanReady}
 use Rattle.sheets.specs.SheetRequires.{SheetSized}
 use Rattle.planners.specs.PlannerRequires.{BuffersFor}
@@ -29,40 +29,40 @@ use Rattle.explanation.specs.ExplanationRequires.{CountsRoom, CountsKnown, Marke
 use Rattle.explanation.proofs.SheetRows.{exchanged_most}
 use Rattle.explanation.proofs.SwitchingExcess.{exchanged_cost}
 
-module _ {s : List ℕ} {h : Header} {sheet : List ℕ} {cost : ℕ} (m : Marked s h sheet cost) where
-  sheet_sized : SheetSized s h sheet
+module _ {card : Card} {sheet : List ℕ} {cost : ℕ} (m : Marked card sheet cost) where
+  sheet_sized : SheetSized card sheet
   unfolding sheet_length
-  sheet_sized = record { ready = m.ready; size = eqb-true _ _ ((serves_parts (instance_of s) sheet).0 m.served).0 }
+  sheet_sized = record { ready = m.ready; size = eqb-true _ _ ((serves_parts (show_of card) sheet).0 m.served).0 }
 
-  plannable : Plannable (instance_of s)
-  plannable = accepted_plannable s m.ready.accepted
+  plannable : Plannable (show_of card)
+  plannable = accepted_plannable s card.accepted
 
-  counts_fit : PlanFits (instance_of s) (counts_of (instance_of s) sheet)
-  counts_fit = sheet_counts_fit (instance_of s) sheet plannable.steps m.served
+  counts_fit : PlanFits (show_of card) (counts_of (show_of card) sheet)
+  counts_fit = sheet_counts_fit (show_of card) sheet plannable.steps m.served
 
   pub counts_room : {counts work : List ℕ} → PointsRoom s counts work → CountsRoom s h sheet counts
   counts_room room = record { sized = sheet_sized; slotwise = room.slotwise }
 
-  price_most : h.power_up + h.power_down ≤ 1000000000
-  price_most = omega (arith, (accepted_bounds s m.ready.accepted).power_up, (accepted_bounds s m.ready.accepted).power_down)
+  price_most : card.header.power_up + card.header.power_down ≤ 1000000000
+  price_most = omega (arith, (accepted_bounds _ card.accepted).power_up, (accepted_bounds _ card.accepted).power_down)
 
-  pub price_fits : Fits w64 (h.power_up + h.power_down)
+  pub price_fits : Fits w64 (card.header.power_up + card.header.power_down)
   price_fits = record { fits = omega (arith, price_most) }
 
   -- At most the bytes of a sheet go on beyond the rises.
-  exchanged_small : exchanged (instance_of s) sheet ≤ 1024 * 200
+  exchanged_small : exchanged (show_of card) sheet ≤ 1024 * 200
   unfolding exchanged
   exchanged_small =
-      let accepted = m.ready.accepted in
-      let few = le_trans (sub-le (instance_of s).slots 1) (accepted_bounds s accepted).slots in
-      le_trans (sum_at_most ((instance_of s).slots - 1) (λ t _. exchanged_most (instance_of s) sheet t)) (mul-le-mul few (accepted_bounds s accepted).modules.1)
+      let accepted = card.accepted in
+      let few = le_trans (sub-le (show_of card).slots 1) (accepted_bounds s accepted).slots in
+      le_trans (sum_at_most ((show_of card).slots - 1) (λ t _. exchanged_most (show_of card) sheet t)) (mul-le-mul few (accepted_bounds s accepted).modules.1)
 
   -- The sheet's counts, as they are written.
-  module _ {counts : List ℕ} (are : counts ≡ counts_of (instance_of s) sheet) where
-    pub counts_known : CountsKnown s h sheet counts
+  module _ {counts : List ℕ} (are : counts ≡ counts_of (show_of card) sheet) where
+    pub counts_known : CountsKnown card sheet counts
     counts_known = record { sized = sheet_sized; counts_are = are }
 
-    pub plan_ready : PlanReady s h counts
+    pub plan_ready : PlanReady card counts
     plan_ready =
         rw are (record {
           sized = record { ready = m.ready; slotwise = counts_fit.slotwise };
@@ -79,44 +79,44 @@ module _ {s : List ℕ} {h : Header} {sheet : List ℕ} {cost : ℕ} (m : Marked
           work_room = room.work_room.work_room;
         }
 
-    module _ {x : ℕ} (x-is : x ≡ exchanged (instance_of s) sheet) where
-      pub swaps_fits : Fits w64 (x * (h.power_up + h.power_down))
+    module _ {x : ℕ} (x-is : x ≡ exchanged (show_of card) sheet) where
+      pub swaps_fits : Fits w64 (x * (card.header.power_up + card.header.power_down))
       swaps_fits =
           let few : x ≤ 1024 * 200 = omega (arith, exchanged_small) in
           record { fits = omega (arith, mul-le-mul few price_most) }
 
       -- The switching price for each of them is what the sheet's switching costs above that of its counts.
-      swaps_are : x * (h.power_up + h.power_down) ≡ switching_price (instance_of s) * exchanged (instance_of s) sheet
-      swaps_are = rw (x-is, m.ready.header.up_is, m.ready.header.down_is) (mul_comm (exchanged (instance_of s) sheet) _)
+      swaps_are : x * (card.header.power_up + card.header.power_down) ≡ switching_price (show_of card) * exchanged (show_of card) sheet
+      swaps_are = rw (x-is, card.header_is.up_is, card.header_is.down_is) (mul_comm (exchanged (show_of card) sheet) _)
 
-      module _ {planned : ℕ} (planned-is : planned ≡ counts_cost (instance_of s) 0 counts) where
+      module _ {planned : ℕ} (planned-is : planned ≡ counts_cost (show_of card) 0 counts) where
         abbrev c : List ℕ
-        c = counts_of (instance_of s) sheet
+        c = counts_of (show_of card) sheet
 
-        planned_parts : planned ≡ counts_operating_cost (instance_of s) c + counts_switching_cost (instance_of s) c
-        planned_parts = planned-is ∙ rw are (counts_cost_parts (instance_of s) c (counts_length (instance_of s) sheet))
+        planned_parts : planned ≡ counts_operating_cost (show_of card) c + counts_switching_cost (show_of card) c
+        planned_parts = planned-is ∙ rw are (counts_cost_parts (show_of card) c (counts_length (show_of card) sheet))
 
         -- What the sheet costs above its counts as a plan is its spread and its swaps.
-        above_planned : planned + (excess_operating_cost (instance_of s) sheet + x * (h.power_up + h.power_down)) ≡ cost
+        above_planned : planned + (excess_operating_cost (show_of card) sheet + x * (card.header.power_up + card.header.power_down)) ≡ cost
         unfolding sheet_cost excess_operating_cost
         above_planned =
             omega (
               arith,
               planned_parts,
               swaps_are,
-              exchanged_cost (instance_of s) sheet,
+              exchanged_cost (show_of card) sheet,
               spread_whole plannable sheet m.served,
             )
 
         pub planned_below : planned ≤ cost
         planned_below = omega (arith, above_planned)
 
-        pub swaps_below : x * (h.power_up + h.power_down) ≤ cost - planned
+        pub swaps_below : x * (card.header.power_up + card.header.power_down) ≤ cost - planned
         swaps_below = omega (arith, above_planned)
 
-        module _ {least : ℕ} (least-is : least ≡ planned_cost exact (instance_of s)) where
-          planned_cost_lem : planned ≡ plan_cost (instance_of s) c
-          planned_cost_lem = planned-is ∙ rw are (sym (plan_cost_counts (instance_of s) c counts_fit))
+        module _ {least : ℕ} (least-is : least ≡ planned_cost exact (show_of card)) where
+          planned_cost_lem : planned ≡ plan_cost (show_of card) c
+          planned_cost_lem = planned-is ∙ rw are (sym (plan_cost_counts (show_of card) c counts_fit))
 
           pub least_below : least ≤ planned
           least_below = omega (arith, planned_cost_lem, counts_whole plannable sheet m.served)
@@ -125,16 +125,16 @@ module _ {s : List ℕ} {h : Header} {sheet : List ℕ} {cost : ℕ} (m : Marked
           found =
               record {
                 number = 0;
-                spread = cost - planned - x * (h.power_up + h.power_down);
-                swaps = x * (h.power_up + h.power_down);
+                spread = cost - planned - x * (card.header.power_up + card.header.power_down);
+                swaps = x * (card.header.power_up + card.header.power_down);
                 counts = planned - least;
               }
 
-          pub three_numbers : found ≡ points_with (Ok 0) (instance_of s) sheet
+          pub three_numbers : found ≡ points_with (Ok 0) (show_of card) sheet
           unfolding points_with excess_switching_cost excess_of_counts
           three_numbers =
-              let spread : found.spread ≡ excess_operating_cost (instance_of s) sheet = omega (arith, above_planned) in
-              let swaps : found.swaps ≡ excess_switching_cost (instance_of s) sheet =
-              omega (arith, swaps_are, exchanged_cost (instance_of s) sheet) in
-              let counts : found.counts ≡ excess_of_counts (instance_of s) sheet = omega (arith, planned_cost_lem) in
+              let spread : found.spread ≡ excess_operating_cost (show_of card) sheet = omega (arith, above_planned) in
+              let swaps : found.swaps ≡ excess_switching_cost (show_of card) sheet =
+              omega (arith, swaps_are, exchanged_cost (show_of card) sheet) in
+              let counts : found.counts ≡ excess_of_counts (show_of card) sheet = omega (arith, planned_cost_lem) in
               rw (spread, swaps, counts)

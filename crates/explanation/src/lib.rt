@@ -5,17 +5,16 @@
 ghost use Rattle.std.specs.Prelude.{◌≡◌, ◌-◌, ◌≤◌, length, replicate};
 ghost use Rattle.basics.specs.Lists.{written_over};
 ghost use Rattle.std.specs.Prelude.{Ok};
-ghost use Rattle.model.specs.Instance.{instance_of};
+ghost use Rattle.card.specs.Shows.{show_of};
 ghost use Rattle.model.specs.Sheets.{active_of, counts_of};
 ghost use Rattle.model.specs.Planners.{exact, work_bytes};
 ghost use Rattle.model.specs.Calls.{explain_sheet};
 ghost use Rattle.model.specs.ExplainedPoints.{no_points, points_with, points_of, explained_work};
-ghost use Rattle.card.specs.Checking.{Ready};
 ghost use Rattle.sheets.specs.SheetRequires.{RowShort};
 ghost use Rattle.explanation.specs.Exchanges.{start_of, row_active, row_starts, exchanged};
 ghost use Rattle.explanation.specs.ExplanationRequires.{CountsRoom, CountsKnown, Marked, WorkRoom, PointsRoom};
 
-use card::Header;
+use card::Card;
 use model::{Answer, Points, Refusal};
 use planners::PlannerKind;
 
@@ -60,11 +59,11 @@ fn row_starts(before: &[u8], row: &[u8]) -> u8
 }
 
 // Writes the counts of a sheet, slot by slot.
-fn write_counts(card: &[u8], h: Header, sheet: &[u8], counts: &mut [u8])
-    requires { CountsRoom card.now h sheet.now counts.old }
-    ensures { counts.new ≡ counts_of (instance_of card.now) sheet.now }
+fn write_counts(card: &Card, sheet: &[u8], counts: &mut [u8])
+    requires { CountsRoom card.now sheet.now counts.old }
+    ensures { counts.new ≡ counts_of (show_of card.now) sheet.now }
 {
-    let modules = h.modules as usize;
+    let modules = card.header.modules as usize;
     for t in 0..counts.len() {
         let start = t * modules;
         let end = start + modules;
@@ -81,11 +80,11 @@ fn beyond_rise(starts: u8, was: u8, n: u8) -> u64
 }
 
 // How many modules go on beyond the rises of the counts, from each slot to the next. Into the first slot none does.
-fn exchanged_modules(card: &[u8], h: Header, sheet: &[u8], counts: &[u8]) -> u64
-    requires { CountsKnown card.now h sheet.now counts.now }
-    ensures { result ≡ exchanged (instance_of card.now) sheet.now }
+fn exchanged_modules(card: &Card, sheet: &[u8], counts: &[u8]) -> u64
+    requires { CountsKnown card.now sheet.now counts.now }
+    ensures { result ≡ exchanged (show_of card.now) sheet.now }
 {
-    let modules = h.modules as usize;
+    let modules = card.header.modules as usize;
     let mut total: u64 = 0;
     for t in 0..counts.len().saturating_sub(1) {
         let start = t * modules;
@@ -100,23 +99,22 @@ fn exchanged_modules(card: &[u8], h: Header, sheet: &[u8], counts: &[u8]) -> u64
 // The three numbers of a sheet that serves, with its cost and with room for one count for each slot, where first the sheet's counts stand and
 // then the exact planner's.
 fn points_over(
-    card: &[u8],
-    h: Header,
+    card: &Card,
     sheet: &[u8],
     cost: u64,
     counts: &mut [u8],
     work: &mut [u8],
 ) -> Points
-    requires marked { Marked card.now h sheet.now cost }
+    requires marked { Marked card.now sheet.now cost }
     requires points_room { PointsRoom card.now counts.old work.old }
-    ensures value { result ≡ points_with (Ok 0) (instance_of card.now) sheet.now }
-    ensures work_after { work.new ≡ written_over (replicate (work_bytes exact (instance_of card.now)) 0) work.old }
+    ensures value { result ≡ points_with (Ok 0) (show_of card.now) sheet.now }
+    ensures work_after { work.new ≡ written_over (replicate (work_bytes exact (show_of card.now)) 0) work.old }
 {
-    write_counts(card, h, sheet, counts);
-    let exchanged = exchanged_modules(card, h, sheet, &counts[..]);
-    let swaps = exchanged * (h.power_up + h.power_down);
-    let planned = plans::plan_cost(card, h, &counts[..]);
-    let least = planners::plan_by(PlannerKind::Exact, card, h, counts, work);
+    write_counts(card, sheet, counts);
+    let exchanged = exchanged_modules(card, sheet, &counts[..]);
+    let swaps = exchanged * (card.header.power_up + card.header.power_down);
+    let planned = plans::plan_cost(card, &counts[..]);
+    let least = planners::plan_by(PlannerKind::Exact, card, counts, work);
     Points {
         number: 0,
         spread: cost - planned - swaps,
@@ -126,15 +124,15 @@ fn points_over(
 }
 
 // The three numbers of a sheet that serves, with its cost.
-fn points_of(card: &[u8], h: Header, sheet: &[u8], cost: u64, work: &mut [u8]) -> Points
-    requires marked { Marked card.now h sheet.now cost }
+fn points_of(card: &Card, sheet: &[u8], cost: u64, work: &mut [u8]) -> Points
+    requires marked { Marked card.now sheet.now cost }
     requires work_room { WorkRoom card.now work.old }
-    ensures value { result ≡ points_with (Ok 0) (instance_of card.now) sheet.now }
-    ensures work_after { work.new ≡ written_over (replicate (work_bytes exact (instance_of card.now)) 0) work.old }
+    ensures value { result ≡ points_with (Ok 0) (show_of card.now) sheet.now }
+    ensures work_after { work.new ≡ written_over (replicate (work_bytes exact (show_of card.now)) 0) work.old }
 {
     let mut counts = [0u8; 1024];
-    let slots = h.slots as usize;
-    points_over(card, h, sheet, cost, &mut counts[..slots], work)
+    let slots = card.header.slots as usize;
+    points_over(card, sheet, cost, &mut counts[..slots], work)
 }
 
 // A refusal's number and no points.
@@ -150,8 +148,7 @@ fn refused(x: Refusal) -> Points
 }
 
 // The explanation of a sheet on an accepted card: refusal 10, then marking's, then the three numbers.
-fn explain_on(card: &[u8], h: Header, sheet: &[u8], work: &mut [u8]) -> Points
-    requires { Ready card.now h }
+fn explain_on(card: &Card, sheet: &[u8], work: &mut [u8]) -> Points
     ensures value { result ≡ points_of card.now sheet.now work.old }
     ensures work_after { work.new ≡ explained_work (explain_sheet card.now sheet.now work.old) }
 {
@@ -159,8 +156,8 @@ fn explain_on(card: &[u8], h: Header, sheet: &[u8], work: &mut [u8]) -> Points
     if work.len() < asked {
         return refused(Refusal::BufferTooShort);
     }
-    match calls::mark_sheet_on(card, h, sheet) {
-        Ok(cost) => points_of(card, h, sheet, cost, work),
+    match calls::mark_sheet_on(card, sheet) {
+        Ok(cost) => points_of(card, sheet, cost, work),
         Err(x) => refused(x),
     }
 }
@@ -171,7 +168,7 @@ pub fn explain(card: &[u8], sheet: &[u8], work: &mut [u8]) -> Points
     ensures work_after { work.new ≡ explained_work (explain_sheet card.now sheet.now work.old) }
 {
     match card::check(card) {
-        Ok(h) => explain_on(card, h, sheet, work),
+        Ok(h) => explain_on(card, sheet, work),
         Err(x) => refused(x),
     }
 }

@@ -15,7 +15,7 @@ points_over-requires c =
       marked = marked;
       points_room =
           record {
-            slotwise = length-take-le _ _ (slots_most marked.ready) ∙ marked.ready.header.slots_is;
+            slotwise = length-take-le _ _ (slots_most marked.ready) ∙ card.header_is.slots_is;
             work_room = c.requires.work_room;
           };
     }
