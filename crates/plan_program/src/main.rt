@@ -1,64 +1,51 @@
 // The program: reads a card from standard input, and prints its exact plan or its refusal.
 #![tactic(auto)]
 
-ghost use Rattle.std.specs.Prelude.{◌≡◌, length};
+ghost use Rattle.std.specs.Prelude.{◌≡◌, length, MatchResult};
 ghost use Rattle.basics.specs.Lists.{written_over};
-ghost use Rattle.model.specs.Listing.{exact_listing, printed};
-ghost use Rattle.plan_program.specs.Program.{TextArea, AcceptedText, PlannedText};
+ghost use Rattle.model.specs.Answers.{refusal_number};
+ghost use Rattle.model.specs.Listing.{exact_listing, printed, refused_line};
+ghost use Rattle.plan_program.specs.Program.{TextArea, PlannedText};
 
-use card::Header;
-use model::Answer;
-use planners::PlannerKind;
+use card::Card;
+use model::Refusal;
+use planners::Exact;
 use std::io::{self, Read};
 
-// An area for a plan.
-fn plan_area() -> [u8; 1024]
-    ensures { 1024 ≡ length result }
+// An area for a plan, for work bytes, for a sheet, or for the text.
+fn area<const N: usize>() -> [u8; N]
+    ensures { length result ≡ N }
 {
-    [0; 1024]
-}
-
-// An area for work bytes, or for a sheet.
-fn large_area() -> [u8; 65536]
-    ensures { 65536 ≡ length result }
-{
-    [0; 65536]
-}
-
-// An area for the text.
-fn text_area() -> [u8; 300000]
-    ensures { 300000 ≡ length result }
-{
-    [0; 300000]
+    [0; N]
 }
 
 // The listing of an accepted card's exact plan, which stands in the plan area.
-fn print_plan(card: &[u8], h: Header, plan: &[u8], cost: u64, out: &mut [u8]) -> usize
-    requires { PlannedText card.now h plan.now out.old }
-    ensures size { result ≡ length (exact_listing card.now cost) }
-    ensures bytes { out.new ≡ written_over (exact_listing card.now cost) out.old }
+fn print_plan(card: &Card, plan: &[u8], cost: u64, out: &mut [u8]) -> usize
+    requires { PlannedText card.now plan.now out.old }
+    ensures size { result ≡ length (exact_listing card.now.bytes.now cost) }
+    ensures bytes { out.new ≡ written_over (exact_listing card.now.bytes.now cost) out.old }
 {
-    let modules = h.modules;
-    let slots = h.slots as usize;
+    let modules = card.header.modules;
+    let slots = card.header.slots as usize;
     let entries = modules as usize * slots;
-    let mut sheet = large_area();
-    let _ = calls::make_sheet_on(card, h, &plan[..slots], &mut sheet);
+    let mut sheet = area::<65536>();
+    // The planner's own plan is never refused.
+    let _ = calls::make_sheet_on(card, &plan[..slots], &mut sheet);
     listing::write_listing(out, modules, cost, &plan[..slots], &sheet[..entries])
 }
 
-// The text for an accepted card.
-fn print_accepted(card: &[u8], h: Header, out: &mut [u8]) -> usize
-    requires { AcceptedText card.now h out.old }
-    ensures size { result ≡ length (printed card.now) }
-    ensures bytes { out.new ≡ written_over (printed card.now) out.old }
+// The text for a card that is planned, or the refusal that is to be printed.
+fn print_planned(card: &[u8], out: &mut [u8]) -> Result<usize, Refusal>
+    requires { TextArea out.old }
+    ensures { MatchResult result
+        (λ size. (size ≡ length (printed card.now)) × (out.new ≡ written_over (printed card.now) out.old))
+        (λ x. (refused_line (refusal_number x) ≡ printed card.now) × (out.new ≡ out.old)) }
 {
-    let mut plan = plan_area();
-    let mut work = large_area();
-    let planned = planners::plan_show_on(PlannerKind::Exact, card, h, &mut plan, &mut work);
-    match planned {
-        Ok(cost) => print_plan(card, h, &plan, cost, out),
-        Err(x) => listing::write_refusal(out, model::refusal_number(x)),
-    }
+    let card = card::check(card)?;
+    let mut plan = area::<1024>();
+    let mut work = area::<65536>();
+    let cost = planners::plan_show_on(&Exact, &card, &mut plan, &mut work)?;
+    Ok(print_plan(&card, &plan, cost, out))
 }
 
 // The text for a card.
@@ -67,8 +54,8 @@ fn print_card(card: &[u8], out: &mut [u8]) -> usize
     ensures size { result ≡ length (printed card.now) }
     ensures bytes { out.new ≡ written_over (printed card.now) out.old }
 {
-    match card::check(card) {
-        Ok(h) => print_accepted(card, h, out),
+    match print_planned(card, out) {
+        Ok(size) => size,
         Err(x) => listing::write_refusal(out, model::refusal_number(x)),
     }
 }
@@ -84,7 +71,7 @@ fn main(rt: HostRuntime) -> io::Result<()> {
             Ok(more) => n += more,
         }
     }
-    let mut text = text_area();
+    let mut text = area::<300000>();
     let size = print_card(&card[..n], &mut text);
     rt.write_all(&text[..size])
 }
