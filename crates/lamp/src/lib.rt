@@ -11,8 +11,9 @@ ghost use Rattle.model.specs.Sittings.{reply_of, seats_at_exit};
 ghost use Rattle.model.specs.Promises.{OwnSheet, AtMostTimes, MarkedAlike, AcceptsExactly, WritesAccepted, AlwaysEnough, HiddenTillClosed, WritesTable};
 ghost use Rattle.model.specs.Promises.{LeastWithin, ExplainsMarked, NoneNegative, AboveLeast, ZeroExactly};
 
+use count_lists::Listed;
 use model::{Answer, Points, Reply, Seat, Sitting};
-use planners::PlannerKind;
+use planners::{Coarse, Exact};
 
 // What every call but the explanation and the acts of a sitting returns: a refusal's number and cost 0, or number 0 and the cost.
 #[repr(C)]
@@ -23,15 +24,17 @@ pub struct LampAnswer {
 }
 
 // The two numbers of an answer.
-fn to_c(a: Answer) -> LampAnswer
-    ensures { NumbersOf a result.number result.cost }
-{
-    match a {
-        Ok(cost) => LampAnswer { number: 0, cost },
-        Err(x) => LampAnswer {
-            number: model::refusal_number(x),
-            cost: 0,
-        },
+impl From<Answer> for LampAnswer {
+    ghost from_gives = { λ a r. NumbersOf a r.number r.cost };
+
+    fn from(a: Answer) -> LampAnswer {
+        match a {
+            Ok(cost) => LampAnswer { number: 0, cost },
+            Err(x) => LampAnswer {
+                number: u64::from(x),
+                cost: 0,
+            },
+        }
     }
 }
 
@@ -40,7 +43,7 @@ fn to_c(a: Answer) -> LampAnswer
 pub extern "C" fn lamp_check_card(card: &[u8]) -> LampAnswer
     ensures outcome { Gives (check_card card.now) result.number result.cost }
 {
-    to_c(calls::check_card(card))
+    LampAnswer::from(calls::check_card(card))
 }
 
 // The running cost of a count and a load: refusals 1 to 8, 12, 13.
@@ -48,7 +51,7 @@ pub extern "C" fn lamp_check_card(card: &[u8]) -> LampAnswer
 pub extern "C" fn lamp_running_cost(card: &[u8], count: u64, load: u64) -> LampAnswer
     ensures outcome { Gives (running_cost card.now count load) result.number result.cost }
 {
-    to_c(calls::running_cost(card, count, load))
+    LampAnswer::from(calls::running_cost(card, count, load))
 }
 
 // The smallest allowed count not below the count, in the cost's place: refusals 3 and 12.
@@ -56,7 +59,7 @@ pub extern "C" fn lamp_running_cost(card: &[u8], count: u64, load: u64) -> LampA
 pub extern "C" fn lamp_rounded_count(count: u64, modules: u64) -> LampAnswer
     ensures outcome { Gives (round_count count modules) result.number result.cost }
 {
-    to_c(calls::rounded_count(count, modules))
+    LampAnswer::from(calls::rounded_count(count, modules))
 }
 
 // The sheet of a handed-in plan: refusals 1 to 8, 10 to 13.
@@ -66,7 +69,7 @@ pub extern "C" fn lamp_sheet(card: &[u8], plan: &[u8], sheet: &mut [u8]) -> Lamp
     ensures sheet_bytes { sheet.new ≡ sheet_at_exit (make_sheet card.now plan.now sheet.old) }
     ensures marked_alike { MarkedAlike card.now sheet.new result.number result.cost }
 {
-    to_c(calls::make_sheet(card, plan, sheet))
+    LampAnswer::from(calls::make_sheet(card, plan, sheet))
 }
 
 // The cost of a handed-in sheet, module by module: refusals 1 to 8, 11 to 13.
@@ -75,7 +78,7 @@ pub extern "C" fn lamp_mark(card: &[u8], sheet: &[u8]) -> LampAnswer
     ensures outcome { Gives (mark_sheet card.now sheet.now) result.number result.cost }
     ensures accepts { AcceptsExactly card.now sheet.now result.number }
 {
-    to_c(calls::mark_sheet(card, sheet))
+    LampAnswer::from(calls::mark_sheet(card, sheet))
 }
 
 // Where the points of a handed-in sheet went (document 02, §7): refusals 1 to 8, 10 to 13.
@@ -100,7 +103,7 @@ pub extern "C" fn lamp_plan_exact(card: &[u8], plan: &mut [u8], work: &mut [u8])
     ensures own_sheet { OwnSheet card.now plan.new result.number result.cost }
     ensures least { AtMostTimes 1 card.now result.number result.cost }
 {
-    to_c(planners::plan_show(PlannerKind::Exact, card, plan, work))
+    LampAnswer::from(planners::plan_show(&Exact, card, plan, work))
 }
 
 // The least plan with counts 0, the powers of two up to m, and m: refusals 1 to 8, 10.
@@ -112,7 +115,7 @@ pub extern "C" fn lamp_plan_coarse(card: &[u8], plan: &mut [u8], work: &mut [u8]
     ensures own_sheet { OwnSheet card.now plan.new result.number result.cost }
     ensures twice { AtMostTimes 2 card.now result.number result.cost }
 {
-    to_c(planners::plan_show(PlannerKind::Coarse, card, plan, work))
+    LampAnswer::from(planners::plan_show(&Coarse, card, plan, work))
 }
 
 // The least plan limited to a list of counts with a ratio (document 02, §8): refusals 1 to 8, 18 and 10, in this order.
@@ -131,7 +134,7 @@ pub extern "C" fn lamp_plan_groups(
     ensures at_most { AtMostTimes ratio card.now result.number result.cost }
     ensures least_within { LeastWithin list.now card.now result.number result.cost }
 {
-    to_c(count_lists::plan_listed(card, list, ratio, plan, work))
+    LampAnswer::from(planners::plan_show(&Listed { list, ratio }, card, plan, work))
 }
 
 // The practice card of a start (document 02, §1): refusals 14 and 10, in this order.
@@ -142,7 +145,7 @@ pub extern "C" fn lamp_practice_card(start: u32, card: &mut [u8]) -> LampAnswer
     ensures accepted { WritesAccepted card.new result.number }
     ensures enough { AlwaysEnough start card.old result.number }
 {
-    to_c(practice::practice_card(start, card))
+    LampAnswer::from(practice::practice_card(start, card))
 }
 
 // F(0) to F(top) of the catalogue module as a card's fields (document 02, §5): refusals 3 and 10.
@@ -152,7 +155,7 @@ pub extern "C" fn lamp_catalogue_table(top: u64, table: &mut [u8]) -> LampAnswer
     ensures table_bytes { table.new ≡ table_at_exit (catalogue_table top table.old) }
     ensures in_cards { WritesTable top table.new result.number }
 {
-    to_c(catalogue::catalogue_table(top, table))
+    LampAnswer::from(catalogue::catalogue_table(top, table))
 }
 
 // Opens a sitting (document 02, §4) on a card, in place of any other: refusals 1 to 8, 10, 15 and 17, in this order.

@@ -46,28 +46,30 @@ pub enum Refusal {
 }
 
 // The number of a refusal.
-pub fn refusal_number(x: Refusal) -> u64
-    ensures { result ≡ refusal_number x }
-{
-    match x {
-        Refusal::NotACard => 1,
-        Refusal::Version => 2,
-        Refusal::RackSize => 3,
-        Refusal::SlotCount => 4,
-        Refusal::CardLength => 5,
-        Refusal::PriceRange => 6,
-        Refusal::NotConvex => 7,
-        Refusal::LoadRange => 8,
-        Refusal::NotMonotone => 9,
-        Refusal::BufferTooShort => 10,
-        Refusal::WrongLength => 11,
-        Refusal::EntryRange => 12,
-        Refusal::LoadNotServed => 13,
-        Refusal::ZeroStart => 14,
-        Refusal::NotPermitted => 15,
-        Refusal::SeatUnavailable => 16,
-        Refusal::AllowanceSpent => 17,
-        Refusal::CountList => 18,
+impl From<Refusal> for u64 {
+    ghost from_gives = { λ x n. n ≡ refusal_number x };
+
+    fn from(x: Refusal) -> u64 {
+        match x {
+            Refusal::NotACard => 1,
+            Refusal::Version => 2,
+            Refusal::RackSize => 3,
+            Refusal::SlotCount => 4,
+            Refusal::CardLength => 5,
+            Refusal::PriceRange => 6,
+            Refusal::NotConvex => 7,
+            Refusal::LoadRange => 8,
+            Refusal::NotMonotone => 9,
+            Refusal::BufferTooShort => 10,
+            Refusal::WrongLength => 11,
+            Refusal::EntryRange => 12,
+            Refusal::LoadNotServed => 13,
+            Refusal::ZeroStart => 14,
+            Refusal::NotPermitted => 15,
+            Refusal::SeatUnavailable => 16,
+            Refusal::AllowanceSpent => 17,
+            Refusal::CountList => 18,
+        }
     }
 }
 

@@ -56,7 +56,7 @@ fn print_card(card: &[u8], out: &mut [u8]) -> usize
 {
     match print_planned(card, out) {
         Ok(size) => size,
-        Err(x) => listing::write_refusal(out, model::refusal_number(x)),
+        Err(x) => listing::write_refusal(out, u64::from(x)),
     }
 }
 

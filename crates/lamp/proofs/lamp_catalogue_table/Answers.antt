@@ -9,5 +9,5 @@ returns c =
         c.catalogue_table.ensures.table_after,
         c.catalogue_table.ensures.writes_table,
       ),
-    ) c.to_c.ensures in
+    ) c.from.ensures in
     record { outcome = outcome; table_bytes = table_bytes; in_cards = in_cards }

@@ -7,5 +7,5 @@ returns c =
     let (outcome, (plan_bytes, (work_bytes, (own_sheet, twice)))) = plans coarse _ _ _ (
       c.plan_show.ensures.value,
       (c.plan_show.ensures.plan_after, c.plan_show.ensures.work_after),
-    ) c.to_c.ensures in
+    ) c.from.ensures in
     record { outcome = outcome; plan_bytes = plan_bytes; work_bytes = work_bytes; own_sheet = own_sheet; twice = twice }

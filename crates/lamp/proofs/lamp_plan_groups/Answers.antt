@@ -4,9 +4,9 @@ use Rattle.lamp.proofs.lamp_plan_groups.Goals as goal
 pub returns : goal.returns
 returns c =
     let (outcome, (plan_bytes, (work_bytes, (own_sheet, (at_most, least_within))))) = plans_listed _ _ _ _ _ (
-      c.plan_listed.ensures.value,
-      (c.plan_listed.ensures.plan_after, c.plan_listed.ensures.work_after),
-    ) c.to_c.ensures in
+      c.plan_show.ensures.value,
+      (c.plan_show.ensures.plan_after, c.plan_show.ensures.work_after),
+    ) c.from.ensures in
     record {
       outcome = outcome;
       plan_bytes = plan_bytes;

@@ -8,6 +8,6 @@ returns-in-Ok c = let told = c.in-Ok.ensures in record { size = told.0; bytes = 
 
 pub returns-in-Err : goal.returns-in-Err
 returns-in-Err c =
-    let same = ap refused_line c.refusal_number.ensures ∙ c.in-Err.ensures.0 in
+    let same = ap refused_line c.from.ensures ∙ c.in-Err.ensures.0 in
     let told = start_same _ _ _ same (c.write_refusal.ensures.size, rw c.in-Err.ensures.1 at c.write_refusal.ensures.bytes) in
     record { size = told.0; bytes = told.1 }
