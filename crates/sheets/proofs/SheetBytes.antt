@@ -11,7 +11,6 @@ use Rattle.model.specs.Sheets.{is_entry, off, is_off, sheet_entries, step_cost, 
 use Rattle.model.specs.Specs.{sheet_bytes}
 use Rattle.card.specs.declared.Card.{Card}
 use Rattle.card.specs.Shows.{show_of}
-use Rattle.card.proofs.FieldsThere.{in_table}
 use Rattle.laws.specs.Acceptance.{accepted_bounds}
 use Rattle.sheets.specs.Marks.{byte_cost, bytes_cost, stop_cost}
 use Rattle.sheets.specs.SheetRequires.{ByteReady, BytesReady, SheetReady}
@@ -33,14 +32,9 @@ module _ (card : Card) (sheet : List ℕ) {x : ℕ} (inside : x < length sheet) 
   entry_passed f = entry_is ∙ test_passed flag_is f
 
 -- Each of some bytes that are ready is ready alone.
-pub byte_ready :
+byte_ready :
     {card : Card} {bytes : List ℕ} (x : ℕ) → BytesReady card bytes → x < length bytes → ByteReady card (get_or bytes x 0)
 byte_ready x given below = record { in_range = given.in_range x below }
-
--- An active module's step is in the table.
-pub step_there :
-    {card : Card} {b x : ℕ} → ByteReady card b → (b ≡ off → ⊥) → x ≡ b → x ≤ card.header.top_step
-step_there {card} given active e = rw e (in_table card (active_step_lem active _ given.in_range))
 
 -- A sheet has at most 200 × 1,024 bytes.
 pub area_small : (card : Card) → sheet_bytes (show_of card) ≤ 204800

@@ -52,7 +52,8 @@ module _ (i : Instance) (s : List ℕ) (size : length s ≡ i.modules * i.slots)
 -- The test of a slot's light against its load.
 module _
     {card : Card} {sheet : List ℕ} (given : SheetSized card sheet) {t : ℕ} (below : t < card.header.slots) {x y : ℕ}
-    (x-is : x ≡ row_light (mid_of (t * card.header.modules) (t * card.header.modules + card.header.modules - t * card.header.modules) sheet)) (y-is : y ≡ (show_of card).load t) where
+    (x-is : x ≡ row_light (mid_of (t * card.header.modules) (t * card.header.modules + card.header.modules - t * card.header.modules) sheet))
+    (y-is : y ≡ (show_of card).load t) where
   light_is : x ≡ light_at (show_of card) sheet (suc t)
   light_is =
       let m = card.header_is.modules_is in

@@ -12,7 +12,7 @@ use Rattle.card.specs.Shows.{show_of}
 use Rattle.laws.specs.Acceptance.{accepted_bounds}
 use Rattle.sheets.specs.Marks.{byte_cost, bytes_cost, all_off, byte_at, stop_cost, row_stop_cost}
 use Rattle.sheets.specs.SheetRequires.{BytesReady, RowPriced, SheetReady}
-use Rattle.sheets.proofs.SheetBytes.{area_small, part_ready, stop_each, bytes_most}
+use Rattle.sheets.proofs.SheetBytes.{part_ready, stop_each, bytes_most}
 use Rattle.sheets.proofs.States.{state_before, state_is, before_is}
 use Rattle.sheets.proofs.Split.{from, first_length, earlier_length, later_length, later_at, last_length, last_at, rows_cost}
 
@@ -92,7 +92,7 @@ row_stop_most {down} {stop} {row} given e =
 abbrev last_place : Card → ℕ
 last_place card = (card.header.slots - 1) * card.header.modules
 
--- A sheet's rows and their costs by its header.
+-- A sheet's rows and their costs by its card's header.
 module _ {card : Card} {sheet : List ℕ} (given : SheetReady card sheet) where
   pub sheet_empty : card.header.slots ≡ 0 → 0 ≡ sheet_cost (show_of card) sheet
   sheet_empty e = cost_empty (show_of card) sheet given.sized.size (sym card.header_is.slots_is ∙ e)
@@ -105,19 +105,13 @@ module _ {card : Card} {sheet : List ℕ} (given : SheetReady card sheet) where
     header_rows : card.header.modules + last_place card ≡ length sheet
     header_rows = rw card.header_is.modules_is (rows_all (show_of card) sheet given.sized.size slots_before refl)
 
-    pub first_inside : card.header.modules ≤ length sheet
+    first_inside : card.header.modules ≤ length sheet
     first_inside = omega (arith, header_rows)
 
-    pub earlier_inside : last_place card ≤ length sheet
-    earlier_inside = omega (arith, header_rows)
-
-    pub earlier_fits : Fits w64 (last_place card)
-    earlier_fits = record { fits = omega (arith, earlier_inside, area_small card) }
-
-    pub first_counted : card.header.modules ≡ length (take card.header.modules sheet)
+    first_counted : card.header.modules ≡ length (take card.header.modules sheet)
     first_counted = sym (first_length sheet _ _ header_rows)
 
-    pub earlier_counted : last_place card ≡ length (take (last_place card) sheet)
+    earlier_counted : last_place card ≡ length (take (last_place card) sheet)
     earlier_counted = sym (earlier_length sheet _ _ header_rows)
 
     pub first_ready : BytesReady card (take card.header.modules sheet)

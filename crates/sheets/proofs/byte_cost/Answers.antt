@@ -1,10 +1,7 @@
 use Rattle.basics.specs.Core.{arith}
 use Rattle.laws.specs.Acceptance.{accepted_bounds}
-use Rattle.sheets.proofs.SheetBytes.{step_there, cost_started, cost_kept}
+use Rattle.sheets.proofs.SheetBytes.{cost_started, cost_kept}
 use Rattle.sheets.proofs.byte_cost.Goals as goal
-
-pub entry-operating-requires : goal.entry-operating-requires
-entry-operating-requires c = search step_there
 
 pub overflow_add-result : goal.overflow_add-result
 overflow_add-result c =

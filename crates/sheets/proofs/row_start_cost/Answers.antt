@@ -1,14 +1,11 @@
 use Rattle.basics.specs.Core.{arith}
 use Rattle.basics.specs.Summing.{summed_none, summed_more, summed_all, summed_room}
 use Rattle.sheets.specs.Marks.{bytes_cost, all_off}
-use Rattle.sheets.proofs.SheetBytes.{byte_ready, bytes_each}
+use Rattle.sheets.proofs.SheetBytes.{bytes_each}
 use Rattle.sheets.proofs.row_start_cost.Goals as goal
 
 pub loop-b-init : goal.loop-b-init
 loop-b-init c = summed_none _ _
-
-pub byte_cost-cost-requires : goal.byte_cost-cost-requires
-byte_cost-cost-requires c = search byte_ready
 
 pub overflow_add-cost : goal.overflow_add-cost
 overflow_add-cost c =

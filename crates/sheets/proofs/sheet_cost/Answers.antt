@@ -1,34 +1,19 @@
 use Rattle.std.specs.Prelude.{◌+◌, ◌*◌, ◌≤◌}
 use Rattle.basics.specs.Core.{arith}
-use Rattle.sheets.proofs.Totals.{first_inside, earlier_inside, earlier_fits, first_counted, earlier_counted, first_ready, later_ready, rows_paired, last_priced, rows_fit, total_small, sheet_empty, sheet_whole}
+use Rattle.sheets.proofs.Totals.{first_ready, later_ready, rows_paired, last_priced, rows_fit, total_small, sheet_empty, sheet_whole}
 use Rattle.sheets.proofs.sheet_cost.Goals as goal
 
 pub returns-then-card-eq0 : goal.returns-then-card-eq0
 returns-then-card-eq0 c = search sheet_empty
 
-pub overflow_mul-last : goal.overflow_mul-last
-overflow_mul-last c = search earlier_fits
-
-pub slice_bounds-row_start_cost-end : goal.slice_bounds-row_start_cost-end
-slice_bounds-row_start_cost-end c = search first_counted
-
 pub row_start_cost-start-requires : goal.row_start_cost-start-requires
 row_start_cost-start-requires c = search first_ready
-
-pub slice_bounds-rows_cost-end : goal.slice_bounds-rows_cost-end
-slice_bounds-rows_cost-end c = search earlier_counted
-
-pub slice_bounds-rows_cost-count : goal.slice_bounds-rows_cost-count
-slice_bounds-rows_cost-count c = search first_inside
 
 pub rows_cost-rest-requires : goal.rows_cost-rest-requires
 rows_cost-rest-requires c = record {
   bytes_ready = search later_ready;
   earlier_len = search rows_paired;
 }
-
-pub slice_bounds-row_stop_cost-count : goal.slice_bounds-row_stop_cost-count
-slice_bounds-row_stop_cost-count c = search earlier_inside
 
 pub row_stop_cost-stop-requires : goal.row_stop_cost-stop-requires
 row_stop_cost-stop-requires c = search last_priced

@@ -6,9 +6,6 @@ use Rattle.sheets.proofs.write_sheet.Goals as goal
 pub loop-t-init : goal.loop-t-init
 loop-t-init c = filled_none _ _ _
 
-pub load-l-requires : goal.load-l-requires
-load-l-requires c = search slot_in_show
-
 pub write_slot-requires : goal.write_slot-requires
 write_slot-requires c =
     let given = c.requires in
