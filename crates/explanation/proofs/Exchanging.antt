@@ -10,6 +10,7 @@ use Rattle.model.specs.Sheets.{active_at}
 use Rattle.laws.specs.Acceptance.{accepted_bounds}
 use Rattle.theory.specs.SheetLaws.{counts_length}
 use Rattle.card.specs.declared.Card.{Card}
+use Rattle.card.proofs.FieldsThere.{in_show}
 use Rattle.sheets.specs.SheetRequires.{RowShort}
 use Rattle.sheets.proofs.RowPlaces.{row_there, row_short}
 use Rattle.sheets.proofs.States.{row_length}
@@ -18,10 +19,10 @@ use Rattle.explanation.specs.ExplanationRequires.{CountsKnown}
 use Rattle.explanation.proofs.SheetRows.{row_starts_is, rise_below, exchanged_most, count_is}
 
 -- After t turns the total is that of the first t changes from a slot to the next.
-abbrev pub Counted : (s sheet : List ℕ) → (t total : ℕ) → Type 0
-Counted s sheet = Summed ((show_of card).slots - 1) (exchanged_after (show_of card) sheet)
+abbrev pub Counted : Card → (sheet : List ℕ) → (t total : ℕ) → Type 0
+Counted card sheet = Summed ((show_of card).slots - 1) (exchanged_after (show_of card) sheet)
 
-module _ {card : Card} {sheet counts : List ℕ} {t total : ℕ} (known : CountsKnown card sheet counts) (inv : Counted s sheet t total) where
+module _ {card : Card} {sheet counts : List ℕ} {t total : ℕ} (known : CountsKnown card sheet counts) (inv : Counted card sheet t total) where
   slotwise : length counts ≡ (show_of card).slots
   slotwise = ap length known.counts_are ∙ counts_length (show_of card) sheet
 
@@ -41,11 +42,11 @@ module _ {card : Card} {sheet counts : List ℕ} {t total : ℕ} (known : Counts
     place_next = omega (arith, ap (λ (x : ℕ). t * x) card.header_is.modules_is, card.header_is.modules_is)
 
     pub row_end : t * card.header.modules + card.header.modules ≤ length sheet
-    row_end = row_there known.sized.ready slot_here (omega (arith, known.sized.size))
+    row_end = row_there card (in_show card slot_here) (omega (arith, known.sized.size))
 
     pub next_end : t * card.header.modules + card.header.modules + card.header.modules ≤ length sheet
     next_end =
-        omega (arith, row_there {t = suc t} {size = length sheet} known.sized.ready next_slot (omega (arith, known.sized.size)))
+        omega (arith, row_there card {t = suc t} {size = length sheet} (in_show card next_slot) (omega (arith, known.sized.size)))
 
     -- A row and the next one, as they are lent.
     abbrev row : List ℕ
@@ -56,7 +57,7 @@ module _ {card : Card} {sheet counts : List ℕ} {t total : ℕ} (known : Counts
         mid_of (t * card.header.modules + card.header.modules) (t * card.header.modules + card.header.modules + card.header.modules - (t * card.header.modules + card.header.modules)) sheet
 
     pub next_short : RowShort next_row
-    next_short = row_short sheet _ known.sized.ready next_end
+    next_short = row_short card sheet _ next_end
 
     pub rows_paired : length row ≡ length next_row
     rows_paired =
@@ -86,11 +87,11 @@ module _ {card : Card} {sheet counts : List ℕ} {t total : ℕ} (known : Counts
       pub total_fits : Fits w64 (total + y)
       total_fits =
           let room = summed_room inv turn_below change_is (λ j _. exchanged_most (show_of card) sheet j) in
-          let accepted = card.accepted in
-          let most = mul-le-mul (accepted_bounds s accepted).slots (accepted_bounds s accepted).modules.1 in
+          let bounds = accepted_bounds _ card.accepted in
+          let most = mul-le-mul bounds.slots bounds.modules.1 in
           record { fits = omega (arith, room, mul-le-mul_right (show_of card).modules (sub-le (show_of card).slots 1)) }
 
-      pub change_counted : Counted s sheet (t + 1) (total + y)
+      pub change_counted : Counted card sheet (t + 1) (total + y)
       change_counted = summed_more inv turn_below change_is
 
   -- After the last turn the total is the whole.

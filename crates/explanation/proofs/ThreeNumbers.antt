@@ -32,19 +32,19 @@ use Rattle.explanation.proofs.SwitchingExcess.{exchanged_cost}
 module _ {card : Card} {sheet : List ℕ} {cost : ℕ} (m : Marked card sheet cost) where
   sheet_sized : SheetSized card sheet
   unfolding sheet_length
-  sheet_sized = record { ready = m.ready; size = eqb-true _ _ ((serves_parts (show_of card) sheet).0 m.served).0 }
+  sheet_sized = record { size = eqb-true _ _ ((serves_parts (show_of card) sheet).0 m.served).0 }
 
   plannable : Plannable (show_of card)
-  plannable = accepted_plannable s card.accepted
+  plannable = accepted_plannable _ card.accepted
 
   counts_fit : PlanFits (show_of card) (counts_of (show_of card) sheet)
   counts_fit = sheet_counts_fit (show_of card) sheet plannable.steps m.served
 
-  pub counts_room : {counts work : List ℕ} → PointsRoom s counts work → CountsRoom s h sheet counts
+  pub counts_room : {counts work : List ℕ} → PointsRoom card counts work → CountsRoom card sheet counts
   counts_room room = record { sized = sheet_sized; slotwise = room.slotwise }
 
   price_most : card.header.power_up + card.header.power_down ≤ 1000000000
-  price_most = omega (arith, (accepted_bounds _ card.accepted).power_up, (accepted_bounds _ card.accepted).power_down)
+  price_most = let bounds = accepted_bounds _ card.accepted in omega (arith, bounds.power_up, bounds.power_down)
 
   pub price_fits : Fits w64 (card.header.power_up + card.header.power_down)
   price_fits = record { fits = omega (arith, price_most) }
@@ -53,9 +53,9 @@ module _ {card : Card} {sheet : List ℕ} {cost : ℕ} (m : Marked card sheet co
   exchanged_small : exchanged (show_of card) sheet ≤ 1024 * 200
   unfolding exchanged
   exchanged_small =
-      let accepted = card.accepted in
-      let few = le_trans (sub-le (show_of card).slots 1) (accepted_bounds s accepted).slots in
-      le_trans (sum_at_most ((show_of card).slots - 1) (λ t _. exchanged_most (show_of card) sheet t)) (mul-le-mul few (accepted_bounds s accepted).modules.1)
+      let bounds = accepted_bounds _ card.accepted in
+      let few = le_trans (sub-le (show_of card).slots 1) bounds.slots in
+      le_trans (sum_at_most ((show_of card).slots - 1) (λ t _. exchanged_most (show_of card) sheet t)) (mul-le-mul few bounds.modules.1)
 
   -- The sheet's counts, as they are written.
   module _ {counts : List ℕ} (are : counts ≡ counts_of (show_of card) sheet) where
@@ -65,16 +65,15 @@ module _ {card : Card} {sheet : List ℕ} {cost : ℕ} (m : Marked card sheet co
     pub plan_ready : PlanReady card counts
     plan_ready =
         rw are (record {
-          sized = record { ready = m.ready; slotwise = counts_fit.slotwise };
+          sized = record { slotwise = counts_fit.slotwise };
           in_rack = counts_fit.in_rack;
           served = counts_fit.served;
         })
 
     -- The exact planner's plan takes their place.
-    pub buffers_ready : {old work : List ℕ} → PointsRoom s old work → BuffersFor exact s h counts work
+    pub buffers_ready : {old work : List ℕ} → PointsRoom card old work → BuffersFor exact card counts work
     buffers_ready room =
         record {
-          ready = m.ready;
           plan_room = omega (arith, ap length are, counts_fit.slotwise);
           work_room = room.work_room.work_room;
         }

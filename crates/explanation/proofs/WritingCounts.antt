@@ -7,6 +7,7 @@ use Rattle.basics.specs.Filling.{Upto, upto_more, upto_all}
 use Rattle.card.specs.Shows.{show_of}
 use Rattle.model.specs.Sheets.{active_at, counts_of}
 use Rattle.card.specs.declared.Card.{Card}
+use Rattle.card.proofs.FieldsThere.{in_show}
 use Rattle.sheets.specs.SheetRequires.{RowShort}
 use Rattle.sheets.proofs.RowPlaces.{row_there, row_short}
 use Rattle.explanation.specs.Exchanges.{row_active}
@@ -14,29 +15,29 @@ use Rattle.explanation.specs.ExplanationRequires.{CountsRoom}
 use Rattle.explanation.proofs.SheetRows.{row_active_is}
 
 -- After t turns the first t counts are written.
-abbrev pub Written : (s sheet : List ℕ) → (t : ℕ) → (counts₀ counts : List ℕ) → Type 0
-Written s sheet = Upto (λ u. active_at (show_of card) sheet (suc u))
+abbrev pub Written : Card → (sheet : List ℕ) → (t : ℕ) → (counts₀ counts : List ℕ) → Type 0
+Written card sheet = Upto (λ u. active_at (show_of card) sheet (suc u))
 
 module _
-    {card : Card} {sheet counts₀ counts : List ℕ} {t : ℕ} (room : CountsRoom s h sheet counts₀)
-    (inv : Written s sheet t counts₀ counts) where
+    {card : Card} {sheet counts₀ counts : List ℕ} {t : ℕ} (room : CountsRoom card sheet counts₀)
+    (inv : Written card sheet t counts₀ counts) where
   -- Another turn.
   module _ (below : t < length counts₀) where
-    in_show : t < (show_of card).slots
-    in_show = omega arith
+    in_slots : t < (show_of card).slots
+    in_slots = omega arith
 
     pub row_end : t * card.header.modules + card.header.modules ≤ length sheet
-    row_end = row_there room.sized.ready in_show (omega (arith, room.sized.size))
+    row_end = row_there card (in_show card in_slots) (omega (arith, room.sized.size))
 
     pub short : RowShort (mid_of (t * card.header.modules) (t * card.header.modules + card.header.modules - t * card.header.modules) sheet)
-    short = row_short sheet _ room.sized.ready row_end
+    short = row_short card sheet _ row_end
 
     pub count_written :
         {n : ℕ} → n ≡ row_active (mid_of (t * card.header.modules) (t * card.header.modules + card.header.modules - t * card.header.modules) sheet) →
-        Written s sheet (t + 1) counts₀ (set counts t n)
+        Written card sheet (t + 1) counts₀ (set counts t n)
     count_written e =
         let m = card.header_is.modules_is in
-        let is = row_active_is (show_of card) sheet room.sized.size m (ap (λ (x : ℕ). t * x) m) in_show in
+        let is = row_active_is (show_of card) sheet room.sized.size m (ap (λ (x : ℕ). t * x) m) in_slots in
         upto_more inv (omega (arith, inv.size)) (e ∙ is)
 
   -- After the last turn all counts are written.

@@ -2,9 +2,8 @@
 // answers every input.
 #![tactic(auto)]
 
-ghost use Rattle.std.specs.Prelude.{◌≡◌, ◌-◌, ◌≤◌, length, replicate};
+ghost use Rattle.std.specs.Prelude.{◌≡◌, ◌-◌, ◌≤◌, Ok, length, replicate};
 ghost use Rattle.basics.specs.Lists.{written_over};
-ghost use Rattle.std.specs.Prelude.{Ok};
 ghost use Rattle.card.specs.Shows.{show_of};
 ghost use Rattle.model.specs.Sheets.{active_of, counts_of};
 ghost use Rattle.model.specs.Planners.{exact, work_bytes};
@@ -12,11 +11,12 @@ ghost use Rattle.model.specs.Calls.{explain_sheet};
 ghost use Rattle.model.specs.ExplainedPoints.{no_points, points_with, points_of, explained_work};
 ghost use Rattle.sheets.specs.SheetRequires.{RowShort};
 ghost use Rattle.explanation.specs.Exchanges.{start_of, row_active, row_starts, exchanged};
+ghost use Rattle.explanation.specs.ExplainedAs.{points_from};
 ghost use Rattle.explanation.specs.ExplanationRequires.{CountsRoom, CountsKnown, Marked, WorkRoom, PointsRoom};
 
 use card::Card;
-use model::{Answer, Points, Refusal};
-use planners::PlannerKind;
+use model::{Points, Refusal};
+use planners::{Exact, PlannerKind};
 
 // 1 for the byte of an active module, 0 for off.
 fn active_of(b: u8) -> u8
@@ -111,10 +111,10 @@ fn points_over(
     ensures work_after { work.new ≡ written_over (replicate (work_bytes exact (show_of card.now)) 0) work.old }
 {
     write_counts(card, sheet, counts);
-    let exchanged = exchanged_modules(card, sheet, &counts[..]);
+    let exchanged = exchanged_modules(card, sheet, counts);
     let swaps = exchanged * (card.header.power_up + card.header.power_down);
-    let planned = plans::plan_cost(card, &counts[..]);
-    let least = planners::plan_by(PlannerKind::Exact, card, counts, work);
+    let planned = plans::plan_cost(card, counts);
+    let least = planners::plan_by(&Exact, card, counts, work);
     Points {
         number: 0,
         spread: cost - planned - swaps,
@@ -147,19 +147,17 @@ fn refused(x: Refusal) -> Points
     }
 }
 
-// The explanation of a sheet on an accepted card: refusal 10, then marking's, then the three numbers.
-fn explain_on(card: &Card, sheet: &[u8], work: &mut [u8]) -> Points
-    ensures value { result ≡ points_of card.now sheet.now work.old }
+// The explanation of a sheet, or its refusal: refusals 1 to 8, 10, then marking's, then the three numbers.
+fn try_explain(card: &[u8], sheet: &[u8], work: &mut [u8]) -> Result<Points, Refusal>
+    ensures value { points_from result ≡ points_of card.now sheet.now work.old }
     ensures work_after { work.new ≡ explained_work (explain_sheet card.now sheet.now work.old) }
 {
-    let asked = planners::work_bytes(PlannerKind::Exact, card, h);
-    if work.len() < asked {
-        return refused(Refusal::BufferTooShort);
+    let card = card::check(card)?;
+    if work.len() < Exact.work_bytes(&card) {
+        return Err(Refusal::BufferTooShort);
     }
-    match calls::mark_sheet_on(card, sheet) {
-        Ok(cost) => points_of(card, sheet, cost, work),
-        Err(x) => refused(x),
-    }
+    let cost = calls::mark_sheet_on(&card, sheet)?;
+    Ok(points_of(&card, sheet, cost, work))
 }
 
 // The explanation of a sheet: refusals 1 to 8, 10 to 13.
@@ -167,8 +165,8 @@ pub fn explain(card: &[u8], sheet: &[u8], work: &mut [u8]) -> Points
     ensures value { result ≡ points_of card.now sheet.now work.old }
     ensures work_after { work.new ≡ explained_work (explain_sheet card.now sheet.now work.old) }
 {
-    match card::check(card) {
-        Ok(h) => explain_on(card, sheet, work),
+    match try_explain(card, sheet, work) {
+        Ok(points) => points,
         Err(x) => refused(x),
     }
 }
