@@ -59,12 +59,6 @@ module _ {card : Card} {sheet counts : List ℕ} {t total : ℕ} (known : Counts
     pub next_short : RowShort next_row
     next_short = row_short card sheet _ next_end
 
-    pub rows_paired : length row ≡ length next_row
-    rows_paired =
-        let m = card.header_is.modules_is in
-        let here = row_length (show_of card) sheet known.sized.size m (ap (λ (x : ℕ). t * x) m) slot_here in
-        here ∙ sym (row_length (show_of card) sheet known.sized.size {t = suc t} m place_next next_slot)
-
     starts_are : {x : ℕ} → x ≡ row_starts row next_row → x ≡ starts_after (show_of card) sheet (suc t)
     starts_are e =
         let m = card.header_is.modules_is in

@@ -70,14 +70,6 @@ module _ {card : Card} {sheet : List ℕ} {cost : ℕ} (m : Marked card sheet co
           served = counts_fit.served;
         })
 
-    -- The exact planner's plan takes their place.
-    pub buffers_ready : {old work : List ℕ} → PointsRoom card old work → BuffersFor exact card counts work
-    buffers_ready room =
-        record {
-          plan_room = omega (arith, ap length are, counts_fit.slotwise);
-          work_room = room.work_room.work_room;
-        }
-
     module _ {x : ℕ} (x-is : x ≡ exchanged (show_of card) sheet) where
       pub swaps_fits : Fits w64 (x * (card.header.power_up + card.header.power_down))
       swaps_fits =

@@ -5,11 +5,8 @@ use Rattle.explanation.proofs.exchanged_modules.Goals as goal
 pub loop-t-init : goal.loop-t-init
 loop-t-init c = summed_none _ _
 
-pub row_starts-starts-requires : goal.row_starts-starts-requires
-row_starts-starts-requires c = record {
-  row_short = search next_short;
-  before_len = search rows_paired;
-}
+pub row_starts-starts-requires-clause-row_short : goal.row_starts-starts-requires-clause-row_short
+row_starts-starts-requires-clause-row_short c = search next_short
 
 pub beyond_rise-total-requires : goal.beyond_rise-total-requires
 beyond_rise-total-requires c = search rise_there

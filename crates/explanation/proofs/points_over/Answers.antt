@@ -17,9 +17,6 @@ overflow_mul-swaps c = search swaps_fits
 pub plan_cost-planned-requires : goal.plan_cost-planned-requires
 plan_cost-planned-requires c = search plan_ready
 
-pub plan_by-least-requires : goal.plan_by-least-requires
-plan_by-least-requires c = search buffers_ready
-
 pub overflow_sub-result : goal.overflow_sub-result
 overflow_sub-result c = search planned_below
 
@@ -29,8 +26,5 @@ overflow_sub-result-2 c = search swaps_below
 pub overflow_sub-result-3 : goal.overflow_sub-result-3
 overflow_sub-result-3 c = search least_below
 
-pub returns : goal.returns
-returns c = record {
-  value = search three_numbers;
-  work_after = search rules;
-}
+pub returns-clause-value : goal.returns-clause-value
+returns-clause-value c = search three_numbers

@@ -2,9 +2,6 @@ use Rattle.basics.specs.Filling.{upto_none}
 use Rattle.explanation.proofs.WritingCounts.{short, count_written, counts_written}
 use Rattle.explanation.proofs.write_counts.Goals as goal
 
-pub loop-t-init : goal.loop-t-init
-loop-t-init c = upto_none _ _
-
 pub row_active-requires : goal.row_active-requires
 row_active-requires c = search short
 
