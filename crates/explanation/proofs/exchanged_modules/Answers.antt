@@ -1,5 +1,5 @@
 use Rattle.basics.specs.Summing.{summed_none}
-use Rattle.explanation.proofs.Exchanging.{row_end, next_end, next_short, rows_paired, rise_there, total_fits, change_counted, all_counted}
+use Rattle.explanation.proofs.Exchanging.{row_end, next_end, next_short, rise_there, total_fits, change_counted, all_counted}
 use Rattle.explanation.proofs.exchanged_modules.Goals as goal
 
 pub loop-t-init : goal.loop-t-init
