@@ -1,6 +1,6 @@
 -- The loop that counts the modules which go on beyond the rises of the counts.
 use Rattle.std.specs.Prelude.{ℕ, suc, ◌+◌, ◌-◌, ◌*◌, ◌≤◌, ◌<◌, ◌≡◌, List, length, get_or}
-use Rattle.basics.specs.Core.{ap, sym, ◌∙◌, mul-le-mul, mul-le-mul_right, sub-le, add-one, arith}
+use Rattle.basics.specs.Core.{ap, ◌∙◌, mul-le-mul, mul-le-mul_right, sub-le, add-one, arith}
 use mir.Syntax.{w64}
 use mir.Val.{Fits}
 use borrow.Rule.Slice.PartMut.{mid_of}
@@ -13,7 +13,6 @@ use Rattle.card.specs.declared.Card.{Card}
 use Rattle.card.proofs.FieldsThere.{in_show}
 use Rattle.sheets.specs.SheetRequires.{RowShort}
 use Rattle.sheets.proofs.RowPlaces.{row_there, row_short}
-use Rattle.sheets.proofs.States.{row_length}
 use Rattle.explanation.specs.Exchanges.{row_starts, starts_after, exchanged_after, exchanged}
 use Rattle.explanation.specs.ExplanationRequires.{CountsKnown}
 use Rattle.explanation.proofs.SheetRows.{row_starts_is, rise_below, exchanged_most, count_is}

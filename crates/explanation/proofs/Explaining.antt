@@ -9,7 +9,7 @@ use Rattle.model.specs.Answers.{Answer, number_of, cost_of}
 use Rattle.model.specs.Planners.{exact, work_bytes}
 use Rattle.model.specs.Specs.{at_exit}
 use Rattle.model.specs.Calls.{mark_sheet, explain_sheet, check_card, answer}
-use Rattle.model.specs.ExplainedPoints.{explained_work, no_points, points_with, points_of}
+use Rattle.model.specs.ExplainedPoints.{explained_work, points_with, points_of}
 use Rattle.theory.specs.Outcomes.{mark_number, mark_accepts}
 use Rattle.theory.specs.ExplainedSheets.{work_left, explain_refused, explain_short, explain_unmarked, explain_marked}
 use Rattle.card.specs.declared.Card.{Card}

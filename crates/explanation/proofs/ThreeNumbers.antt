@@ -1,7 +1,7 @@
 -- The three numbers of a sheet that serves, from its cost, the modules that go on beyond the rises of its counts, the cost of its counts as a
 -- plan, and the exact planner's cost.
-use Rattle.std.specs.Prelude.{ℕ, ◌+◌, ◌-◌, ◌*◌, ◌≤◌, ◌≡◌, List, length}
-use Rattle.basics.specs.Core.{sym, ap, ◌∙◌, mul-le-mul, mul_comm, sub-le, le_trans, arith, eqb-true}
+use Rattle.std.specs.Prelude.{ℕ, ◌+◌, ◌-◌, ◌*◌, ◌≤◌, ◌≡◌, List}
+use Rattle.basics.specs.Core.{sym, ◌∙◌, mul-le-mul, mul_comm, sub-le, le_trans, arith, eqb-true}
 use mir.Syntax.{w64}
 use mir.Val.{Fits}
 use Rattle.basics.specs.Sums.{sum_at_most}
@@ -23,7 +23,6 @@ use Rattle.theory.specs.Explanations.{spread_whole, counts_whole}
 use Rattle.card.specs.declared.Card.{Card}
 use Rattle.plans.specs.PlanRequires.{PlanReady}
 use Rattle.sheets.specs.SheetRequires.{SheetSized}
-use Rattle.planners.specs.PlannerRequires.{BuffersFor}
 use Rattle.explanation.specs.Exchanges.{exchanged}
 use Rattle.explanation.specs.ExplanationRequires.{CountsRoom, CountsKnown, Marked, PointsRoom}
 use Rattle.explanation.proofs.SheetRows.{exchanged_most}

@@ -98,13 +98,7 @@ fn exchanged_modules(card: &Card, sheet: &[u8], counts: &[u8]) -> u64
 
 // The three numbers of a sheet that serves, with its cost and with room for one count for each slot, where first the sheet's counts stand and
 // then the exact planner's.
-fn points_over(
-    card: &Card,
-    sheet: &[u8],
-    cost: u64,
-    counts: &mut [u8],
-    work: &mut [u8],
-) -> Points
+fn points_over(card: &Card, sheet: &[u8], cost: u64, counts: &mut [u8], work: &mut [u8]) -> Points
     requires marked { Marked card.now sheet.now cost }
     requires points_room { PointsRoom card.now counts.old work.old }
     ensures value { result ≡ points_with (Ok 0) (show_of card.now) sheet.now }

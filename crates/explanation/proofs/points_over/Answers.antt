@@ -1,4 +1,3 @@
-use Rattle.std.proofs.Common.{rules}
 use Rattle.explanation.proofs.ThreeNumbers.{counts_room, counts_known, price_fits, swaps_fits, plan_ready, planned_below, swaps_below, least_below, three_numbers}
 use Rattle.explanation.proofs.points_over.Goals as goal
 

@@ -1,4 +1,3 @@
-use Rattle.basics.specs.Filling.{upto_none}
 use Rattle.explanation.proofs.WritingCounts.{short, count_written, counts_written}
 use Rattle.explanation.proofs.write_counts.Goals as goal
 
