@@ -134,7 +134,7 @@ fn refused(x: Refusal) -> Points
     ensures { result ≡ no_points x }
 {
     Points {
-        number: model::refusal_number(x),
+        number: u64::from(x),
         spread: 0,
         swaps: 0,
         counts: 0,

@@ -112,7 +112,8 @@ pub fn short_for<P: PlannerKind>(kind: &P, card: &Card, plan: usize, work: usize
     requires { KeepsRules (P.planner kind.now) (show_of card.now) }
     ensures { result ≡ short_for (P.planner kind.now) (show_of card.now) plan work }
 {
-    plan < card.header.slots as usize || work < kind.work_bytes(card)
+    let asked = kind.work_bytes(card);
+    plan < card.header.slots as usize || work < asked
 }
 
 // A planner on an accepted card: refusals 18 and 10, in this order.

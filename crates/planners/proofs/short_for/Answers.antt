@@ -8,4 +8,4 @@ returns-then-plan-card g c = lt-ltb _ _ c.if-plan-card.true ∙ plan_lacks c.arg
 
 pub returns-else-plan-card : goal.returns-else-plan-card
 returns-else-plan-card g c =
-    ap (ltb c.args.work) c.work_bytes.ensures ∙ work_decides c.args.card.now _ _ _ c.if-plan-card.false
+    ap (ltb c.args.work) c.work_bytes-asked.ensures ∙ work_decides c.args.card.now _ _ _ c.if-plan-card.false
