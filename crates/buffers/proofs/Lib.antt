@@ -1,1 +1,1 @@
-pub mod Joined
+pub mod LowBytes

@@ -1,7 +1,7 @@
 // Writing bytes into a lent area. A function that writes from a place on returns the place after what it wrote.
 #![tactic(auto)]
 
-ghost use Rattle.std.specs.Prelude.{◌≡◌, [], ◌∷◌, length, replicate};
+ghost use Rattle.std.specs.Prelude.{◌≡◌, ◌≤◌, [], ◌∷◌, length, replicate};
 ghost use Rattle.basics.specs.Bytes.{bytes_of};
 ghost use Rattle.basics.specs.Rows.{element_bytes};
 ghost use Rattle.basics.specs.Writing.{Room, Written};
@@ -10,11 +10,7 @@ ghost use Rattle.basics.specs.Writing.{Room, Written};
 pub fn fill(part: &mut [u8], byte: u8)
     ensures { part.new ≡ replicate (length part.old) byte }
 {
-    let mut k = 0;
-    while k < part.len() {
-        part[k] = byte;
-        k += 1;
-    }
+    part.fill(byte);
 }
 
 // Writes a byte.
@@ -31,39 +27,19 @@ pub fn put_bytes(out: &mut [u8], at: usize, word: &[u8]) -> usize
     requires { Room word.now at out.old }
     ensures { Written word.now at out.old out.new result }
 {
-    let mut place = at;
-    let mut j = 0;
-    while j < word.len() {
-        place = put(out, place, word[j]);
-        j += 1;
-    }
-    place
+    let next = at + word.len();
+    out[at..next].copy_from_slice(word);
+    next
 }
 
-// Writes a number's lowest byte.
-pub fn put_one(out: &mut [u8], at: usize, n: u32) -> usize
-    requires { Room (bytes_of 1 n) at out.old }
-    ensures { Written (bytes_of 1 n) at out.old out.new result }
+// Writes a number's W lowest bytes, the lowest first.
+#[tactic(auto, using(crate::proofs::LowBytes::low_first, basics::specs::Bytes::length_bytes))]
+pub fn put_number<const W: usize>(out: &mut [u8], at: usize, n: u32) -> usize
+    requires width { W ≤ 4 }
+    requires room { Room (bytes_of W n) at out.old }
+    ensures { Written (bytes_of W n) at out.old out.new result }
 {
-    put(out, at, (n % 256) as u8)
-}
-
-// Writes a number's two lowest bytes, the lowest first.
-pub fn put_two(out: &mut [u8], at: usize, n: u32) -> usize
-    requires { Room (bytes_of 2 n) at out.old }
-    ensures { Written (bytes_of 2 n) at out.old out.new result }
-{
-    let next = put_one(out, at, n);
-    put_one(out, next, n / 256)
-}
-
-// Writes a number's four bytes, the lowest first.
-pub fn put_four(out: &mut [u8], at: usize, n: u32) -> usize
-    requires { Room (bytes_of 4 n) at out.old }
-    ensures { Written (bytes_of 4 n) at out.old out.new result }
-{
-    let next = put_two(out, at, n);
-    put_two(out, next, n / 65536)
+    put_bytes(out, at, &n.to_le_bytes()[..W])
 }
 
 // Writes the numbers of a list, each as four bytes.
@@ -72,10 +48,8 @@ pub fn put_numbers(out: &mut [u8], at: usize, numbers: &[u16]) -> usize
     ensures { Written (element_bytes 4 numbers.now) at out.old out.new result }
 {
     let mut place = at;
-    let mut j = 0;
-    while j < numbers.len() {
-        place = put_four(out, place, numbers[j] as u32);
-        j += 1;
+    for &number in numbers {
+        place = put_number::<4>(out, place, u32::from(number));
     }
     place
 }

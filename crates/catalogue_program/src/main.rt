@@ -11,14 +11,12 @@ ghost use Rattle.model.specs.Listing.{entry_line, catalogue_lines};
 use std::io;
 
 // F(k), by the rule.
+#[tactic(auto, unfolding(model::specs::Catalogue::catalogue_entry))]
 fn entry(k: u64) -> u64
     requires { k ≤ catalogue_top }
     ensures { result ≡ catalogue_entry k }
 {
-    if k == 0 {
-        return 400;
-    }
-    400 + 3 * k + k * (k - 1) / 2
+    400 + 3 * k + k * k.saturating_sub(1) / 2
 }
 
 // Writes the line of F(k).
@@ -38,14 +36,14 @@ fn write_lines(out: &mut [u8]) -> usize
     ensures bytes { out.new ≡ written_over catalogue_lines out.old }
 {
     let mut place = 0;
-    let mut k = 0;
-    while k < 201 {
+    for k in 0..201 {
         place = put_entry(out, place, k);
-        k += 1;
     }
     place
 }
 
+// All lines fit 4,096 bytes.
+#[tactic(auto, using(crate::proofs::Lines::lines_size))]
 fn main(rt: HostRuntime) -> io::Result<()> {
     let mut text = [0u8; 4096];
     let size = write_lines(&mut text);

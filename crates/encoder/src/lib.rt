@@ -31,7 +31,7 @@ fn put_front(out: &mut [u8], at: usize) -> usize
     ensures { Written front_bytes at out.old out.new result }
 {
     let version = buffers::put_bytes(out, at, b"DLS");
-    buffers::put_two(out, version, 1)
+    buffers::put_number::<2>(out, version, 1)
 }
 
 // Writes m, Q and T.
@@ -39,9 +39,9 @@ fn put_sizes(out: &mut [u8], at: usize, modules: u32, top: u32, slots: u32) -> u
     requires { Room (bytes_of 1 modules ++ (bytes_of 1 top ++ bytes_of 2 slots)) at out.old }
     ensures { Written (bytes_of 1 modules ++ (bytes_of 1 top ++ bytes_of 2 slots)) at out.old out.new result }
 {
-    let second = buffers::put_one(out, at, modules);
-    let third = buffers::put_one(out, second, top);
-    buffers::put_two(out, third, slots)
+    let second = buffers::put_number::<1>(out, at, modules);
+    let third = buffers::put_number::<1>(out, second, top);
+    buffers::put_number::<2>(out, third, slots)
 }
 
 // Writes the two prices.
@@ -49,8 +49,8 @@ fn put_prices(out: &mut [u8], at: usize, up: u32, down: u32) -> usize
     requires { Room (bytes_of 4 up ++ bytes_of 4 down) at out.old }
     ensures { Written (bytes_of 4 up ++ bytes_of 4 down) at out.old out.new result }
 {
-    let second = buffers::put_four(out, at, up);
-    buffers::put_four(out, second, down)
+    let second = buffers::put_number::<4>(out, at, up);
+    buffers::put_number::<4>(out, second, down)
 }
 
 // Writes the head of a card: the mark, the version, m, Q, T and the two prices.
@@ -68,7 +68,7 @@ pub fn put_entry(out: &mut [u8], at: usize, entry: u32) -> usize
     requires { Room (bytes_of 4 entry) at out.old }
     ensures { Written (bytes_of 4 entry) at out.old out.new result }
 {
-    buffers::put_four(out, at, entry)
+    buffers::put_number::<4>(out, at, entry)
 }
 
 // Writes a load.
@@ -76,5 +76,5 @@ pub fn put_load(out: &mut [u8], at: usize, load: u32) -> usize
     requires { Room (bytes_of 2 load) at out.old }
     ensures { Written (bytes_of 2 load) at out.old out.new result }
 {
-    buffers::put_two(out, at, load)
+    buffers::put_number::<2>(out, at, load)
 }

@@ -9,15 +9,16 @@ ghost use Rattle.listing.specs.Texts.{numbered_line, count_text, count_texts, mo
 ghost use Rattle.listing.specs.Texts.{InRows, Printable, LineRoom};
 
 // Writes a number in decimal.
+#[tactic(auto, using(crate::proofs::Digits::decimal_one))]
 pub fn put_number(out: &mut [u8], at: usize, n: u64) -> usize
     requires { Room (decimal n) at out.old }
     ensures { Written (decimal n) at out.old out.new result }
 {
     if n < 10 {
-        return buffers::put(out, at, (48 + n) as u8);
+        return buffers::put(out, at, b'0' + n as u8);
     }
     let last = put_number(out, at, n / 10);
-    buffers::put(out, last, (48 + n % 10) as u8)
+    buffers::put(out, last, b'0' + (n % 10) as u8)
 }
 
 // Writes a blank and a count.
@@ -26,7 +27,7 @@ fn put_count(out: &mut [u8], at: usize, count: u8) -> usize
     ensures { Written (count_text count) at out.old out.new result }
 {
     let number = buffers::put(out, at, b' ');
-    put_number(out, number, count as u64)
+    put_number(out, number, u64::from(count))
 }
 
 // Writes a blank and a module's step, or `-` for off.
@@ -47,10 +48,8 @@ fn put_counts(out: &mut [u8], at: usize, plan: &[u8]) -> usize
     ensures { Written (count_texts plan.now) at out.old out.new result }
 {
     let mut place = at;
-    let mut t = 0;
-    while t < plan.len() {
-        place = put_count(out, place, plan[t]);
-        t += 1;
+    for &count in plan {
+        place = put_count(out, place, count);
     }
     place
 }
@@ -61,10 +60,8 @@ fn put_steps(out: &mut [u8], at: usize, row: &[u8]) -> usize
     ensures { Written (module_texts row.now) at out.old out.new result }
 {
     let mut place = at;
-    let mut k = 0;
-    while k < row.len() {
-        place = put_step(out, place, row[k]);
-        k += 1;
+    for &step in row {
+        place = put_step(out, place, step);
     }
     place
 }
@@ -80,6 +77,7 @@ fn put_line(out: &mut [u8], at: usize, word: &[u8], n: u64) -> usize
 }
 
 // Writes the line of the plan.
+#[tactic(auto, unfolding(model::specs::Listing::plan_line))]
 fn put_plan(out: &mut [u8], at: usize, plan: &[u8]) -> usize
     requires { Room (plan_line plan.now) at out.old }
     ensures { Written (plan_line plan.now) at out.old out.new result }
@@ -100,6 +98,7 @@ fn put_slot_number(out: &mut [u8], at: usize, t: usize) -> usize
 }
 
 // Writes the line of slot t (from 0), of its row of the sheet.
+#[tactic(auto, unfolding(model::specs::Listing::slot_line))]
 fn put_slot(out: &mut [u8], at: usize, t: usize, row: &[u8]) -> usize
     requires t_bound { t < 1024 }
     requires room { Room (slot_line t row.now) at out.old }
@@ -118,17 +117,15 @@ fn put_sheet(out: &mut [u8], at: usize, m: usize, slots: usize, sheet: &[u8]) ->
     ensures { Written (sheet_lines m slots sheet.now) at out.old out.new result }
 {
     let mut place = at;
-    let mut t = 0;
-    while t < slots {
+    for t in 0..slots {
         let start = t * m;
-        let end = start + m;
-        place = put_slot(out, place, t, &sheet[start..end]);
-        t += 1;
+        place = put_slot(out, place, t, &sheet[start..start + m]);
     }
     place
 }
 
 // Writes the listing of a plan and its sheet, in rows of m bytes, at the front of the area, and returns its length.
+#[tactic(auto, unfolding(model::specs::Listing::listing, model::specs::Listing::cost_line))]
 pub fn write_listing(out: &mut [u8], m: u64, cost: u64, plan: &[u8], sheet: &[u8]) -> usize
     requires { Printable m plan.now sheet.now out.old }
     ensures size { result ≡ length (listing m cost plan.now sheet.now) }
@@ -140,6 +137,7 @@ pub fn write_listing(out: &mut [u8], m: u64, cost: u64, plan: &[u8], sheet: &[u8
 }
 
 // Writes the line of a refusal at the front of the area, and returns its length.
+#[tactic(auto, unfolding(model::specs::Listing::refused_line), using(crate::proofs::Lengths::refusal_room))]
 pub fn write_refusal(out: &mut [u8], number: u64) -> usize
     requires { LineRoom out.old }
     ensures size { result ≡ length (refused_line number) }

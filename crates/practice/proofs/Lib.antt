@@ -1,4 +1,3 @@
-pub mod DrawnFields
 pub mod TableLoop
 pub mod LoadsLoop
 pub mod PracticeAnswers

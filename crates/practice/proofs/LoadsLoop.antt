@@ -1,15 +1,14 @@
 -- The loop that draws and writes the loads of a practice show.
 use Rattle.std.specs.Prelude.{ℕ, suc, ◌+◌, ◌*◌, ◌%◌, ◌≤◌, ◌<◌, ◌≡◌, refl, List}
-use Rattle.basics.specs.Core.{add-zero, mul-le-mul, arith}
+use Rattle.basics.specs.Core.{ap, ◌∙◌, add-zero, mul-le-mul, arith}
 use Rattle.basics.specs.Bytes.{bytes_of}
-use Rattle.basics.specs.Writing.{Room, Written, RowsWritten, rows_none, rows_room, rows_more, rows_all}
+use Rattle.basics.specs.Writing.{Room, Written, RowsWritten, rows_none, rows_room, rows_more}
 use Rattle.model.specs.Instance.{load_bytes}
 use Rattle.model.specs.Practice.{draw, drawn, practice_show}
 use Rattle.laws.specs.PracticeAccepted.{practice_sizes}
 use Rattle.practice.specs.declared.FirstDraws.{FirstDraws}
 use Rattle.practice.specs.declared.AfterTable.{AfterTable}
 use Rattle.practice.specs.Drawing.{OfStart, LoadsRoom}
-use Rattle.practice.proofs.DrawnFields.{next_draw}
 
 -- Loads so far: those of the first t slots are written.
 pub record LoadsSoFar (first : FirstDraws) (bound p : ℕ) (old : List ℕ) (t : ℕ) (new : List ℕ) (place state : ℕ) : Type 0 where
@@ -36,35 +35,32 @@ loads_start {first} room =
       state_is = rw (add-zero (6 + first.fields.top_step)) room.state_is;
     }
 
+-- Drawn is the next state.
 module _
-    {first : FirstDraws} {bound p t : ℕ} {old new : List ℕ} {place state : ℕ} (so : LoadsSoFar first bound p old t new place state) where
-  -- Drawn is the next state.
-  module _ {s : ℕ} (drew : s ≡ draw state) where
-    next_state : s ≡ drawn first.start (7 + first.fields.top_step + t)
-    next_state =
-        let one_more : 7 + first.fields.top_step + t ≡ suc (6 + first.fields.top_step + t) = omega arith in
-        rw one_more (next_draw first.start (6 + first.fields.top_step + t) so.state_is drew)
+    {first : FirstDraws} {bound p t : ℕ} {old new : List ℕ} {place state s : ℕ} (so : LoadsSoFar first bound p old t new place state)
+    (drew : s ≡ draw state) where
+  next_state : s ≡ drawn first.start (7 + first.fields.top_step + t)
+  unfolding drawn
+  next_state =
+      let one_more : 7 + first.fields.top_step + t ≡ suc (6 + first.fields.top_step + t) = omega arith in
+      rw one_more (drew ∙ ap draw so.state_is)
 
-    load_is : s % bound ≡ (practice_show first.start).load t
-    unfolding practice_show
-    load_is = rw (next_state, so.bound_is, so.is.fields_are.modules_is, so.is.fields_are.top_is)
+  load_is : s % bound ≡ (practice_show first.start).load t
+  unfolding practice_show
+  load_is = rw (next_state, so.bound_is, so.is.fields_are.modules_is, so.is.fields_are.top_is)
 
-    -- There is room for the load that is drawn.
-    pub load_room : Room (load_bytes (practice_show first.start)) p old → t < first.fields.slots → Room (bytes_of 2 (s % bound)) place new
-    load_room room b = rw load_is (rows_room room so.written (omega (arith, so.is.fields_are.slots_is)))
+  -- There is room for the load that is drawn.
+  pub load_room : Room (load_bytes (practice_show first.start)) p old → t < first.fields.slots → Room (bytes_of 2 (s % bound)) place new
+  load_room room b = rw load_is (rows_room room so.written (omega (arith, so.is.fields_are.slots_is)))
 
-    -- One more load is written.
-    pub loads_turn :
-        {newer : List ℕ} {after : ℕ} → t < first.fields.slots → Written (bytes_of 2 (s % bound)) place new newer after →
-        LoadsSoFar first bound p old (t + 1) newer after s
-    loads_turn b wrote =
-        record {
-          is = so.is;
-          bound_is = so.bound_is;
-          written = rows_more so.written (omega (arith, so.is.fields_are.slots_is)) (rw load_is at wrote);
-          state_is = let at : 6 + first.fields.top_step + (t + 1) ≡ 7 + first.fields.top_step + t = omega arith in rw at next_state;
-        }
-
-  -- After the last turn all loads are written.
-  pub loads_end : first.fields.slots ≤ t → Written (load_bytes (practice_show first.start)) p old new place
-  loads_end b = rows_all so.written (omega (arith, so.is.fields_are.slots_is))
+  -- One more load is written.
+  pub loads_turn :
+      {newer : List ℕ} {after : ℕ} → t < first.fields.slots → Written (bytes_of 2 (s % bound)) place new newer after →
+      LoadsSoFar first bound p old (t + 1) newer after s
+  loads_turn b wrote =
+      record {
+        is = so.is;
+        bound_is = so.bound_is;
+        written = rows_more so.written (omega (arith, so.is.fields_are.slots_is)) (rw load_is at wrote);
+        state_is = let at : 6 + first.fields.top_step + (t + 1) ≡ 7 + first.fields.top_step + t = omega arith in rw at next_state;
+      }

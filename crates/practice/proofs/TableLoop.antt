@@ -8,7 +8,6 @@ use Rattle.model.specs.Practice.{draw, drawn, practice_difference, practice_entr
 use Rattle.laws.specs.PracticeAccepted.{practice_sizes, difference_most, entry_most}
 use Rattle.practice.specs.declared.FirstDraws.{FirstDraws}
 use Rattle.practice.specs.Drawing.{OfStart, DrawnRoom, SmallDifference, next_difference}
-use Rattle.practice.proofs.DrawnFields.{next_draw}
 
 module _ (start : ℕ) where
   -- The difference that led to F(k), 0 for F(0).
@@ -68,9 +67,8 @@ module _
   -- Drawn are the next state and the next difference.
   module _ {s d : ℕ} (drew : s ≡ draw state) (next : d ≡ next_difference k difference s) where
     next_state : s ≡ drawn first.start (7 + k)
-    next_state =
-        let one_more : 7 + k ≡ suc (6 + k) = omega arith in
-        rw one_more (next_draw first.start (6 + k) so.state_is drew)
+    unfolding drawn
+    next_state = let one_more : 7 + k ≡ suc (6 + k) = omega arith in rw one_more (drew ∙ ap draw so.state_is)
 
     next_drawn : d ≡ practice_difference first.start k
     next_drawn = next ∙ next_is first.start k difference s so.difference_is next_state
@@ -98,12 +96,9 @@ module _
           entry_is = rw (add-one k) next_entry;
         }
 
-  -- With the last entry the table is written, and the state is that before the loads.
+  -- With the last entry the table is written.
   pub table_ends :
       {newer : List ℕ} {after : ℕ} → first.fields.top_step ≤ k → Written (bytes_of 4 entry) place new newer after →
-      Written (table_bytes (practice_show first.start)) p old newer after × (state ≡ drawn first.start (6 + first.fields.top_step))
+      Written (table_bytes (practice_show first.start)) p old newer after
   table_ends b wrote =
-      let last : first.fields.top_step ≡ k = omega arith in (
-        rows_all (rows_more so.written (omega (arith, so.is.fields_are.top_is)) (rw so.entry_is at wrote)) (omega (arith, so.is.fields_are.top_is)),
-        rw last so.state_is,
-      )
+      rows_all (rows_more so.written (omega (arith, so.is.fields_are.top_is)) (rw so.entry_is at wrote)) (omega (arith, so.is.fields_are.top_is))

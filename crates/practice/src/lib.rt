@@ -28,6 +28,7 @@ struct AfterTable {
 }
 
 // One draw: the new state of the generator.
+#[tactic(auto, unfolding(model::specs::Practice::draw, model::specs::Practice::xor_left, model::specs::Practice::xor_right))]
 fn xorshift(s: u32) -> u32
     ensures { result ≡ draw s }
 {
@@ -37,6 +38,7 @@ fn xorshift(s: u32) -> u32
 }
 
 // The first six draws.
+#[tactic(auto, unfolding(model::specs::Practice::drawn, model::specs::Practice::practice_entry, model::specs::Practice::practice_show))]
 fn draw_first(start: u32) -> FirstDraws
     ensures of_start { OfStart result }
     ensures start_value { result.start ≡ start }
@@ -64,6 +66,7 @@ fn draw_first(start: u32) -> FirstDraws
 
 // The difference after the one given, from the state that is drawn for it: the first one, where k is 0, is the draw mod 11, and each next one
 // is larger by the draw mod 4.
+#[tactic(auto, unfolding(crate::specs::Drawing::next_difference))]
 fn next_difference(k: u32, difference: u32, state: u32) -> u32
     requires { SmallDifference difference }
     ensures { result ≡ next_difference k difference state }
@@ -84,19 +87,18 @@ fn put_table(out: &mut [u8], at: usize, first: FirstDraws) -> AfterTable
     let mut state = first.state;
     let mut difference = 0;
     let mut entry = first.first_entry;
-    let mut k = 0;
-    while k < first.fields.top_step {
+    for k in 0..first.fields.top_step {
         place = encoder::put_entry(out, place, entry);
         state = xorshift(state);
         difference = next_difference(k, difference, state);
         entry += difference;
-        k += 1;
     }
     place = encoder::put_entry(out, place, entry);
     AfterTable { place, state }
 }
 
 // Draws and writes the loads.
+#[tactic(auto, using(crate::proofs::LoadsLoop::full_range))]
 fn put_loads(out: &mut [u8], first: FirstDraws, after: AfterTable) -> usize
     requires { LoadsRoom first after out.old }
     ensures { Written (load_bytes (practice_show first.start)) after.place out.old out.new result }
@@ -104,16 +106,15 @@ fn put_loads(out: &mut [u8], first: FirstDraws, after: AfterTable) -> usize
     let bound = first.fields.modules * first.fields.top_step + 1;
     let mut place = after.place;
     let mut state = after.state;
-    let mut t = 0;
-    while t < first.fields.slots {
+    for _ in 0..first.fields.slots {
         state = xorshift(state);
         place = encoder::put_load(out, place, state % bound);
-        t += 1;
     }
     place
 }
 
 // Writes the card.
+#[tactic(auto, unfolding(model::specs::Instance::card_bytes))]
 fn put_card(out: &mut [u8], first: FirstDraws) -> usize
     requires { DrawnRoom card_bytes first 0 out.old }
     ensures { Written (card_bytes (practice_show first.start)) 0 out.old out.new result }
@@ -124,6 +125,7 @@ fn put_card(out: &mut [u8], first: FirstDraws) -> usize
 }
 
 // The practice card of a start: refusals 14 and 10, in this order, else cost 0.
+#[tactic(auto, unfolding(model::specs::Calls::answer, model::specs::Calls::spec_of, model::specs::Calls::card_at_exit, model::specs::Calls::buffers_at_exit, model::specs::Specs::first_of, model::specs::Specs::any_short, model::specs::Specs::at_exit), using(crate::proofs::PracticeAnswers::size_is, crate::proofs::PracticeAnswers::card_room, basics::specs::Writing::written_start))]
 pub fn practice_card(start: u32, card: &mut [u8]) -> Answer
     ensures value { result ≡ answer (practice_card start card.old) }
     ensures card_after { card.new ≡ card_at_exit (practice_card start card.old) }

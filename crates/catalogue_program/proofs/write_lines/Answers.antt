@@ -17,5 +17,5 @@ loop-k-preserved c = rows_more c.loop-k.invariant (omega arith) c.put_entry-plac
 pub returns : goal.returns
 unfolding catalogue_lines
 returns c =
-    let w = written_start (rows_all c.loop-k.invariant c.loop-k-test.false) in
+    let w = written_start (rows_all c.loop-k.invariant (omega arith)) in
     record { size = w.0; bytes = w.1 }

@@ -1,4 +1,3 @@
-use Rattle.std.specs.Prelude.{◌-◌}
 use Rattle.basics.specs.Writing.{RowsWritten}
 use Rattle.model.specs.Catalogue.{catalogue_size}
 use Rattle.model.specs.Listing.{entry_line}
@@ -6,6 +5,3 @@ use Rattle.catalogue_program.proofs.write_lines.Given as goal
 
 abbrev pub invariant-loop-k : goal.invariant-loop-k
 invariant-loop-k l = RowsWritten entry_line catalogue_size 0 l.initial.out l.k l.out l.place
-
-abbrev pub decreases-loop-k : goal.decreases-loop-k
-decreases-loop-k l = catalogue_size - l.k

@@ -3,9 +3,10 @@ use Rattle.basics.specs.Bytes.{bytes_of}
 use Rattle.basics.specs.Writing.{written_more}
 use Rattle.encoder.proofs.put_front.Goals as goal
 
-pub put_two-requires : goal.put_two-requires
+-- There is room for the version, whatever it is.
+pub put_number-requires-clause-room : goal.put_number-requires-clause-room
 unfolding bytes_of
-put_two-requires c = search rules
+put_number-requires-clause-room c = search rules
 
 pub returns : goal.returns
 unfolding bytes_of

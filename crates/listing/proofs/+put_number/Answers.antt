@@ -2,14 +2,8 @@ use Rattle.std.specs.Prelude.{[], ◌∷◌, ◌%◌}
 use Rattle.basics.specs.Core.{arith}
 use Rattle.basics.specs.Writing.{room_less, room_first, room_rest, written_more}
 use Rattle.model.specs.Listing.{digit}
-use Rattle.listing.proofs.Digits.{decimal_one, decimal_more}
+use Rattle.listing.proofs.Digits.{decimal_more}
 use Rattle.listing.proofs.+put_number.Goals as goal
-
-pub put-requires : goal.put-requires
-put-requires t c = rw (decimal_one _ c.if-n-lt10.true) at c.requires
-
-pub returns-then-n-lt10 : goal.returns-then-n-lt10
-returns-then-n-lt10 t c = rw (decimal_one _ c.if-n-lt10.true) c.put.ensures
 
 pub put_number-last-requires : goal.put_number-last-requires
 put_number-last-requires t c =

@@ -20,9 +20,6 @@ put_sheet-requires-clause-room c =
     let whole = listing_room c.requires c.ranges.cost.fits c.type_inv.plan c.type_inv.sheet in
     room_rest (room_rest whole c.put_line-plan_line.ensures) c.put_plan-slot_lines.ensures
 
-pub returns : goal.returns
+pub returns-clause-bytes : goal.returns-clause-bytes
 unfolding listing cost_line
-returns c =
-    let lines = written_more c.put_plan-slot_lines.ensures c.put_sheet.ensures in
-    let w = written_start (written_more c.put_line-plan_line.ensures lines) in
-    record { size = w.0; bytes = w.1 }
+returns-clause-bytes c = (written_start (written_more c.put_line-plan_line.ensures (written_more c.put_plan-slot_lines.ensures c.put_sheet.ensures))).1

@@ -12,21 +12,13 @@ pub next_difference-difference-requires : goal.next_difference-difference-requir
 next_difference-difference-requires c = search difference_small
 
 pub overflow_add-entry : goal.overflow_add-entry
-overflow_add-entry c =
-    omega (
-      arith,
-      next_small c.loop-k.invariant c.xorshift-state.ensures c.next_difference-difference.ensures c.loop-k-test.true,
-    )
+overflow_add-entry c = search (next_small, arith)
 
 pub loop-k-preserved : goal.loop-k-preserved
-loop-k-preserved c =
-    table_turns c.loop-k.invariant c.xorshift-state.ensures c.next_difference-difference.ensures c.loop-k-test.true
-    c.put_entry-place.ensures
+loop-k-preserved c = search table_turns
 
 pub put_entry-place-requires-2 : goal.put_entry-place-requires-2
 put_entry-place-requires-2 c = search entry_room
 
-pub returns : goal.returns
-returns c =
-    let (written, state_value) = table_ends c.loop-k.invariant (omega arith) c.put_entry-place-2.ensures in
-    record { written = written; state_value = state_value }
+pub returns-clause-written : goal.returns-clause-written
+returns-clause-written c = search table_ends

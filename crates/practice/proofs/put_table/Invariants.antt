@@ -1,9 +1,5 @@
-use Rattle.std.specs.Prelude.{◌-◌}
 use Rattle.practice.proofs.TableLoop.{TableSoFar}
 use Rattle.practice.proofs.put_table.Given as goal
 
 abbrev pub invariant-loop-k : goal.invariant-loop-k
-invariant-loop-k l = TableSoFar l.first l.at l.initial.out l.k l.out l.place l.state l.difference l.entry
-
-abbrev pub decreases-loop-k : goal.decreases-loop-k
-decreases-loop-k l = l.first.fields.top_step - l.k
+invariant-loop-k l = TableSoFar l.fn.first l.at l.initial.out l.k l.out l.place l.state l.difference l.entry
