@@ -10,7 +10,7 @@ ghost use Rattle.model.specs.Specs.{first_of, list_tests};
 ghost use Rattle.model.specs.Calls.{plan_show, answer, plan_at_exit, work_at_exit};
 ghost use Rattle.model.specs.Promises.{KeepsRules};
 ghost use Rattle.card.specs.Shows.{show_of};
-ghost use Rattle.planners.specs.PlannerRequires.{BuffersFor, CountsReady, short_for};
+ghost use Rattle.planners.specs.PlannerRequires.{BuffersFor, CountsReady, either_short, short_for};
 
 use card::Card;
 use model::{Answer, Refusal};
@@ -80,7 +80,7 @@ impl PlannerKind for Coarse {
 }
 
 // The least plan over a list of allowed counts, at the front of the plan buffer, and its cost; the work bytes asked for are cleared.
-fn plan_over(card: &Card, counts: &[u64], asked: usize, plan: &mut [u8], work: &mut [u8]) -> u64
+pub fn plan_over(card: &Card, counts: &[u64], asked: usize, plan: &mut [u8], work: &mut [u8]) -> u64
     requires { CountsReady card.now counts.now asked plan.old work.old }
     ensures value { result ≡ least_cost (show_of card.now) counts.now }
     ensures plan_after { plan.new ≡ written_over (least_plan (show_of card.now) counts.now) plan.old }
@@ -106,14 +106,19 @@ pub fn plan_by<P: PlannerKind>(kind: &P, card: &Card, plan: &mut [u8], work: &mu
     plan_over(card, &counts[..width], asked, plan, work)
 }
 
-// Whether one of two buffers of these lengths is too short for a planner: the plan's for a byte for each slot, or the work's for the bytes
-// asked for.
+// Whether one of two buffers of these lengths is too short for a byte for each slot and the work bytes asked for.
+pub fn either_short(card: &Card, asked: usize, plan: usize, work: usize) -> bool
+    ensures { result ≡ either_short asked (show_of card.now) plan work }
+{
+    plan < card.header.slots as usize || work < asked
+}
+
+// Whether one of two buffers of these lengths is too short for a planner.
 pub fn short_for<P: PlannerKind>(kind: &P, card: &Card, plan: usize, work: usize) -> bool
     requires { KeepsRules (P.planner kind.now) (show_of card.now) }
     ensures { result ≡ short_for (P.planner kind.now) (show_of card.now) plan work }
 {
-    let asked = kind.work_bytes(card);
-    plan < card.header.slots as usize || work < asked
+    either_short(card, kind.work_bytes(card), plan, work)
 }
 
 // A planner on an accepted card: refusals 18 and 10, in this order.
