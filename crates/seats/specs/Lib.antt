@@ -1,3 +1,3 @@
--- Scanned has what a scan tells and what emptying leaves, Scanning their steps and the laws of these.
-pub mod Scanned
-pub mod Scanning
+-- Found has what is found in the list of seats and what putting back and emptying leave of it, FoundLaws the laws of these.
+pub mod Found
+pub mod FoundLaws

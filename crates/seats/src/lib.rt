@@ -1,103 +1,50 @@
-// The list of seats of a sitting (document 02, §4), as it is lent: found in, changed at one place, and emptied.
+// The list of seats of a sitting (document 02, §4), as it is lent: a record is found in it and put back, and its first records are emptied.
 #![tactic(auto)]
 
-ghost use Rattle.std.specs.Prelude.{◌≡◌, ◌<◌, min, set};
-ghost use Rattle.model.specs.SittingState.{empty_seat};
-ghost use Rattle.seats.specs.Scanned.{scanned, emptied};
-ghost use Rattle.seats.specs.Scanning.{start_of, look_of};
+ghost use Rattle.std.specs.Prelude.{◌≡◌};
+ghost use Rattle.seats.specs.Found.{found, Within, put_back, emptied};
 
 use model::Seat;
 
-// What a scan of the seats for a candidate tells: the first place of the candidate, which is the number of seats where there is none, how many
-// records are seats, how many the list has, and the candidate's record. `at` counts the seats that are passed so far, and the scan goes on until
-// it is `end`.
+// How many records are seats: those after this many are none.
+const SEAT_LIMIT: usize = 32;
+
+const EMPTY_SEAT: Seat = Seat {
+    lowest: 0,
+    candidate: 0,
+    marked: 0,
+    reserved: 0,
+};
+
+// A record of the list, and its place.
 #[derive(Clone, Copy)]
-pub struct View {
+pub struct Found {
     pub at: usize,
-    pub end: usize,
-    pub n: usize,
-    pub len: usize,
     pub seat: Seat,
 }
 
-// The smaller of two numbers.
-fn smaller(a: usize, b: usize) -> usize
-    ensures { result ≡ min a b }
+// The first seat of a candidate. The first empty record is that of candidate 0.
+#[tactic(auto, using(crate::proofs::Finds::finds))]
+pub fn find(seats: &[Seat], candidate: u16) -> Option<Found>
+    ensures { result ≡ found candidate seats.now }
 {
-    if a < b {
-        return a;
+    let limit = SEAT_LIMIT.min(seats.len());
+    for (at, &seat) in seats[..limit].iter().enumerate() {
+        if seat.candidate == candidate {
+            return Some(Found { at, seat });
+        }
     }
-    b
+    None
 }
 
-// An empty record.
-fn empty_seat() -> Seat
-    ensures { result ≡ empty_seat }
+// Puts a changed record back at its place, where one is changed.
+#[tactic(auto, unfolding(crate::specs::Found::put_back))]
+pub fn put(seats: &mut [Seat], change: Option<Found>)
+    requires { Within change seats.old }
+    ensures { seats.new ≡ put_back change seats.old }
 {
-    Seat {
-        lowest: 0,
-        candidate: 0,
-        marked: 0,
-        reserved: 0,
-    }
-}
-
-// The view before the first seat is seen.
-fn start(len: usize) -> View
-    ensures { result ≡ start_of len }
-{
-    let n = smaller(32, len);
-    let seat = empty_seat();
-    View {
-        at: 0,
-        end: n,
-        n,
-        len,
-        seat,
-    }
-}
-
-// The view once one more seat is seen: the scan ends at the candidate's, and passes any other.
-fn look(v: View, s: Seat, candidate: u16) -> View
-    requires { v.at < v.end }
-    ensures { result ≡ look_of v s candidate }
-{
-    if s.candidate == candidate {
-        return View {
-            at: v.at,
-            end: v.at,
-            n: v.n,
-            len: v.len,
-            seat: s,
-        };
-    }
-    let seat = v.seat;
-    View {
-        at: v.at + 1,
-        end: v.end,
-        n: v.n,
-        len: v.len,
-        seat,
-    }
-}
-
-// Scans the seats for a candidate, up to the first that is the candidate's. The first empty record is that of candidate 0.
-pub fn scan(seats: &[Seat], candidate: u16) -> View
-    ensures { result ≡ scanned candidate seats.now }
-{
-    let mut v = start(seats.len());
-    while v.at < v.end {
-        v = look(v, seats[v.at], candidate);
-    }
-    v
-}
-
-// Changes the record at a place: beyond the list nothing is changed.
-pub fn put(seats: &mut [Seat], at: usize, s: Seat)
-    ensures { seats.new ≡ set seats.old at s }
-{
-    if at < seats.len() {
-        seats[at] = s;
+    if let Some(Found { at, seat }) = change {
+        seats[at] = seat;
     }
 }
 
@@ -105,11 +52,6 @@ pub fn put(seats: &mut [Seat], at: usize, s: Seat)
 pub fn empty_first(seats: &mut [Seat], count: usize)
     ensures { seats.new ≡ emptied count seats.old }
 {
-    let n = smaller(count, seats.len());
-    let s = empty_seat();
-    let mut k = 0;
-    while k < n {
-        seats[k] = s;
-        k += 1;
-    }
+    let limit = count.min(seats.len());
+    seats[..limit].fill(EMPTY_SEAT);
 }
