@@ -3,4 +3,3 @@ mod Replies
 mod Lowest
 mod Submissions
 mod Openings
-mod LeastBarred

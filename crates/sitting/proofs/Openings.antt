@@ -1,26 +1,23 @@
 -- Opening: its answer, by its tests, its buffers at exit, and its reply.
-use Rattle.std.specs.Prelude.{ℕ, ◌≡◌, refl, Bool, true, false, List, [], length}
-use Rattle.basics.specs.Core.{sym, ap, ◌∙◌, eq-eqb, ne_eqb}
+use Rattle.std.specs.Prelude.{ℕ, ◌≡◌, refl, Bool, true, false, ◌||◌, List, [], length, ltb}
+use Rattle.basics.specs.Core.{sym, ap, ◌∙◌, or-false, eq-eqb, ne_eqb}
 use Rattle.model.specs.declared.Refusal.{Refusal}
 use Rattle.model.specs.declared.Refusal.TheVariants.{BufferTooShort, NotPermitted, AllowanceSpent}
 use Rattle.model.specs.Answers.{Answer}
 use Rattle.std.specs.Prelude.{Ok, Err}
 use Rattle.model.specs.declared.Sitting.{Sitting}
 use Rattle.model.specs.declared.Reply.{Reply}
-use Rattle.model.specs.Instance.{instance_of}
 use Rattle.model.specs.Planners.{exact, planned_cost}
 use Rattle.model.specs.Acts.{open_sitting, allowance_in_range, act_spec}
 use Rattle.model.specs.SittingState.{facts_of, state_of, sitting_after}
-use Rattle.model.specs.Specs.{first_of, at_exit}
-use Rattle.model.specs.Calls.{Call, act_in, spec_of, answer, Accepted, buffers_at_exit, plan_at_exit, work_at_exit}
+use Rattle.model.specs.Specs.{first_of, any_short, at_exit}
+use Rattle.model.specs.Calls.{Call, act_in, check_card, plan_show, spec_of, answer, buffers_at_exit, plan_at_exit, work_at_exit}
 use Rattle.model.specs.Sittings.{answer_to, marked_with, event_with, event_of, told, told_by, reply_with, reply_of}
 use Rattle.laws.specs.OnCard.{on_card_refused, on_card_passed}
-use Rattle.card.specs.Checking.{Checked}
-use Rattle.std.specs.Prelude.{Err}
-use Rattle.card.specs.Checking.{checked_of}
-use Rattle.card.proofs.Groups.{refused_answer}
-use Rattle.planners.specs.PlannerRequires.{short_for}
-use Rattle.planners.proofs.Planning.{PlanWritten, short_is}
+use Rattle.card.specs.declared.Card.{Card}
+use Rattle.card.specs.Shows.{show_of}
+use Rattle.planners.specs.PlannerRequires.{either_short, short_for}
+use Rattle.planners.proofs.Planning.{PlanWritten}
 use Rattle.sitting.specs.declared.OpenOutcome.{OpenOutcome}
 use Rattle.sitting.specs.Seen.{reply_giving, records_emptied, opening_of}
 
@@ -39,41 +36,52 @@ module _ (z : Sitting) (d l : ℕ) (s p w : List ℕ) where
   opening_kept e = (sym e, (rw e, rw e))
 
   -- An opening on a card that is refused is refused with the same number.
-  pub opening_on : {c : Checked} {x : Refusal} → c ≡ checked_of s → c ≡ Err x → Opened (opens z d l s p w) (Err x) p w
+  pub opening_on : {x : Refusal} → answer (check_card s) ≡ Err x → Opened (opens z d l s p w) (Err x) p w
   unfolding answer spec_of act_spec
-  opening_on is e = opening_kept (on_card_refused s _ _ (refused_answer s is e))
+  opening_on e = opening_kept (on_card_refused s _ _ e)
 
-  module _ (given : Accepted s) where
-    module _ {short : Bool} (is : short ≡ short_for exact (instance_of s) (length p) (length w)) where
-      -- A buffer is too short.
-      pub opening_short : short ≡ true → Opened (opens z d l s p w) (Err BufferTooShort) p w
+-- On an accepted card.
+module _ (z : Sitting) (d l : ℕ) (card : Card) (p w : List ℕ) where
+  abbrev o : Call
+  o = opens z d l card.bytes.now p w
+
+  -- The test on the lengths of the buffers is the exact planner's.
+  short_is : any_short (spec_of (plan_show exact card.bytes.now p w)).buffers ≡ short_for exact (show_of card) (length p) (length w)
+  unfolding spec_of any_short either_short
+  short_is = ap (λ (b : Bool). ltb (length p) (show_of card).slots || b) (or-false _)
+
+  module _ {short : Bool} (is : short ≡ short_for exact (show_of card) (length p) (length w)) where
+    -- A buffer is too short.
+    pub opening_short : short ≡ true → Opened o (Err BufferTooShort) p w
+    unfolding answer spec_of act_spec first_of
+    opening_short e = opening_kept _ _ _ _ _ _ (on_card_passed _ _ _ card.accepted ∙ rw (short_is, ← is, e))
+
+    module _ (none : short ≡ false) where
+      -- The caller is not the supervisor.
+      pub opening_barred : (d ≡ 0 → ⊥) → Opened o (Err NotPermitted) p w
       unfolding answer spec_of act_spec first_of
-      opening_short e = opening_kept (on_card_passed s _ _ given ∙ rw (short_is exact s p w, ← is, e))
+      opening_barred by = opening_kept _ _ _ _ _ _ (on_card_passed _ _ _ card.accepted ∙ rw (short_is, ← is, none, ne_eqb d 0 by))
 
-      module _ (none : short ≡ false) where
-        -- The caller is not the supervisor.
-        pub opening_barred : (d ≡ 0 → ⊥) → Opened (opens z d l s p w) (Err NotPermitted) p w
+      module _ (by : d ≡ 0) where
+        -- The allowance is out of range.
+        pub opening_spent : allowance_in_range l ≡ false → Opened o (Err AllowanceSpent) p w
         unfolding answer spec_of act_spec first_of
-        opening_barred by = opening_kept (on_card_passed s _ _ given ∙ rw (short_is exact s p w, ← is, none, ne_eqb d 0 by))
+        opening_spent range =
+            opening_kept _ _ _ _ _ _ (on_card_passed _ _ _ card.accepted ∙ rw (short_is, ← is, none, eq-eqb d 0 by, range))
 
-        module _ (by : d ≡ 0) where
-          -- The allowance is out of range.
-          pub opening_spent : allowance_in_range l ≡ false → Opened (opens z d l s p w) (Err AllowanceSpent) p w
-          unfolding answer spec_of act_spec first_of
-          opening_spent range = opening_kept (on_card_passed s _ _ given ∙ rw (short_is exact s p w, ← is, none, eq-eqb d 0 by, range))
+        -- Where none of them applies, an opening answers the least cost, and leaves what the exact planner does.
+        opening_cost : allowance_in_range l ≡ true → answer o ≡ Ok (planned_cost exact (show_of card))
+        unfolding answer spec_of act_spec first_of
+        opening_cost range = on_card_passed _ _ _ card.accepted ∙ rw (short_is, ← is, none, eq-eqb d 0 by, range)
 
-          -- Where none of them applies, an opening answers the least cost, and leaves what the exact planner does.
-          opening_cost : allowance_in_range l ≡ true → answer (opens z d l s p w) ≡ Ok (planned_cost exact (instance_of s))
-          unfolding answer spec_of act_spec first_of
-          opening_cost range = on_card_passed s _ _ given ∙ rw (short_is exact s p w, ← is, none, eq-eqb d 0 by, range)
+        pub opening_planned :
+            allowance_in_range l ≡ true → {cost : ℕ} {plan work : List ℕ} →
+            PlanWritten exact (show_of card) p w cost plan work → Opened o (Ok cost) plan work
+        unfolding plan_at_exit work_at_exit buffers_at_exit spec_of act_spec at_exit
+        opening_planned range (cost_is, (plan_is, work-is)) =
+            let e = opening_cost range in (ap Ok cost_is ∙ sym e, (plan_is ∙ rw e, work-is ∙ rw e))
 
-          pub opening_planned :
-              allowance_in_range l ≡ true → {cost : ℕ} {plan work : List ℕ} →
-              PlanWritten exact (instance_of s) p w cost plan work → Opened (opens z d l s p w) (Ok cost) plan work
-          unfolding plan_at_exit work_at_exit buffers_at_exit spec_of act_spec at_exit
-          opening_planned range (cost_is, (plan_is, work-is)) =
-              let e = opening_cost range in (ap Ok cost_is ∙ sym e, (plan_is ∙ rw e, work-is ∙ rw e))
-
+module _ (z : Sitting) (d l : ℕ) (s p w : List ℕ) where
   -- The answer of the call is that of the facts.
   same_answer : answer (opens z d l s p w) ≡ answer_to (facts_of (state_of z [])) (open_sitting d l s p w)
   unfolding answer spec_of answer_to

@@ -9,7 +9,7 @@ use Rattle.model.specs.Acts.{Act, open_sitting, nothing_done, opening_done, act_
 use Rattle.model.specs.SittingState.{seats_of, beyond_seats, empty_seat, seats_after}
 use Rattle.model.specs.Calls.{act_in, spec_of, answer, buffers_at_exit, plan_at_exit, work_at_exit}
 use Rattle.model.specs.Sittings.{answer_to, event_with, event_of, told, told_by, reply_of, seats_at_exit}
-use Rattle.seats.specs.Scanned.{emptied}
+use Rattle.seats.specs.Found.{emptied}
 use Rattle.sitting.specs.Seen.{records_emptied, opening_of}
 
 -- The images under a function that is x all over are x, as many times.

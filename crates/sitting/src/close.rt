@@ -4,6 +4,7 @@ ghost use Rattle.model.specs.Acts.{close_sitting};
 ghost use Rattle.model.specs.SittingState.{facts_of, state_of};
 ghost use Rattle.model.specs.Sittings.{answer_to, reply_of};
 
+use crate::Phase;
 use model::{Answer, Refusal, Reply, Sitting};
 
 // The answer to closing: refusal 15.
@@ -13,10 +14,10 @@ fn answer_closing(sitting: Sitting, caller: u16) -> Answer
     if caller != 0 {
         return Err(Refusal::NotPermitted);
     }
-    if sitting.state != 1 {
-        return Err(Refusal::NotPermitted);
+    match crate::phase_of(sitting) {
+        Phase::Open => Ok(0),
+        _ => Err(Refusal::NotPermitted),
     }
-    Ok(0)
 }
 
 // Closes a sitting.
@@ -25,14 +26,13 @@ pub fn closing(sitting: Sitting, caller: u16) -> Reply
 {
     match answer_closing(sitting, caller) {
         Err(x) => crate::reply_giving(Err(x), 0, sitting),
-        Ok(cost) => {
-            let closed = Sitting {
+        Ok(cost) => crate::reply_giving(
+            Ok(cost),
+            0,
+            Sitting {
                 state: 2,
-                allowance: sitting.allowance,
-                submissions: sitting.submissions,
-                least: sitting.least,
-            };
-            crate::reply_giving(Ok(cost), 0, closed)
-        }
+                ..sitting
+            },
+        ),
     }
 }

@@ -1,14 +1,14 @@
 // The rules of a sitting (document 02, §4), decided on plain numbers: what each act answers, which record of the list of seats it changes
-// and how, and the sitting that it gives back. The list itself is lent to the crates around this one. In a sitting's field `state`, 1
-// stands for open and 2 for closed.
+// and how, and the sitting that it gives back. The list itself is lent to the crates around this one.
 #![tactic(auto)]
 
 ghost use Rattle.std.specs.Prelude.{◌≡◌};
-ghost use Rattle.model.specs.Acts.{is_unopened};
 ghost use Rattle.model.specs.SittingState.{phase_of};
+ghost use Rattle.sitting.specs.Phases.{phase_meant};
 ghost use Rattle.sitting.specs.Seen.{reply_giving, unchanged_of};
 
-use model::{Answer, Refusal, Reply, Seat, Sitting};
+use model::{Answer, Refusal, Reply, Sitting};
+use seats::Found;
 
 mod close;
 mod open;
@@ -22,12 +22,10 @@ pub use read::{reading_least, reading_lowest, reading_used};
 pub use seat::seating;
 pub use submit::submitting;
 
-// What an act that may change the list of seats does: the place of a record, what it becomes, and the reply. Where no record changes, the
-// place is the length of the list.
+// What an act that may change the list of seats does: a record as it becomes, at its place, where one changes, and the reply.
 #[derive(Clone, Copy)]
 pub struct Outcome {
-    pub at: usize,
-    pub seat: Seat,
+    pub change: Option<Found>,
     pub reply: Reply,
 }
 
@@ -36,6 +34,25 @@ pub struct Outcome {
 pub struct OpenOutcome {
     pub emptied: usize,
     pub reply: Reply,
+}
+
+// What a sitting's field `state` stands for.
+#[derive(Clone, Copy)]
+enum Phase {
+    Unopened,
+    Open,
+    Closed,
+}
+
+// The phase of a sitting.
+fn phase_of(sitting: Sitting) -> Phase
+    ensures { phase_meant result ≡ phase_of sitting.state }
+{
+    match sitting.state {
+        1 => Phase::Open,
+        2 => Phase::Closed,
+        _ => Phase::Unopened,
+    }
 }
 
 // The reply with an answer.
@@ -58,30 +75,12 @@ fn reply_giving(answer: Answer, marked: u64, sitting: Sitting) -> Reply
     }
 }
 
-// Whether a sitting counts as unopened.
-fn is_unopened(sitting: Sitting) -> bool
-    ensures { result ≡ is_unopened (phase_of sitting.state) }
-{
-    if sitting.state == 1 {
-        return false;
-    }
-    sitting.state != 2
-}
-
 // A refused act: it changes no record, and gives back the sitting that is given here.
-fn unchanged(len: usize, x: Refusal, sitting: Sitting) -> Outcome
-    ensures { result ≡ unchanged_of len x sitting }
+fn unchanged(x: Refusal, sitting: Sitting) -> Outcome
+    ensures { result ≡ unchanged_of x sitting }
 {
-    let seat = Seat {
-        lowest: 0,
-        candidate: 0,
-        marked: 0,
-        reserved: 0,
-    };
-    let reply = reply_giving(Err(x), 0, sitting);
     Outcome {
-        at: len,
-        seat,
-        reply,
+        change: None,
+        reply: reply_giving(Err(x), 0, sitting),
     }
 }

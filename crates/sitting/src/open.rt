@@ -2,52 +2,20 @@
 ghost use Rattle.std.specs.Prelude.{◌≡◌, []};
 ghost use Rattle.model.specs.Acts.{open_sitting, allowance_in_range};
 ghost use Rattle.model.specs.Calls.{act_in, answer, plan_at_exit, work_at_exit};
-ghost use Rattle.card.specs.Checking.{Ready};
 ghost use Rattle.sitting.specs.Seen.{opening_of};
 
 use crate::OpenOutcome;
-use card::Header;
 use model::{Answer, Refusal, Sitting};
-use planners::PlannerKind;
+use planners::Exact;
 
 // Whether an allowance is from 1 to 1,000.
 fn allowance_in_range(allowance: u64) -> bool
     ensures { result ≡ allowance_in_range allowance }
 {
-    if allowance < 1 {
-        return false;
-    }
-    allowance <= 1000
+    (1..=1000).contains(&allowance)
 }
 
-// The answer to an opening on an accepted card: refusals 10, 15 and 17, and then as the exact planner.
-fn answer_opening_on(
-    sitting: Sitting,
-    caller: u16,
-    allowance: u64,
-    card: &[u8],
-    h: Header,
-    plan: &mut [u8],
-    work: &mut [u8],
-) -> Answer
-    requires { Ready card.now h }
-    ensures value { result ≡ answer (act_in sitting [] (open_sitting caller allowance card.now plan.old work.old)) }
-    ensures plan_after { plan.new ≡ plan_at_exit (act_in sitting [] (open_sitting caller allowance card.now plan.old work.old)) }
-    ensures work_after { work.new ≡ work_at_exit (act_in sitting [] (open_sitting caller allowance card.now plan.old work.old)) }
-{
-    if planners::short_for(PlannerKind::Exact, card, h, plan.len(), work.len()) {
-        return Err(Refusal::BufferTooShort);
-    }
-    if caller != 0 {
-        return Err(Refusal::NotPermitted);
-    }
-    if !allowance_in_range(allowance) {
-        return Err(Refusal::AllowanceSpent);
-    }
-    Ok(planners::plan_by(PlannerKind::Exact, card, h, plan, work))
-}
-
-// The answer to an opening: refusals 1 to 8, and then those on an accepted card.
+// The answer to an opening: refusals 1 to 8, 10, 15 and 17, and then as the exact planner.
 fn answer_opening(
     sitting: Sitting,
     caller: u16,
@@ -60,10 +28,17 @@ fn answer_opening(
     ensures plan_after { plan.new ≡ plan_at_exit (act_in sitting [] (open_sitting caller allowance card.now plan.old work.old)) }
     ensures work_after { work.new ≡ work_at_exit (act_in sitting [] (open_sitting caller allowance card.now plan.old work.old)) }
 {
-    match card::check(card) {
-        Ok(h) => answer_opening_on(sitting, caller, allowance, card, h, plan, work),
-        Err(x) => Err(x),
+    let card = card::check(card)?;
+    if planners::short_for(&Exact, &card, plan.len(), work.len()) {
+        return Err(Refusal::BufferTooShort);
     }
+    if caller != 0 {
+        return Err(Refusal::NotPermitted);
+    }
+    if !allowance_in_range(allowance) {
+        return Err(Refusal::AllowanceSpent);
+    }
+    Ok(planners::plan_by(&Exact, &card, plan, work))
 }
 
 // Opens a sitting: the plan and the work area are left as the exact planner leaves them, and the records to empty are the seats.

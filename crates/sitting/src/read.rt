@@ -3,33 +3,27 @@ ghost use Rattle.std.specs.Prelude.{◌≡◌, []};
 ghost use Rattle.model.specs.Acts.{read_least, read_lowest, read_used, reads_lowest};
 ghost use Rattle.model.specs.SittingState.{facts_of, state_of};
 ghost use Rattle.model.specs.Sittings.{answer_to, reply_of};
-ghost use Rattle.sitting.specs.Seen.{seen, unseated, reply_seen};
+ghost use Rattle.sitting.specs.Seen.{seen, reply_seen};
 
+use crate::Phase;
 use model::{Answer, Refusal, Reply, Sitting};
-use seats::View;
+use seats::Found;
 
-// The answer to reading the least cost, by a view for the caller: refusals 15 and 16.
-#[tactic(auto, using(crate::proofs::LeastBarred::least_barred))]
-fn answer_least(sitting: Sitting, caller: u16, v: View) -> Answer
+// The answer to reading the least cost, by what is found for the caller: refusals 15 and 16.
+fn answer_least(sitting: Sitting, caller: u16, v: Option<Found>) -> Answer
     ensures { result ≡ answer_to (seen sitting v v) (read_least caller) }
 {
-    if crate::is_unopened(sitting) {
-        return Err(Refusal::NotPermitted);
+    match crate::phase_of(sitting) {
+        Phase::Unopened => Err(Refusal::NotPermitted),
+        _ if caller == 0 => Ok(sitting.least),
+        Phase::Open => Err(Refusal::NotPermitted),
+        Phase::Closed if v.is_none() => Err(Refusal::SeatUnavailable),
+        Phase::Closed => Ok(sitting.least),
     }
-    if caller == 0 {
-        return Ok(sitting.least);
-    }
-    if sitting.state != 2 {
-        return Err(Refusal::NotPermitted);
-    }
-    if v.n <= v.at {
-        return Err(Refusal::SeatUnavailable);
-    }
-    Ok(sitting.least)
 }
 
-// Reads the least cost, by a view for the caller.
-pub fn reading_least(sitting: Sitting, caller: u16, v: View) -> Reply
+// Reads the least cost, by what is found for the caller.
+pub fn reading_least(sitting: Sitting, caller: u16, v: Option<Found>) -> Reply
     ensures { result ≡ reply_seen sitting v v (read_least caller) }
 {
     crate::reply_giving(answer_least(sitting, caller, v), 0, sitting)
@@ -39,36 +33,26 @@ pub fn reading_least(sitting: Sitting, caller: u16, v: View) -> Reply
 fn may_read_lowest(sitting: Sitting, caller: u16, candidate: u16) -> bool
     ensures { result ≡ reads_lowest (facts_of (state_of sitting [])) caller candidate }
 {
-    if crate::is_unopened(sitting) {
-        return false;
+    match crate::phase_of(sitting) {
+        Phase::Unopened => false,
+        _ => caller == 0 || caller == candidate,
     }
-    if caller == 0 {
-        return true;
-    }
-    caller == candidate
 }
 
-// Whether a number names no seat, by a view for this number: it is 0, or unknown.
-fn no_seat(candidate: u16, v: View) -> bool
-    ensures { result ≡ unseated v candidate }
-{
-    if candidate == 0 {
-        return true;
-    }
-    !(v.at < v.n)
-}
-
-// Reads a candidate's lowest cost, by a view for this candidate: refusals 15 and 16.
-pub fn reading_lowest(sitting: Sitting, caller: u16, candidate: u16, v: View) -> Reply
+// Reads a candidate's lowest cost, by what is found for this candidate: refusals 15 and 16.
+pub fn reading_lowest(sitting: Sitting, caller: u16, candidate: u16, v: Option<Found>) -> Reply
     ensures { result ≡ reply_seen sitting v v (read_lowest caller candidate) }
 {
     if !may_read_lowest(sitting, caller, candidate) {
         return crate::reply_giving(Err(Refusal::NotPermitted), 0, sitting);
     }
-    if no_seat(candidate, v) {
+    if candidate == 0 {
         return crate::reply_giving(Err(Refusal::SeatUnavailable), 0, sitting);
     }
-    let seat = v.seat;
+    let Some(record) = v else {
+        return crate::reply_giving(Err(Refusal::SeatUnavailable), 0, sitting);
+    };
+    let seat = record.seat;
     if seat.marked == 0 {
         return crate::reply_giving(Ok(0), 0, sitting);
     }
@@ -82,10 +66,10 @@ fn answer_used(sitting: Sitting, caller: u16) -> Answer
     if caller != 0 {
         return Err(Refusal::NotPermitted);
     }
-    if crate::is_unopened(sitting) {
-        return Err(Refusal::NotPermitted);
+    match crate::phase_of(sitting) {
+        Phase::Unopened => Err(Refusal::NotPermitted),
+        _ => Ok(sitting.submissions),
     }
-    Ok(sitting.submissions)
 }
 
 // Reads the submissions used.

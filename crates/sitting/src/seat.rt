@@ -1,50 +1,58 @@
 // Seating a candidate: refusals 15 and 16.
-ghost use Rattle.std.specs.Prelude.{◌≡◌};
+ghost use Rattle.std.specs.Prelude.{◌≡◌, MatchResult};
 ghost use Rattle.model.specs.Acts.{seat_candidate};
 ghost use Rattle.model.specs.Sittings.{answer_to};
 ghost use Rattle.sitting.specs.Seen.{seen, outcome_of};
 
-use crate::Outcome;
-use model::{Answer, Refusal, Seat, Sitting};
-use seats::View;
+use crate::{Outcome, Phase};
+use model::{Refusal, Seat, Sitting};
+use seats::Found;
 
-// The answer to the seating of a candidate, by a view for this candidate and one for an empty record: refusals 15 and 16.
-fn answer_seating(sitting: Sitting, caller: u16, candidate: u16, v: View, empty: View) -> Answer
-    ensures { result ≡ answer_to (seen sitting v empty) (seat_candidate caller candidate) }
+// The empty record that a candidate is seated in, by what is found for this candidate and for an empty record: refusals 15 and 16.
+fn record_for(
+    sitting: Sitting,
+    caller: u16,
+    candidate: u16,
+    v: Option<Found>,
+    empty: Option<Found>,
+) -> Result<Found, Refusal>
+    ensures { MatchResult result (λ r. (empty ≡ Some r) × (answer_to (seen sitting v empty) (seat_candidate caller candidate) ≡ Ok 0)) (λ x. answer_to (seen sitting v empty) (seat_candidate caller candidate) ≡ Err x) }
 {
     if caller != 0 {
         return Err(Refusal::NotPermitted);
     }
-    if sitting.state != 1 {
+    let Phase::Open = crate::phase_of(sitting) else {
         return Err(Refusal::NotPermitted);
-    }
-    if candidate == 0 {
+    };
+    if candidate == 0 || v.is_some() {
         return Err(Refusal::SeatUnavailable);
     }
-    if v.at < v.n {
-        return Err(Refusal::SeatUnavailable);
-    }
-    if empty.n <= empty.at {
-        return Err(Refusal::SeatUnavailable);
-    }
-    Ok(0)
+    empty.ok_or(Refusal::SeatUnavailable)
 }
 
-// Seats a candidate, by a view for this candidate and one for an empty record.
-pub fn seating(sitting: Sitting, caller: u16, candidate: u16, v: View, empty: View) -> Outcome
+// Seats a candidate, by what is found for this candidate and for an empty record.
+pub fn seating(
+    sitting: Sitting,
+    caller: u16,
+    candidate: u16,
+    v: Option<Found>,
+    empty: Option<Found>,
+) -> Outcome
     ensures { result ≡ outcome_of sitting v empty (seat_candidate caller candidate) }
 {
-    match answer_seating(sitting, caller, candidate, v, empty) {
-        Err(x) => crate::unchanged(v.len, x, sitting),
-        Ok(cost) => Outcome {
-            at: empty.at,
-            seat: Seat {
+    match record_for(sitting, caller, candidate, v, empty) {
+        Err(x) => crate::unchanged(x, sitting),
+        Ok(record) => {
+            let seat = Seat {
                 lowest: 0,
                 candidate,
                 marked: 0,
                 reserved: 0,
-            },
-            reply: crate::reply_giving(Ok(cost), 0, sitting),
-        },
+            };
+            Outcome {
+                change: Some(Found { seat, ..record }),
+                reply: crate::reply_giving(Ok(0), 0, sitting),
+            }
+        }
     }
 }

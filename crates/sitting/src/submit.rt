@@ -1,124 +1,82 @@
 // Submitting a sheet: refusals 1 to 8, 15 to 17, and then as marking.
-ghost use Rattle.std.specs.Prelude.{◌≡◌};
+ghost use Rattle.std.specs.Prelude.{◌≡◌, MatchResult};
 ghost use Rattle.model.specs.Acts.{submit_sheet};
 ghost use Rattle.model.specs.SittingState.{marked_record};
-ghost use Rattle.card.specs.Checking.{Ready};
-ghost use Rattle.sitting.specs.Seen.{outcome_of, with_submissions, Uncounted, Answered};
+ghost use Rattle.sitting.specs.Seen.{outcome_of, Admitted, Barred};
 
-use crate::Outcome;
-use card::Header;
-use model::{Answer, Refusal, Seat, Sitting};
-use seats::View;
+use crate::{Outcome, Phase};
+use card::Card;
+use model::{Refusal, Seat, Sitting};
+use seats::Found;
 
-// How a submission is answered, and the submissions used after it.
-#[derive(Clone, Copy)]
-struct Submission {
-    pub answer: Answer,
-    pub submissions: u64,
-}
-
-// A submission that is refused and does not count.
-fn uncounted(x: Refusal, sitting: Sitting) -> Submission
-    ensures { Uncounted x sitting result.answer result.submissions }
-{
-    Submission {
-        answer: Err(x),
-        submissions: sitting.submissions,
-    }
-}
-
-// The answer to a submission on an accepted card, by a view for the caller: refusals 15, 16 and 17, and then as marking. The submission
-// counts from there on.
-fn answer_on(
+// The accepted card and the caller's record for a submission that counts, by what is found for the caller: refusals 1 to 8, 15, 16 and 17, by
+// which a submission does not count.
+fn admitted(
     sitting: Sitting,
     caller: u16,
-    v: View,
+    v: Option<Found>,
     card: &[u8],
-    h: Header,
-    sheet: &[u8],
-) -> Submission
-    requires { Ready card.now h }
-    ensures { Answered sitting v (submit_sheet caller card.now sheet.now) result.answer result.submissions }
+) -> Result<(Card<'_>, Found), Refusal>
+    ensures { MatchResult result (λ r. Admitted sitting v caller card.now r.0.bytes.now r.1) (λ x. Barred sitting v caller card.now x) }
 {
+    let card = card::check(card)?;
     if caller == 0 {
-        return uncounted(Refusal::NotPermitted, sitting);
+        return Err(Refusal::NotPermitted);
     }
-    if sitting.state != 1 {
-        return uncounted(Refusal::NotPermitted, sitting);
-    }
-    if v.n <= v.at {
-        return uncounted(Refusal::SeatUnavailable, sitting);
-    }
+    let Phase::Open = crate::phase_of(sitting) else {
+        return Err(Refusal::NotPermitted);
+    };
+    let Some(record) = v else {
+        return Err(Refusal::SeatUnavailable);
+    };
     if sitting.allowance <= sitting.submissions {
-        return uncounted(Refusal::AllowanceSpent, sitting);
+        return Err(Refusal::AllowanceSpent);
     }
-    let answer = calls::mark_sheet_on(card, h, sheet);
-    let counted = sitting.submissions + 1;
-    Submission {
-        answer,
-        submissions: counted,
-    }
-}
-
-// The answer to a submission: refusals 1 to 8, and then those on an accepted card.
-fn answer_submission(
-    sitting: Sitting,
-    caller: u16,
-    v: View,
-    card: &[u8],
-    sheet: &[u8],
-) -> Submission
-    ensures { Answered sitting v (submit_sheet caller card.now sheet.now) result.answer result.submissions }
-{
-    match card::check(card) {
-        Ok(h) => answer_on(sitting, caller, v, card, h, sheet),
-        Err(x) => uncounted(x, sitting),
-    }
+    Ok((card, record))
 }
 
 // A record once a sheet of its candidate is marked with a cost.
 fn lowered(s: Seat, cost: u64) -> Seat
     ensures { result ≡ marked_record cost s }
 {
-    let mut lowest = cost;
-    if s.marked != 0 {
-        if s.lowest < cost {
-            lowest = s.lowest;
-        }
-    }
+    let lowest = match s.marked {
+        0 => cost,
+        _ => s.lowest.min(cost),
+    };
     Seat {
         lowest,
-        candidate: s.candidate,
         marked: 1,
-        reserved: s.reserved,
+        ..s
     }
 }
 
-// The sitting with another number of submissions used.
-fn with_submissions(sitting: Sitting, submissions: u64) -> Sitting
-    ensures { result ≡ with_submissions sitting submissions }
-{
-    Sitting {
-        state: sitting.state,
-        allowance: sitting.allowance,
-        submissions,
-        least: sitting.least,
-    }
-}
-
-// Marks a sheet of a candidate, by a view for the caller.
-pub fn submitting(sitting: Sitting, caller: u16, v: View, card: &[u8], sheet: &[u8]) -> Outcome
+// Marks a sheet of a candidate, by what is found for the caller.
+pub fn submitting(
+    sitting: Sitting,
+    caller: u16,
+    v: Option<Found>,
+    card: &[u8],
+    sheet: &[u8],
+) -> Outcome
     ensures { result ≡ outcome_of sitting v v (submit_sheet caller card.now sheet.now) }
 {
-    let submission = answer_submission(sitting, caller, v, card, sheet);
-    let after = with_submissions(sitting, submission.submissions);
-    let answer = submission.answer;
-    match answer {
-        Err(x) => crate::unchanged(v.len, x, after),
-        Ok(cost) => Outcome {
-            at: v.at,
-            seat: lowered(v.seat, cost),
-            reply: crate::reply_giving(Ok(cost), 0, after),
-        },
+    let (card, record) = match admitted(sitting, caller, v, card) {
+        Err(x) => return crate::unchanged(x, sitting),
+        Ok(given) => given,
+    };
+    let submissions = sitting.submissions + 1;
+    let counted = Sitting {
+        submissions,
+        ..sitting
+    };
+    match calls::mark_sheet_on(&card, sheet) {
+        Err(x) => crate::unchanged(x, counted),
+        Ok(cost) => {
+            let seat = lowered(record.seat, cost);
+            Outcome {
+                change: Some(Found { seat, ..record }),
+                reply: crate::reply_giving(Ok(cost), 0, counted),
+            }
+        }
     }
 }

@@ -2,17 +2,17 @@ use Rattle.basics.specs.Core.{eq-eqb, ne_eqb}
 use Rattle.model.specs.Acts.{act_spec}
 use Rattle.model.specs.Specs.{first_of}
 use Rattle.model.specs.Sittings.{answer_to}
-use Rattle.sitting.proofs.Phases.{open_phase}
+use Rattle.sitting.proofs.Phases.{when_open, unless_open}
 use Rattle.sitting.proofs.close.answer_closing.Goals as goal
 
 pub returns-then-caller-ne0 : goal.returns-then-caller-ne0
 unfolding answer_to act_spec first_of
 returns-then-caller-ne0 c = search ne_eqb
 
-pub returns-then-sitting-ne1 : goal.returns-then-sitting-ne1
+pub returns-in-Open : goal.returns-in-Open
 unfolding answer_to act_spec first_of
-returns-then-sitting-ne1 c = search (eq-eqb, ne_eqb, ← open_phase)
+returns-in-Open c = search (eq-eqb, when_open _ _ c.phase_of.ensures c.in-Open.is)
 
-pub returns : goal.returns
+pub returns-in_default : goal.returns-in_default
 unfolding answer_to act_spec first_of
-returns c = search (eq-eqb, ← open_phase)
+returns-in_default c = search (eq-eqb, unless_open _ _ c.phase_of.ensures c.in_default.not-Open)

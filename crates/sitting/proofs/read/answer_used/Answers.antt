@@ -2,16 +2,17 @@ use Rattle.basics.specs.Core.{eq-eqb, ne_eqb}
 use Rattle.model.specs.Acts.{act_spec}
 use Rattle.model.specs.Specs.{first_of}
 use Rattle.model.specs.Sittings.{answer_to}
+use Rattle.sitting.proofs.Phases.{when_unopened, unless_unopened}
 use Rattle.sitting.proofs.read.answer_used.Goals as goal
 
 pub returns-then-caller-ne0 : goal.returns-then-caller-ne0
 unfolding answer_to act_spec first_of
 returns-then-caller-ne0 c = search ne_eqb
 
-pub returns-then-is_unopened : goal.returns-then-is_unopened
+pub returns-in-Unopened : goal.returns-in-Unopened
 unfolding answer_to act_spec first_of
-returns-then-is_unopened c = search (eq-eqb, ← c.is_unopened.ensures, c.if-is_unopened.true)
+returns-in-Unopened c = search (eq-eqb, when_unopened _ _ c.phase_of.ensures c.in-Unopened.is)
 
-pub returns : goal.returns
+pub returns-in_default : goal.returns-in_default
 unfolding answer_to act_spec first_of
-returns c = search (eq-eqb, ← c.is_unopened.ensures, c.if-is_unopened.false)
+returns-in_default c = search (eq-eqb, unless_unopened _ _ c.phase_of.ensures c.in_default.not-Unopened)

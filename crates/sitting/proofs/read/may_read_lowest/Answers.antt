@@ -1,11 +1,12 @@
 use Rattle.basics.specs.Core.{eq-eqb, ne_eqb}
+use Rattle.sitting.proofs.Phases.{when_unopened, unless_unopened}
 use Rattle.sitting.proofs.read.may_read_lowest.Goals as goal
 
-pub returns-then-is_unopened : goal.returns-then-is_unopened
-returns-then-is_unopened c = search (← c.is_unopened.ensures, c.if-is_unopened.true)
+pub returns-in-Unopened : goal.returns-in-Unopened
+returns-in-Unopened c = search (when_unopened _ _ c.phase_of.ensures c.in-Unopened.is)
 
 pub returns-then-caller-eq0 : goal.returns-then-caller-eq0
-returns-then-caller-eq0 c = search (eq-eqb, ← c.is_unopened.ensures, c.if-is_unopened.false)
+returns-then-caller-eq0 c = search (eq-eqb, unless_unopened _ _ c.phase_of.ensures c.in_default.not-Unopened)
 
-pub returns : goal.returns
-returns c = search (ne_eqb, ← c.is_unopened.ensures, c.if-is_unopened.false)
+pub returns-else-caller-eq0 : goal.returns-else-caller-eq0
+returns-else-caller-eq0 c = search (ne_eqb, unless_unopened _ _ c.phase_of.ensures c.in_default.not-Unopened)
