@@ -1,5 +1,5 @@
 -- The first record of a candidate in the list of seats, the list once a record is put back, and the list whose first records are emptied.
-use Rattle.std.specs.Prelude.{ℕ, ◌<◌, cond, Option, Some, None, IfSome, List, ◌++◌, length, get_or, set, take, drop, replicate}
+use Rattle.std.specs.Prelude.{ℕ, ◌<◌, cond, Option, Some, None, List, ◌++◌, length, get_or, set, take, drop, replicate}
 use Rattle.basics.specs.FirstPlace.{occurs, first_place}
 use Rattle.model.specs.declared.Seat.{Seat}
 use Rattle.model.specs.SittingState.{seats_of, is_of, empty_seat}
@@ -12,11 +12,7 @@ found c xs =
     (Some (record { at = first_place (is_of c) (seats_of xs); seat = get_or (seats_of xs) (first_place (is_of c) (seats_of xs)) empty_seat }))
     None
 
--- Where there is a record, its place is one of the list.
-abbrev pub Within : Option Found → List Seat → Type 0
-Within change xs = IfSome change (λ r. r.at < length xs)
-
--- The list with a record put back at its place, or as it is where there is none.
+-- The list with a record put back at its place, or as it is where there is no record, or its place is beyond the list.
 unfoldable pub put_back : Option Found → List Seat → List Seat
 put_back None xs = xs
 put_back (Some r) xs = set xs r.at r.seat

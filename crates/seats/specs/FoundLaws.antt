@@ -7,7 +7,7 @@ use Rattle.basics.specs.Numbers.{true_or_false}
 use Rattle.basics.specs.FirstPlace.{occurs, first_place, place_inside, place_beyond}
 use Rattle.model.specs.declared.Seat.{Seat}
 use Rattle.model.specs.SittingState.{seat_limit, seats_of, is_of, empty_seat}
-use Rattle.seats.specs.Found.{found, Within, emptied}
+use Rattle.seats.specs.Found.{found, emptied}
 
 module _ (f : Seat → Bool) (d : Seat) where
   -- At each element before the first place the test fails, and there it holds.
@@ -81,16 +81,6 @@ module _ (c : ℕ) (xs : List Seat) where
       ⊎_elim
       (λ (y : occurs (is_of c) (seats_of xs) ≡ true). absurd (omega (arith, upto, h, place_inside (is_of c) (seats_of xs) y)))
       (λ (n : occurs (is_of c) (seats_of xs) ≡ false). rw n refl)
-      (true_or_false (occurs (is_of c) (seats_of xs)))
-
-  -- What is found is at a place of the list.
-  pub found_within : Within (found c xs) xs
-  unfolding found
-  found_within =
-      ⊎_elim
-      (λ (y : occurs (is_of c) (seats_of xs) ≡ true).
-      rw y (omega (arith, place_inside (is_of c) (seats_of xs) y, length-take seat_limit xs, min-le_right seat_limit (length xs))))
-      (λ (n : occurs (is_of c) (seats_of xs) ≡ false). rw n tt)
       (true_or_false (occurs (is_of c) (seats_of xs)))
 
 -- Nothing is emptied before the first record, and one record more is emptied by setting it.

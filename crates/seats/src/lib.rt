@@ -2,7 +2,7 @@
 #![tactic(auto)]
 
 ghost use Rattle.std.specs.Prelude.{◌≡◌};
-ghost use Rattle.seats.specs.Found.{found, Within, put_back, emptied};
+ghost use Rattle.seats.specs.Found.{found, put_back, emptied};
 
 use model::Seat;
 
@@ -37,14 +37,15 @@ pub fn find(seats: &[Seat], candidate: u16) -> Option<Found>
     None
 }
 
-// Puts a changed record back at its place, where one is changed.
+// Puts a changed record back at its place, where one is changed: beyond the list nothing is.
 #[tactic(auto, unfolding(crate::specs::Found::put_back))]
 pub fn put(seats: &mut [Seat], change: Option<Found>)
-    requires { Within change seats.old }
     ensures { seats.new ≡ put_back change seats.old }
 {
     if let Some(Found { at, seat }) = change {
-        seats[at] = seat;
+        if at < seats.len() {
+            seats[at] = seat;
+        }
     }
 }
 

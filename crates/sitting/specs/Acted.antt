@@ -17,7 +17,7 @@ use Rattle.model.specs.Sittings.{answer_to, event_with, event_of, event_in, told
 use Rattle.laws.specs.FirstRefusal.{none_applies}
 use Rattle.laws.specs.SittingLaws.{submitted_seated, concerned, AgreeAt, events_agree, told_agree, refused_does}
 use Rattle.seats.specs.declared.Found.{Found}
-use Rattle.seats.specs.Found.{found, Within, put_back}
+use Rattle.seats.specs.Found.{found, put_back}
 use Rattle.sitting.specs.Seen.{record_of, seen, changed, change_for, event_seen, reply_seen, outcome_of}
 
 module _ (c : ℕ) (xs : List Seat) where
@@ -147,23 +147,3 @@ module _ (z : Sitting) (xs : List Seat) where
   unfolding event_of act_spec
   submission_acts d card sheet w =
       acts w (submit_sheet d card sheet) (submission_shown z xs d card sheet w) (submission_put z xs d card sheet w _ refl)
-
--- A record that is found and changed keeps its place.
-changed_within : (g : Seat → Seat) (r : Option Found) (xs : List Seat) → Within r xs → Within (changed g r) xs
-changed_within g None xs h = h
-changed_within g (Some r) xs h = h
-
--- An act changes a record at a place of the list, where what is found is at places of it.
-module _ (xs : List Seat) (v w : Option Found) (here : Within v xs) (there : Within w xs) where
-  event_within : (e : Event) → Within (change_for v w e) xs
-  unfolding change_for
-  event_within nothing_done = tt
-  event_within (opening_done b n) = tt
-  event_within (seating_done c) = changed_within (seated_record c) w xs there
-  event_within closing_done = tt
-  event_within submission_counted = tt
-  event_within (submission_marked c n) = changed_within (marked_record n) v xs here
-
-  pub outcome_within : (z : Sitting) (a : Act) → Within (outcome_of z v w a).change xs
-  unfolding outcome_of
-  outcome_within z a = event_within (event_seen z v w a)

@@ -67,7 +67,7 @@ fn reply_giving(answer: Answer, marked: u64, sitting: Sitting) -> Reply
             sitting,
         },
         Err(x) => Reply {
-            number: model::refusal_number(x),
+            number: u64::from(x),
             cost: 0,
             marked: 0,
             sitting,
