@@ -176,10 +176,9 @@ pub extern "C" fn lamp_sitting_open(
     ensures own_sheet { OwnSheet card.now plan.new result.number result.cost }
     ensures least { AtMostTimes 1 card.now result.number result.cost }
 {
-    let o = sitting::opening(sitting, caller, allowance, card, plan, work);
-    let n = o.emptied;
-    seats::empty_first(seats, n);
-    o.reply
+    let outcome = sitting::opening(sitting, caller, allowance, card, plan, work);
+    seats::empty_first(seats, outcome.emptied);
+    outcome.reply
 }
 
 // Seats a candidate in the first empty record: refusals 15 and 16.
@@ -193,13 +192,11 @@ pub extern "C" fn lamp_sitting_seat(
     ensures outcome { result ≡ reply_of sitting seats.old (seat_candidate caller candidate) }
     ensures seats { seats.new ≡ seats_at_exit sitting seats.old (seat_candidate caller candidate) }
 {
-    let v = seats::scan(seats, candidate);
-    let empty = seats::scan(seats, 0);
-    let o = sitting::seating(sitting, caller, candidate, v, empty);
-    let at = o.at;
-    let seat = o.seat;
-    seats::put(seats, at, seat);
-    o.reply
+    let found = seats::find(seats, candidate);
+    let empty = seats::find(seats, 0);
+    let outcome = sitting::seating(sitting, caller, candidate, found, empty);
+    seats::put(seats, outcome.change);
+    outcome.reply
 }
 
 // Closes a sitting: refusal 15.
@@ -222,12 +219,10 @@ pub extern "C" fn lamp_sitting_submit(
     ensures outcome { result ≡ reply_of sitting seats.old (submit_sheet caller card.now sheet.now) }
     ensures seats { seats.new ≡ seats_at_exit sitting seats.old (submit_sheet caller card.now sheet.now) }
 {
-    let v = seats::scan(seats, caller);
-    let o = sitting::submitting(sitting, caller, v, card, sheet);
-    let at = o.at;
-    let seat = o.seat;
-    seats::put(seats, at, seat);
-    o.reply
+    let found = seats::find(seats, caller);
+    let outcome = sitting::submitting(sitting, caller, found, card, sheet);
+    seats::put(seats, outcome.change);
+    outcome.reply
 }
 
 // The least cost of the sitting's card: refusals 15 and 16.
@@ -236,8 +231,8 @@ pub extern "C" fn lamp_sitting_least(sitting: Sitting, caller: u16, seats: &[Sea
     ensures outcome { result ≡ reply_of sitting seats.now (read_least caller) }
     ensures hidden { HiddenTillClosed sitting caller result }
 {
-    let v = seats::scan(seats, caller);
-    sitting::reading_least(sitting, caller, v)
+    let found = seats::find(seats, caller);
+    sitting::reading_least(sitting, caller, found)
 }
 
 // A candidate's lowest cost so far, or none: refusals 15 and 16.
@@ -250,8 +245,8 @@ pub extern "C" fn lamp_sitting_lowest(
 ) -> Reply
     ensures outcome { result ≡ reply_of sitting seats.now (read_lowest caller candidate) }
 {
-    let v = seats::scan(seats, candidate);
-    sitting::reading_lowest(sitting, caller, candidate, v)
+    let found = seats::find(seats, candidate);
+    sitting::reading_lowest(sitting, caller, candidate, found)
 }
 
 // The submissions used: refusal 15.

@@ -5,6 +5,6 @@ use Rattle.lamp.proofs.lamp_sitting_least.Goals as goal
 
 pub returns : goal.returns
 returns c =
-    let seen = rw c.scan-v.ensures at c.reading_least.ensures in
+    let seen = rw c.find-found.ensures at c.reading_least.ensures in
     let told = seen ∙ (least_shown c.args.sitting c.args.seats.now c.args.caller _).0 in
     record { outcome = told; hidden = hidden_till_closed c.args.sitting c.args.seats.now c.args.caller told }

@@ -7,7 +7,7 @@ use Rattle.lamp.proofs.lamp_sitting_open.Goals as goal
 pub returns : goal.returns
 returns c =
     let a = c.args in
-    let opened = c.opening-o.ensures in
+    let opened = c.opening-outcome.ensures in
     let told =
     ap (λ (o : OpenOutcome). o.reply) opened.value ∙
     opening_reply a.sitting a.seats.now a.caller a.allowance a.card.now a.plan.now a.work.now in
