@@ -1,5 +1,5 @@
 -- The first record of a candidate in the list of seats, the list once a record is put back, and the list whose first records are emptied.
-use Rattle.std.specs.Prelude.{ℕ, ◌<◌, cond, Option, Some, None, List, ◌++◌, length, get_or, set, take, drop, replicate}
+use Rattle.std.specs.Prelude.{ℕ, cond, Option, Some, None, List, ◌++◌, length, get_or, set, take, drop, replicate}
 use Rattle.basics.specs.FirstPlace.{occurs, first_place}
 use Rattle.model.specs.declared.Seat.{Seat}
 use Rattle.model.specs.SittingState.{seats_of, is_of, empty_seat}

@@ -1,12 +1,12 @@
 -- The laws of finding and of emptying: a candidate's first record is at the first place of its number, `first_found`, `none_found`, and a list is emptied
 -- record by record, `empty_next`.
 use Rattle.std.specs.Prelude.{ℕ, zero, suc, ◌≤◌, ◌<◌, min, ◌≡◌, refl, Bool, true, false, Some, None, List, [], ◌∷◌, length, get_or, take, set, replicate}
-use Rattle.basics.specs.Core.{sym, ap, ◌∙◌, ⊎_elim, true≢false, length-take, length-replicate, length_front, eq-or-lt_of_le}
-use Rattle.basics.specs.Core.{zero-min, min-zero, suc-min-suc, min-le_right, not-suc-le-zero, le_of_suc-le-suc, arith}
+use Rattle.basics.specs.Core.{sym, ap, ◌∙◌, ⊎_elim, true≢false, length-replicate, length_front, eq-or-lt_of_le}
+use Rattle.basics.specs.Core.{zero-min, min-zero, suc-min-suc, not-suc-le-zero, le_of_suc-le-suc, arith}
 use Rattle.basics.specs.Numbers.{true_or_false}
 use Rattle.basics.specs.FirstPlace.{occurs, first_place, place_inside, place_beyond}
 use Rattle.model.specs.declared.Seat.{Seat}
-use Rattle.model.specs.SittingState.{seat_limit, seats_of, is_of, empty_seat}
+use Rattle.model.specs.SittingState.{seats_of, is_of, empty_seat}
 use Rattle.seats.specs.Found.{found, emptied}
 
 module _ (f : Seat → Bool) (d : Seat) where

@@ -9,7 +9,8 @@ use model::Seat;
 // How many records are seats: those after this many are none.
 const SEAT_LIMIT: usize = 32;
 
-const EMPTY_SEAT: Seat = Seat {
+// An empty record.
+pub const EMPTY_SEAT: Seat = Seat {
     lowest: 0,
     candidate: 0,
     marked: 0,

@@ -1,5 +1,5 @@
 -- What an act makes of what is found in the list is what it makes of the list: `seating_acts`, `submission_acts`, `least_shown`, `lowest_shown`.
-use Rattle.std.specs.Prelude.{ℕ, ◌≡◌, refl, true, false, not, Option, Some, None, is_some, List, ◌++◌, map, get_or, set, eqb}
+use Rattle.std.specs.Prelude.{ℕ, ◌≡◌, refl, true, false, not, Option, is_some, List, ◌++◌, map, get_or, set, eqb}
 use Rattle.basics.specs.Core.{sym, ap, ◌∙◌, ⊎_elim, take-append-drop, get_or-map, get_or-eq_default, le_refl}
 use Rattle.basics.specs.Core.{set-append_left, not-false}
 use Rattle.basics.specs.Numbers.{true_or_false}
@@ -9,8 +9,8 @@ use Rattle.model.specs.Answers.{Answer}
 use Rattle.std.specs.Prelude.{Ok, Err}
 use Rattle.model.specs.declared.Seat.{Seat}
 use Rattle.model.specs.declared.Sitting.{Sitting}
-use Rattle.model.specs.Acts.{Act, seat_candidate, submit_sheet, read_least, read_lowest, Event, nothing_done, opening_done, seating_done, closing_done}
-use Rattle.model.specs.Acts.{submission_counted, submission_marked, submission_refused, act_spec}
+use Rattle.model.specs.Acts.{Act, seat_candidate, submit_sheet, read_least, read_lowest, Event, nothing_done, seating_done}
+use Rattle.model.specs.Acts.{submission_marked, submission_refused, act_spec}
 use Rattle.model.specs.SittingState.{Place, is_for, empty_place, facts_of, seats_of, beyond_seats, is_of, lowest_of, place_of, state_of}
 use Rattle.model.specs.SittingState.{empty_seat, seated_record, marked_record, seats_after}
 use Rattle.model.specs.Sittings.{answer_to, event_with, event_of, event_in, told, told_by, reply_of, seats_at_exit}

@@ -1,5 +1,5 @@
 -- What an act makes of what is found in the list of seats.
-use Rattle.std.specs.Prelude.{ℕ, ◌<◌, ◌≡◌, Bool, not, ◌||◌, Option, Some, None, is_some, option_map, List, [], eqb}
+use Rattle.std.specs.Prelude.{ℕ, ◌<◌, ◌≡◌, not, Option, Some, None, is_some, option_map, List, []}
 use Rattle.model.specs.declared.Refusal.{Refusal}
 use Rattle.model.specs.Answers.{Answer}
 use Rattle.std.specs.Prelude.{Ok, Err}
@@ -34,10 +34,6 @@ seen z v w =
       full = not (is_some w);
       lowest = λ c. lowest_of (record_of v);
     }
-
--- A number names no seat, by what is found for it.
-unfoldable pub unseated : Option Found → ℕ → Bool
-unseated v c = eqb c 0 || not (is_some v)
 
 -- A record that is found, changed at its place.
 abbrev pub changed : (Seat → Seat) → Option Found → Option Found

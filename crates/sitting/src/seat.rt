@@ -6,7 +6,7 @@ ghost use Rattle.sitting.specs.Seen.{seen, outcome_of};
 
 use crate::{Outcome, Phase};
 use model::{Refusal, Seat, Sitting};
-use seats::Found;
+use seats::{EMPTY_SEAT, Found};
 
 // The empty record that a candidate is seated in, by what is found for this candidate and for an empty record: refusals 15 and 16.
 fn record_for(
@@ -44,10 +44,8 @@ pub fn seating(
         Err(x) => crate::unchanged(x, sitting),
         Ok(record) => {
             let seat = Seat {
-                lowest: 0,
                 candidate,
-                marked: 0,
-                reserved: 0,
+                ..EMPTY_SEAT
             };
             Outcome {
                 change: Some(Found { seat, ..record }),
