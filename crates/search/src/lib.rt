@@ -46,14 +46,7 @@ fn level_price(card: &Card, counts: &[u64], level: usize) -> u64
 // The verdict of a slot with load l on a level with its price, by the lead before it. No plan is above a level beyond the list, and every plan is above one
 // whose place below cannot serve.
 #[tactic(auto, using(crate::proofs::LevelPrices::low_top, crate::proofs::LevelPrices::cannot_serve, thresholds::specs::ThresholdLaws::judge_forced))]
-fn judge(
-    card: &Card,
-    counts: &[u64],
-    level: usize,
-    price: u64,
-    l: u64,
-    lead: u64,
-) -> Verdict
+fn judge(card: &Card, counts: &[u64], level: usize, price: u64, l: u64, lead: u64) -> Verdict
     requires { LevelReady card.now counts.now level price lead }
     ensures { verdict_of result ≡ judged (show_of card.now) counts.now level l lead }
 {
@@ -95,14 +88,7 @@ fn forward(card: &Card, counts: &[u64], width: usize, plan: &[u8], sides: &mut [
         let level = place + reach;
         let price = level_price(card, counts, level);
         let carried = carry(price, before, place, lead);
-        let verdict = judge(
-            card,
-            counts,
-            level,
-            price,
-            card.load(t as u64),
-            carried,
-        );
+        let verdict = judge(card, counts, level, price, card.load(t as u64), carried);
         sides[t] = verdict.side;
         lead = verdict.lead;
         before = place;
