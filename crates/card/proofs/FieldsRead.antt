@@ -1,15 +1,27 @@
 -- Taking a number of some bytes, from the highest byte down.
 use Rattle.std.specs.Prelude.{ℕ, suc, refl, ◌+◌, ◌-◌, ◌*◌, ◌^◌, ◌≤◌, ◌<◌, ◌≡◌, List, get_or}
-use Rattle.basics.specs.Core.{◌∙◌, ap, add-zero, sub-zero, sub_self, pow-suc, pow-le-pow_right, arith}
+use Rattle.basics.specs.Core.{sym, ◌∙◌, ap, mul-le-mul_left, add-zero, sub-zero, sub_self, pow-suc, pow-le-pow_right, arith}
+use lib.Pow.{pow-add}
 use mir.Syntax.{w8}
 use mir.Val.{Fits}
-use Rattle.basics.specs.Bytes.{little_endian}
+use Rattle.basics.specs.Bytes.{little_endian, little_join}
 use Rattle.card.specs.Fields.{ReadAt}
 
 -- The bytes from the k-th on of a number of w bytes at place p are taken.
 pub record Taken (s : List ℕ) (p w k value : ℕ) : Type 0 where
   pub number : value ≡ little_endian (w - k) s (p + k)
   pub bound : value < 256 ^ (w - k)
+
+-- Two numbers of w bytes one after the other are one of w + w bytes.
+pub read_join : (w : ℕ) {s : List ℕ} {p q z x y : ℕ} → ReadAt s p w x q → ReadAt s q w y z → ReadAt s p (w + w) (x + 256 ^ w * y) z
+read_join w {s} {p} {q} {z} {x} {y} a b =
+    record {
+      number =
+          let e : little_endian w s (p + w) ≡ y = ap (little_endian w s) (sym a.position) ∙ sym b.number in
+          rw (little_join w w s p, e, a.number);
+      bound = rw (pow-add 256 w w) (omega (arith, mul-le-mul_left (256 ^ w) b.bound));
+      position = omega arith;
+    }
 
 -- The number that was read at a place is the number there by another name of the place.
 pub read_at : {s : List ℕ} {p w x q r : ℕ} → ReadAt s p w x q → p ≡ r → x ≡ little_endian w s r
