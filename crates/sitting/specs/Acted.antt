@@ -1,5 +1,5 @@
 -- What an act makes of what is found in the list is what it makes of the list: `seating_acts`, `submission_acts`, `least_shown`, `lowest_shown`.
-use Rattle.std.specs.Prelude.{ℕ, ◌≡◌, refl, true, false, not, Option, is_some, List, ◌++◌, map, get_or, set, eqb}
+use Rattle.std.specs.Prelude.{ℕ, Bool, ◌≡◌, refl, true, false, not, Option, is_some, List, ◌++◌, map, get_or, set, eqb}
 use Rattle.basics.specs.Core.{sym, ap, ◌∙◌, ⊎_elim, take-append-drop, get_or-map, get_or-eq_default, le_refl}
 use Rattle.basics.specs.Core.{set-append_left, not-false}
 use Rattle.basics.specs.Numbers.{true_or_false}
@@ -90,18 +90,23 @@ module _ (z : Sitting) (xs : List Seat) where
   unfolding event_seen reply_seen seen told event_of answer_to act_spec
   lowest_shown d c w = shown (read_lowest d c)
 
+-- A list in which the first seat that passes a test is changed is set at its place.
+changed_set :
+    (f : Seat → Bool) (g : Seat → Seat) (xs : List Seat) → occurs f (seats_of xs) ≡ true →
+    set xs (first_place f (seats_of xs)) (g (get_or (seats_of xs) (first_place f (seats_of xs)) empty_seat)) ≡ change_first f g (seats_of xs) ++ beyond_seats xs
+changed_set f g xs there =
+    let k = first_place f (seats_of xs) in
+    let s = g (get_or (seats_of xs) k empty_seat) in
+    ap (λ (l : List Seat). set l k s) (sym (take-append-drop 32 xs))
+    ∙ set-append_left (seats_of xs) (beyond_seats xs) k s (place_inside f (seats_of xs) there)
+    ∙ ap (λ (l : List Seat). l ++ beyond_seats xs) (sym (change_sets f g empty_seat (seats_of xs)))
+
 -- A list in which the first record of a candidate is changed has it put back at its place.
 changed_put :
     (c : ℕ) (g : Seat → Seat) (xs : List Seat) → occurs (is_of c) (seats_of xs) ≡ true →
     put_back (changed g (found c xs)) xs ≡ change_first (is_of c) g (seats_of xs) ++ beyond_seats xs
 unfolding found put_back
-changed_put c g xs there =
-    let k = first_place (is_of c) (seats_of xs) in
-    let s = g (get_or (seats_of xs) k empty_seat) in
-    rw there
-    (ap (λ (l : List Seat). set l k s) (sym (take-append-drop 32 xs))
-    ∙ set-append_left (seats_of xs) (beyond_seats xs) k s (place_inside (is_of c) (seats_of xs) there)
-    ∙ ap (λ (l : List Seat). l ++ beyond_seats xs) (sym (change_sets (is_of c) g empty_seat (seats_of xs))))
+changed_put c g xs there = rw there (changed_set (is_of c) g xs there)
 
 -- By two searches an event puts back in a list what it makes of the list.
 abbrev Puts : (v w : Option Found) → List Seat → Event → Type 0
