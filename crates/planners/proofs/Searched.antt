@@ -5,7 +5,8 @@ use Rattle.basics.specs.Lists.{written_over}
 use Rattle.model.specs.Instance.{Instance}
 use Rattle.model.specs.Thesis.{counts_cost}
 use Rattle.model.specs.Plans.{least_plan, least_cost}
-use Rattle.thresholds.specs.Places.{last_place}
+use Rattle.laws.specs.Acceptance.{accepted_bounds}
+use Rattle.thresholds.specs.Places.{last_place, length_fits}
 use Rattle.thresholds.specs.Thresholds.{threshold_plan}
 use Rattle.theory.specs.Hypotheses.{Plannable, PlanFits}
 use Rattle.theory.specs.Condition3.{accepted_plannable, threshold_plan_lem, least_plan_fits, least_cost_counts}
@@ -14,8 +15,6 @@ use Rattle.card.specs.Shows.{show_of}
 use Rattle.counts.specs.AllowedCounts.{powers_up_to}
 use Rattle.counts.proofs.Powers.{digits_known}
 use Rattle.plans.specs.PlanRequires.{PlanReady}
-use Rattle.search.specs.SearchRequires.{Searchable}
-use Rattle.search.proofs.LevelPrices.{few_places}
 use Rattle.planners.specs.PlannerRequires.{CountsReady}
 use Rattle.planners.proofs.Fronts.{front_is}
 
@@ -31,18 +30,9 @@ module _ {card : Card} {counts : List ℕ} {asked : ℕ} {p w : List ℕ} (given
   pub work_long : asked ≤ length w
   work_long = given.buffers.work_room
 
-  -- The parts of the buffers that are lent to the search.
-  pub searchable : Searchable card counts (take card.header.slots p) (take asked w)
-  searchable =
-      record {
-        on_card = record { allowed = given.allowed };
-        plan_size = length-take-le card.header.slots p plan_long ∙ card.header_is.slots_is;
-        work_room = omega (arith, given.enough, length-take-le asked w work_long);
-      }
-
   -- No list has more counts than the largest rack.
   pub few_counts : length counts ≤ 201
-  few_counts = omega (arith, few_places searchable.on_card)
+  few_counts = omega (arith, length_fits given.allowed, (accepted_bounds _ card.accepted).modules)
 
   plannable : Plannable (show_of card)
   plannable = accepted_plannable _ card.accepted
@@ -56,7 +46,7 @@ module _ {card : Card} {counts : List ℕ} {asked : ℕ} {p w : List ℕ} (given
   module _ {made : List ℕ} (made-is : made ≡ threshold_plan (show_of card) counts 0 (powers_up_to (last_place counts))) where
     filled : made ++ drop card.header.slots p ≡ written_over (least_plan (show_of card) counts) p
     filled =
-        let digits = digits_known (last_place counts) (omega (arith, few_places searchable.on_card)) in
+        let digits = digits_known (last_place counts) (omega (arith, few_counts)) in
         let least : made ≡ least_plan (show_of card) counts = made-is ∙ threshold_plan_lem plannable counts given.allowed _ digits.0 in
         ap (λ (l : List ℕ). l ++ drop card.header.slots p) least ∙ ap (λ (n : ℕ). least_plan (show_of card) counts ++ drop n p) size
 

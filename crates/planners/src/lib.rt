@@ -14,6 +14,7 @@ ghost use Rattle.planners.specs.PlannerRequires.{BuffersFor, CountsReady, either
 
 use card::Card;
 use model::{Answer, Refusal};
+use search::Allowed;
 
 // What the planners differ in.
 pub trait PlannerKind {
@@ -87,7 +88,8 @@ pub fn plan_over(card: &Card, counts: &[u64], asked: usize, plan: &mut [u8], wor
     ensures work_after { work.new ≡ written_over (replicate asked 0) work.old }
 {
     let slots = card.header.slots as usize;
-    search::search(card, counts, &mut plan[..slots], &mut work[..asked]);
+    let allowed = Allowed { card, counts };
+    search::search(&allowed, &mut plan[..slots], &mut work[..asked]);
     plans::plan_cost(card, &plan[..slots])
 }
 

@@ -11,11 +11,18 @@ use Rattle.card.specs.declared.Card.{Card}
 use Rattle.counts.specs.Serving.{Served}
 use Rattle.thresholds.specs.Places.{count_at_place, count_fits, length_fits}
 use Rattle.thresholds.specs.Thresholds.{level_price}
-use Rattle.search.specs.SearchRequires.{OnCard, most_lead}
+use Rattle.search.specs.declared.allowed.Allowed.{Allowed}
+use Rattle.search.specs.SearchRequires.{most_lead}
 
-module _ {card : Card} {counts : List ℕ} (on : OnCard card counts) where
+module _ (allowed : Allowed) where
+  abbrev card : Card
+  card = allowed.card.now
+
+  abbrev counts : List ℕ
+  counts = allowed.counts.now
+
   pub few_places : length counts ≤ 201
-  few_places = omega (arith, length_fits on.allowed, (accepted_bounds _ card.accepted).modules)
+  few_places = omega (arith, length_fits allowed.ascending, (accepted_bounds _ card.accepted).modules)
 
   pub price_most : card.header.power_up + card.header.power_down ≤ 1000000000
   price_most = omega (arith, (accepted_bounds _ card.accepted).power_up, (accepted_bounds _ card.accepted).power_down)
@@ -28,21 +35,24 @@ module _ {card : Card} {counts : List ℕ} (on : OnCard card counts) where
   in_rack j =
       ⊎_elim
       (λ (g : length counts ≤ j). omega (arith, get_or-eq_default counts 0 g))
-      (count_fits on.allowed j)
+      (count_fits allowed.ascending j)
       (le_or_lt (length counts) j)
 
   pub count_most : (j : ℕ) → count_at_place counts j ≤ 200
   count_most j = omega (arith, in_rack j, (accepted_bounds _ card.accepted).modules.1)
 
+  light_is : (j : ℕ) → count_at_place counts j * card.header.top_step ≡ count_at_place counts j * (show_of card).top_step
+  light_is j = ap (λ (q : ℕ). count_at_place counts j * q) card.header_is.top_is
+
   -- What the test on a place's count and the load says.
   module _ {l : ℕ} (j : ℕ) where
     pub cannot_serve : count_at_place counts j * card.header.top_step < l → can_serve (show_of card) (count_at_place counts j) l ≡ false
     unfolding can_serve
-    cannot_serve less = lt-leb l (count_at_place counts j * (show_of card).top_step) (rw card.header_is.top_is at less)
+    cannot_serve less = lt-leb l (count_at_place counts j * (show_of card).top_step) (omega (arith, light_is j))
 
     module _ (enough : l ≤ count_at_place counts j * card.header.top_step) where
       enough_light : l ≤ count_at_place counts j * (show_of card).top_step
-      enough_light = rw card.header_is.top_is at enough
+      enough_light = omega (arith, light_is j)
 
       pub can_serve_lem : can_serve (show_of card) (count_at_place counts j) l ≡ true
       unfolding can_serve
@@ -54,7 +64,7 @@ module _ {card : Card} {counts : List ℕ} (on : OnCard card counts) where
       -- What the place below a level can serve, the place above it can.
       pub served_above : j + 1 < length counts → Served card (count_at_place counts (j + 1)) l
       served_above inside =
-          let more = mul-le-mul_right (show_of card).top_step (le_of_lt (on.allowed.rises j inside)) in
+          let more = mul-le-mul_right (show_of card).top_step (le_of_lt (allowed.ascending.rises j inside)) in
           record { in_rack = in_rack (j + 1); serves = le_trans enough_light more }
 
   pub low_top : (j : ℕ) → count_at_place counts j * card.header.top_step ≤ 40000

@@ -2,11 +2,11 @@
 use Rattle.std.specs.Prelude.{ℕ, zero, suc, ◌+◌, ◌-◌, ◌^◌, ◌≤◌, ◌<◌, ◌≡◌, refl, List, length}
 use Rattle.basics.specs.Core.{ap, ◌∙◌, le_of_lt, arith}
 use lib.Pow.{pow_mono, pow_pos}
-use Rattle.model.specs.Instance.{Instance, instance_of}
-use Rattle.card.specs.declared.Card.{Card}
+use Rattle.model.specs.Instance.{Instance}
 use Rattle.card.specs.Shows.{show_of}
 use Rattle.thresholds.specs.Thresholds.{side_at, in_slot, forward, backward, round, rounds}
 use Rattle.thresholds.specs.ThresholdLaws.{side_most, side_inside, raised_inside, raised_step, forward_entry, backward_entry}
+use Rattle.search.specs.declared.allowed.Allowed.{Allowed}
 use Rattle.search.specs.SearchRequires.{Width, BackReady, RoundsReady}
 use Rattle.search.proofs.LevelPrices.{few_places}
 
@@ -52,39 +52,45 @@ pub record RoundsLoop (i : Instance) (counts : List ℕ) (digits : ℕ) (plan₀
   pub sides_kept : length sides ≡ length sides₀
   pub rest : rounds i counts 0 e plan ≡ rounds i counts 0 digits plan₀
 
-module _ {card : Card} {counts : List ℕ} {digits : ℕ} {plan₀ sides₀ plan sides : List ℕ} {e : ℕ}
-    (p : RoundsReady card counts digits plan₀ sides₀) (f : RoundsLoop (show_of card) counts digits plan₀ sides₀ plan sides e)
+module _ {allowed : Allowed} {digits : ℕ} {plan₀ sides₀ plan sides : List ℕ} {e : ℕ}
+    (p : RoundsReady allowed digits plan₀ sides₀) (f : RoundsLoop (show_of allowed.card.now) allowed.counts.now digits plan₀ sides₀ plan sides e)
     (left : 0 < e) {b : ℕ} (b-is : b ≡ 2 ^ (e - 1)) where
+  abbrev show : Instance
+  show = show_of allowed.card.now
+
+  abbrev counts : List ℕ
+  counts = allowed.counts.now
+
   width : Width b
   width = rw b-is (power_width (e - 1) (omega (arith, p.few, f.within)))
 
-  module _ {found : List ℕ} (found-is : found ≡ forward (show_of card) counts 0 b plan) where
+  module _ {found : List ℕ} (found-is : found ≡ forward show counts 0 b plan) where
     pub backward_ready : length found ≡ length sides → BackReady b plan found
     backward_ready kept =
         record {
           width = width;
           size = omega (arith, f.plan_kept, p.slots.plan_size, f.sides_kept, p.slots.sides_size);
           inside = λ t inside up.
-              let room = side_room (show_of card) counts b width.some plan t (omega (arith, f.plan_kept, p.slots.plan_size)) (rw found-is at up) in
-              omega (arith, few_places p.slots.on_card);
+              let room = side_room show counts b width.some plan t (omega (arith, f.plan_kept, p.slots.plan_size)) (rw found-is at up) in
+              omega (arith, few_places allowed);
           sides_most = λ t inside.
-              rw found-is (side_small (show_of card) counts b width.some plan t (omega (arith, f.plan_kept, p.slots.plan_size)));
+              rw found-is (side_small show counts b width.some plan t (omega (arith, f.plan_kept, p.slots.plan_size)));
         }
 
     pub rounds_turn :
         {new : List ℕ} → new ≡ backward (length plan) b plan found → length new ≡ length plan → length found ≡ length sides →
-        RoundsLoop (show_of card) counts digits plan₀ sides₀ new found (e - 1)
+        RoundsLoop show counts digits plan₀ sides₀ new found (e - 1)
     unfolding rounds
     rounds_turn {new} New-is kept kept' =
         let last : e ≡ suc (e - 1) = omega arith in
-        let size : length plan ≡ (show_of card).slots = f.plan_kept ∙ p.slots.plan_size in
-        let one : new ≡ round (show_of card) counts 0 (2 ^ (e - 1)) plan =
+        let size : length plan ≡ show.slots = f.plan_kept ∙ p.slots.plan_size in
+        let one : new ≡ round show counts 0 (2 ^ (e - 1)) plan =
         New-is ∙ ap (λ (n : ℕ). backward n b plan found) size ∙ rw (found-is, b-is) refl in
         record {
           within = omega (arith, f.within);
           plan_kept = kept ∙ f.plan_kept;
           sides_kept = kept' ∙ f.sides_kept;
-          rest = ap (rounds (show_of card) counts 0 (e - 1)) one ∙ (rw last at f.rest);
+          rest = ap (rounds show counts 0 (e - 1)) one ∙ (rw last at f.rest);
         }
 
 pub rounds_end :

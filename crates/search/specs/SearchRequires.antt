@@ -1,14 +1,9 @@
 -- What the functions of the search ask for.
 use Rattle.std.specs.Prelude.{ℕ, ◌+◌, ◌≤◌, ◌<◌, ◌≡◌, List, length, get_or}
-use Rattle.model.specs.Instance.{instance_of}
-use Rattle.card.specs.declared.Card.{Card}
 use Rattle.card.specs.Shows.{show_of}
-use Rattle.thresholds.specs.Places.{count_at_place, Ascending}
+use Rattle.thresholds.specs.Places.{count_at_place}
 use Rattle.thresholds.specs.Thresholds.{level_price}
-
--- A list of allowed counts for the rack of an accepted card.
-pub record OnCard (card : Card) (counts : List ℕ) : Type 0 where
-  pub allowed : Ascending counts (show_of card).modules
+use Rattle.search.specs.declared.allowed.Allowed.{Allowed}
 
 -- The largest lead of a level: the price of switching on the largest rack at the highest prices.
 abbrev pub most_lead : ℕ
@@ -20,9 +15,8 @@ pub record Weighable (price lower : ℕ) : Type 0 where
   pub served : lower ≤ 200000000
 
 -- An accepted card with its counts, a level with its price, and a lead that it may have.
-pub record LevelReady (card : Card) (counts : List ℕ) (level price lead : ℕ) : Type 0 where
-  pub on_card : OnCard card counts
-  pub price_is : price ≡ level_price (show_of card) counts level
+pub record LevelReady (allowed : Allowed) (level price lead : ℕ) : Type 0 where
+  pub price_is : price ≡ level_price (show_of allowed.card.now) allowed.counts.now level
   pub small : lead ≤ most_lead
 
 -- The width of a round, from 1 to 128.
@@ -37,19 +31,18 @@ pub record Raisable (b place side : ℕ) : Type 0 where
   pub side_most : side ≤ 2
 
 -- An accepted card with its counts, a plan so far, and room for a side for each slot.
-pub record SlotsReady (card : Card) (counts plan sides : List ℕ) : Type 0 where
-  pub on_card : OnCard card counts
-  pub plan_size : length plan ≡ (show_of card).slots
-  pub sides_size : length sides ≡ (show_of card).slots
+pub record SlotsReady (allowed : Allowed) (plan sides : List ℕ) : Type 0 where
+  pub plan_size : length plan ≡ (show_of allowed.card.now).slots
+  pub sides_size : length sides ≡ (show_of allowed.card.now).slots
 
 -- The same, with the width of a round.
-pub record RoundReady (card : Card) (counts : List ℕ) (b : ℕ) (plan sides : List ℕ) : Type 0 where
-  pub slots : SlotsReady card counts plan sides
+pub record RoundReady (allowed : Allowed) (b : ℕ) (plan sides : List ℕ) : Type 0 where
+  pub slots : SlotsReady allowed plan sides
   pub width : Width b
 
 -- The same, with the number of rounds, which is at most eight.
-pub record RoundsReady (card : Card) (counts : List ℕ) (e : ℕ) (plan sides : List ℕ) : Type 0 where
-  pub slots : SlotsReady card counts plan sides
+pub record RoundsReady (allowed : Allowed) (e : ℕ) (plan sides : List ℕ) : Type 0 where
+  pub slots : SlotsReady allowed plan sides
   pub few : e ≤ 8
 
 -- The width of a round, a plan so far, and its sides. A place that may be raised stays in a byte.
@@ -65,7 +58,6 @@ pub record Placed (counts plan : List ℕ) : Type 0 where
   pub bytes : (j : ℕ) → count_at_place counts j ≤ 255
 
 -- What the search asks for: an accepted card with its counts, a plan with a byte for each slot, and a work byte for each slot.
-pub record Searchable (card : Card) (counts plan work : List ℕ) : Type 0 where
-  pub on_card : OnCard card counts
-  pub plan_size : length plan ≡ (show_of card).slots
-  pub work_room : (show_of card).slots ≤ length work
+pub record Searchable (allowed : Allowed) (plan work : List ℕ) : Type 0 where
+  pub plan_size : length plan ≡ (show_of allowed.card.now).slots
+  pub work_room : (show_of allowed.card.now).slots ≤ length work

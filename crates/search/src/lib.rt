@@ -9,9 +9,11 @@ ghost use Rattle.thresholds.specs.Places.{last_place};
 ghost use Rattle.thresholds.specs.Thresholds.{weighed, level_price, carried, judge as judged, raised_place};
 ghost use Rattle.thresholds.specs.Thresholds.{forward as sides_found, backward as places_raised, rounds as places_found, threshold_plan};
 ghost use Rattle.search.specs.Written.{verdict_of, counts_at};
-ghost use Rattle.search.specs.SearchRequires.{OnCard, Weighable, LevelReady, Raisable, RoundReady, BackReady, RoundsReady, Placed, Searchable};
+ghost use Rattle.search.specs.SearchRequires.{Weighable, LevelReady, Raisable, RoundReady, BackReady, RoundsReady, Placed, Searchable};
 
-use card::Card;
+mod allowed;
+
+pub use allowed::Allowed;
 
 // What a slot says of a level: how much dearer the slots up to it make the place above the level than the place below it; and the side of the
 // level on which the least plan is in the slot, 2 above, 0 below, 1 where it is in the next slot.
@@ -33,10 +35,10 @@ fn weigh(price: u64, upper: u64, lower: u64) -> Verdict
 }
 
 // The price of rising over a level, 0 beyond the list.
-fn level_price(card: &Card, counts: &[u64], level: usize) -> u64
-    requires { OnCard card.now counts.now }
-    ensures { result ≡ level_price (show_of card.now) counts.now level }
+fn level_price(allowed: &Allowed, level: usize) -> u64
+    ensures { result ≡ level_price (show_of allowed.now.card.now) allowed.now.counts.now level }
 {
+    let Allowed { card, counts } = *allowed;
     if counts.len() - 1 <= level {
         return 0;
     }
@@ -46,10 +48,11 @@ fn level_price(card: &Card, counts: &[u64], level: usize) -> u64
 // The verdict of a slot with load l on a level with its price, by the lead before it. No plan is above a level beyond the list, and every plan is above one
 // whose place below cannot serve.
 #[tactic(auto, using(crate::proofs::LevelPrices::low_top, crate::proofs::LevelPrices::cannot_serve, thresholds::specs::ThresholdLaws::judge_forced))]
-fn judge(card: &Card, counts: &[u64], level: usize, price: u64, l: u64, lead: u64) -> Verdict
-    requires { LevelReady card.now counts.now level price lead }
-    ensures { verdict_of result ≡ judged (show_of card.now) counts.now level l lead }
+fn judge(allowed: &Allowed, level: usize, price: u64, l: u64, lead: u64) -> Verdict
+    requires { LevelReady allowed.now level price lead }
+    ensures { verdict_of result ≡ judged (show_of allowed.now.card.now) allowed.now.counts.now level l lead }
 {
+    let Allowed { card, counts } = *allowed;
     if counts.len() - 1 <= level {
         return Verdict { lead: 0, side: 0 };
     }
@@ -76,19 +79,19 @@ fn carry(price: u64, before: usize, place: usize, lead: u64) -> u64
 }
 
 // Forward through the slots: each slot's side of the level in the middle of the places that are left to it. Before the first slot the place is 0.
-fn forward(card: &Card, counts: &[u64], width: usize, plan: &[u8], sides: &mut [u8])
-    requires { RoundReady card.now counts.now width plan.now sides.old }
-    ensures { sides.new ≡ sides_found (show_of card.now) counts.now 0 width plan.now }
+fn forward(allowed: &Allowed, width: usize, plan: &[u8], sides: &mut [u8])
+    requires { RoundReady allowed.now width plan.now sides.old }
+    ensures { sides.new ≡ sides_found (show_of allowed.now.card.now) allowed.now.counts.now 0 width plan.now }
 {
     let reach = width - 1;
     let mut before = 0;
-    let mut lead = level_price(card, counts, reach);
+    let mut lead = level_price(allowed, reach);
     for (t, &place) in plan.iter().enumerate() {
         let place = usize::from(place);
         let level = place + reach;
-        let price = level_price(card, counts, level);
+        let price = level_price(allowed, level);
         let carried = carry(price, before, place, lead);
-        let verdict = judge(card, counts, level, price, card.load(t as u64), carried);
+        let verdict = judge(allowed, level, price, allowed.card.load(t as u64), carried);
         sides[t] = verdict.side;
         lead = verdict.lead;
         before = place;
@@ -119,13 +122,13 @@ fn backward(width: usize, plan: &mut [u8], sides: &[u8])
 }
 
 // The rounds, one for each digit from the highest down.
-fn rounds(card: &Card, counts: &[u64], digits: usize, plan: &mut [u8], sides: &mut [u8])
-    requires { RoundsReady card.now counts.now digits plan.old sides.old }
-    ensures { plan.new ≡ places_found (show_of card.now) counts.now 0 digits plan.old }
+fn rounds(allowed: &Allowed, digits: usize, plan: &mut [u8], sides: &mut [u8])
+    requires { RoundsReady allowed.now digits plan.old sides.old }
+    ensures { plan.new ≡ places_found (show_of allowed.now.card.now) allowed.now.counts.now 0 digits plan.old }
 {
     for e in (0..digits).rev() {
         let width = counts::power(e) as usize;
-        forward(card, counts, width, plan, sides);
+        forward(allowed, width, plan, sides);
         backward(width, plan, sides);
     }
 }
@@ -141,17 +144,17 @@ fn to_counts(counts: &[u64], plan: &mut [u8])
 }
 
 // The least plan over a list of allowed counts. The work bytes are 0 afterwards.
-pub fn search(card: &Card, counts: &[u64], plan: &mut [u8], work: &mut [u8])
-    requires { Searchable card.now counts.now plan.old work.old }
+pub fn search(allowed: &Allowed, plan: &mut [u8], work: &mut [u8])
+    requires { Searchable allowed.now plan.old work.old }
     ensures plan { plan.new ≡
-        threshold_plan (show_of card.now) counts.now 0 (powers_up_to (last_place counts.now)) }
+        threshold_plan (show_of allowed.now.card.now) allowed.now.counts.now 0 (powers_up_to (last_place allowed.now.counts.now)) }
     ensures work { work.new ≡ replicate (length work.old) 0 }
 {
     let slots = plan.len();
-    let last = counts.len() - 1;
+    let last = allowed.counts.len() - 1;
     let digits = counts::powers_up_to(last as u64);
     buffers::fill(plan, 0);
-    rounds(card, counts, digits, plan, &mut work[..slots]);
-    to_counts(counts, plan);
+    rounds(allowed, digits, plan, &mut work[..slots]);
+    to_counts(allowed.counts, plan);
     buffers::fill(work, 0);
 }

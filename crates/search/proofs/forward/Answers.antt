@@ -10,13 +10,12 @@ loop-t-init c = forward_starts c.requires c.level_price-lead.ensures
 pub load-requires : goal.load-requires
 load-requires c =
     let p = c.requires in
-    in_show c.args.card.now (omega arith)
+    in_show c.args.allowed.now.card.now (omega arith)
 
 pub judge-verdict-requires : goal.judge-verdict-requires
 judge-verdict-requires c =
     let p = c.requires in
     record {
-      on_card = p.slots.on_card;
       price_is = c.level_price-price.ensures;
       small =
           carried_small p c.loop-t.invariant c.from-place.ensures refl c.level_price-price.ensures c.carry-carried.ensures;

@@ -3,4 +3,4 @@ use Rattle.search.proofs.ForwardWalk.{ForwardLoop}
 use Rattle.search.proofs.forward.Given as goal
 
 abbrev pub invariant-loop-t : goal.invariant-loop-t
-invariant-loop-t l = ForwardLoop (show_of l.card) l.counts l.width l.plan l.initial.sides l.sides l.before l.lead l.t
+invariant-loop-t l = ForwardLoop (show_of l.allowed.card.now) l.allowed.counts.now l.width l.plan l.initial.sides l.sides l.before l.lead l.t
