@@ -14,6 +14,7 @@ ghost use Rattle.model.specs.Promises.{LeastWithin, ExplainsMarked, NoneNegative
 use count_lists::Listed;
 use model::{Answer, Points, Reply, Seat, Sitting};
 use planners::{Coarse, Exact};
+use sitting::Request;
 
 // What every call but the explanation and the acts of a sitting returns: a refusal's number and cost 0, or number 0 and the cost.
 #[repr(C)]
@@ -176,7 +177,7 @@ pub extern "C" fn lamp_sitting_open(
     ensures own_sheet { OwnSheet card.now plan.new result.number result.cost }
     ensures least { AtMostTimes 1 card.now result.number result.cost }
 {
-    let outcome = sitting::opening(sitting, caller, allowance, card, plan, work);
+    let outcome = Request { sitting, caller }.opening(allowance, card, plan, work);
     seats::empty_first(seats, outcome.emptied);
     outcome.reply
 }
@@ -194,7 +195,7 @@ pub extern "C" fn lamp_sitting_seat(
 {
     let found = seats::find(seats, candidate);
     let empty = seats::find(seats, 0);
-    let outcome = sitting::seating(sitting, caller, candidate, found, empty);
+    let outcome = Request { sitting, caller }.seating(candidate, found, empty);
     seats::put(seats, outcome.change);
     outcome.reply
 }
@@ -204,7 +205,7 @@ pub extern "C" fn lamp_sitting_seat(
 pub extern "C" fn lamp_sitting_close(sitting: Sitting, caller: u16) -> Reply
     ensures outcome { result ≡ reply_of sitting [] (close_sitting caller) }
 {
-    sitting::closing(sitting, caller)
+    Request { sitting, caller }.closing()
 }
 
 // Marks a sheet that the caller submits: refusals 1 to 8, 15, 16, 17, and then 11 to 13.
@@ -220,7 +221,7 @@ pub extern "C" fn lamp_sitting_submit(
     ensures seats { seats.new ≡ seats_at_exit sitting seats.old (submit_sheet caller card.now sheet.now) }
 {
     let found = seats::find(seats, caller);
-    let outcome = sitting::submitting(sitting, caller, found, card, sheet);
+    let outcome = Request { sitting, caller }.submitting(found, card, sheet);
     seats::put(seats, outcome.change);
     outcome.reply
 }
@@ -232,7 +233,7 @@ pub extern "C" fn lamp_sitting_least(sitting: Sitting, caller: u16, seats: &[Sea
     ensures hidden { HiddenTillClosed sitting caller result }
 {
     let found = seats::find(seats, caller);
-    sitting::reading_least(sitting, caller, found)
+    Request { sitting, caller }.reading_least(found)
 }
 
 // A candidate's lowest cost so far, or none: refusals 15 and 16.
@@ -246,7 +247,7 @@ pub extern "C" fn lamp_sitting_lowest(
     ensures outcome { result ≡ reply_of sitting seats.now (read_lowest caller candidate) }
 {
     let found = seats::find(seats, candidate);
-    sitting::reading_lowest(sitting, caller, candidate, found)
+    Request { sitting, caller }.reading_lowest(candidate, found)
 }
 
 // The submissions used: refusal 15.
@@ -254,5 +255,5 @@ pub extern "C" fn lamp_sitting_lowest(
 pub extern "C" fn lamp_sitting_used(sitting: Sitting, caller: u16) -> Reply
     ensures outcome { result ≡ reply_of sitting [] (read_used caller) }
 {
-    sitting::reading_used(sitting, caller)
+    Request { sitting, caller }.reading_used()
 }

@@ -16,11 +16,12 @@ mod read;
 mod seat;
 mod submit;
 
-pub use close::closing;
-pub use open::opening;
-pub use read::{reading_least, reading_lowest, reading_used};
-pub use seat::seating;
-pub use submit::submitting;
+// An act that is asked for: the sitting, and who asks.
+#[derive(Clone, Copy)]
+pub struct Request {
+    pub sitting: Sitting,
+    pub caller: u16,
+}
 
 // What an act that may change the list of seats does: a record as it becomes, at its place, where one changes, and the reply.
 #[derive(Clone, Copy)]
@@ -44,14 +45,16 @@ enum Phase {
     Closed,
 }
 
-// The phase of a sitting.
-fn phase_of(sitting: Sitting) -> Phase
-    ensures { phase_meant result ≡ phase_of sitting.state }
-{
-    match sitting.state {
-        1 => Phase::Open,
-        2 => Phase::Closed,
-        _ => Phase::Unopened,
+impl Request {
+    // The phase of the sitting.
+    fn phase(self) -> Phase
+        ensures { phase_meant result ≡ phase_of self.sitting.state }
+    {
+        match self.sitting.state {
+            1 => Phase::Open,
+            2 => Phase::Closed,
+            _ => Phase::Unopened,
+        }
     }
 }
 

@@ -1,5 +1,0 @@
-use Rattle.sitting.proofs.Replies.{least_reply}
-use Rattle.sitting.proofs.read.reading_least.Goals as goal
-
-pub returns : goal.returns
-returns c = search least_reply
