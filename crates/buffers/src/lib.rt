@@ -1,10 +1,10 @@
-// Writing bytes into a lent area. A function that writes from a place on returns the place after what it wrote.
+// Writing bytes into a lent area: filling it, and a writer that writes one thing behind the other.
 #![tactic(auto)]
 
 ghost use Rattle.std.specs.Prelude.{◌≡◌, ◌≤◌, [], ◌∷◌, length, replicate};
 ghost use Rattle.basics.specs.Bytes.{bytes_of};
 ghost use Rattle.basics.specs.Rows.{element_bytes};
-ghost use Rattle.basics.specs.Writing.{Room, Written};
+ghost use Rattle.buffers.specs.Writers.{Fits, Wrote};
 
 // Every byte of the part is set to the byte given.
 pub fn fill(part: &mut [u8], byte: u8)
@@ -13,43 +13,59 @@ pub fn fill(part: &mut [u8], byte: u8)
     part.fill(byte);
 }
 
-// Writes a byte.
-pub fn put(out: &mut [u8], at: usize, byte: u8) -> usize
-    requires { Room (byte ∷ []) at out.old }
-    ensures { Written (byte ∷ []) at out.old out.new result }
-{
-    out[at] = byte;
-    at + 1
+// A lent area and the place up to which it is written.
+#[derive(Drop)]
+pub struct Writer<'a> {
+    pub out: &'a mut [u8],
+    pub at: usize,
 }
 
-// Writes a word.
-pub fn put_bytes(out: &mut [u8], at: usize, word: &[u8]) -> usize
-    requires { Room word.now at out.old }
-    ensures { Written word.now at out.old out.new result }
-{
-    let next = at + word.len();
-    out[at..next].copy_from_slice(word);
-    next
-}
-
-// Writes a number's W lowest bytes, the lowest first.
-#[tactic(auto, using(crate::proofs::LowBytes::low_first, basics::specs::Bytes::length_bytes))]
-pub fn put_number<const W: usize>(out: &mut [u8], at: usize, n: u32) -> usize
-    requires width { W ≤ 4 }
-    requires room { Room (bytes_of W n) at out.old }
-    ensures { Written (bytes_of W n) at out.old out.new result }
-{
-    put_bytes(out, at, &n.to_le_bytes()[..W])
-}
-
-// Writes the numbers of a list, each as four bytes.
-pub fn put_numbers(out: &mut [u8], at: usize, numbers: &[u16]) -> usize
-    requires { Room (element_bytes 4 numbers.now) at out.old }
-    ensures { Written (element_bytes 4 numbers.now) at out.old out.new result }
-{
-    let mut place = at;
-    for &number in numbers {
-        place = put_number::<4>(out, place, u32::from(number));
+impl<'a> Writer<'a> {
+    // A writer of the area from its front on.
+    pub fn new(out: &'a mut [u8]) -> Writer<'a>
+        ensures same_area { result.out.ghost_name ≡ out.entry.ghost_name }
+        ensures area { result.out.now ≡ out.old }
+        ensures front { result.at ≡ 0 }
+    {
+        Writer { out, at: 0 }
     }
-    place
+
+    // Writes a byte.
+    pub fn put(&mut self, byte: u8)
+        requires { Fits (byte ∷ []) self.old }
+        ensures { Wrote (byte ∷ []) self.old self.new }
+    {
+        self.out[self.at] = byte;
+        self.at += 1;
+    }
+
+    // Writes a word.
+    pub fn put_bytes(&mut self, word: &[u8])
+        requires { Fits word.now self.old }
+        ensures { Wrote word.now self.old self.new }
+    {
+        let next = self.at + word.len();
+        self.out[self.at..next].copy_from_slice(word);
+        self.at = next;
+    }
+
+    // Writes the W lowest of a number's four bytes, the lowest first.
+    #[tactic(auto, using(crate::proofs::LowBytes::low_first, basics::specs::Bytes::length_bytes))]
+    pub fn put_number<const W: usize>(&mut self, n: u32)
+        requires width { W ≤ 4 }
+        requires room { Fits (bytes_of W n) self.old }
+        ensures { Wrote (bytes_of W n) self.old self.new }
+    {
+        self.put_bytes(&n.to_le_bytes()[..W]);
+    }
+
+    // Writes the numbers of a list, each as four bytes.
+    pub fn put_numbers(&mut self, numbers: &[u16])
+        requires { Fits (element_bytes 4 numbers.now) self.old }
+        ensures { Wrote (element_bytes 4 numbers.now) self.old self.new }
+    {
+        for &number in numbers {
+            self.put_number::<4>(u32::from(number));
+        }
+    }
 }
