@@ -1,7 +1,8 @@
 -- A card is written part by part: once its head, its table and its loads are written one behind the other, the card is.
 use Rattle.std.specs.Prelude.{ℕ, ◌≡◌, List, ◌++◌}
 use Rattle.basics.specs.Core.{append_assoc}
-use Rattle.basics.specs.Writing.{Written, written_more}
+use Rattle.buffers.specs.declared.Writer.{Writer}
+use Rattle.buffers.specs.Writers.{Wrote, wrote_more}
 use Rattle.model.specs.Instance.{Instance, front_bytes, size_bytes, price_bytes, table_bytes, load_bytes, card_bytes}
 use Rattle.encoder.specs.declared.Fields.{Fields}
 use Rattle.encoder.specs.Heads.{head_of, FieldsOf}
@@ -17,6 +18,6 @@ module _ {i : Instance} {f : Fields} (is : FieldsOf i f) where
       (regrouped front_bytes (size_bytes i) (price_bytes i) (table_bytes i ++ load_bytes i))
 
   pub card_written :
-      {p q r : ℕ} {old headed tabled new : List ℕ} → Written (head_of f) 0 old headed p → Written (table_bytes i) p headed tabled q →
-      Written (load_bytes i) q tabled new r → Written (card_bytes i) 0 old new r
-  card_written head table loads = rw card_parts (written_more head (written_more table loads))
+      {old headed tabled new : Writer} → Wrote (head_of f) old headed → Wrote (table_bytes i) headed tabled →
+      Wrote (load_bytes i) tabled new → Wrote (card_bytes i) old new
+  card_written head table loads = rw card_parts (wrote_more head (wrote_more table loads))

@@ -6,11 +6,11 @@ use Rattle.model.specs.Instance.{Instance, front_bytes}
 use Rattle.encoder.specs.declared.Fields.{Fields}
 
 -- m, Q and T.
-abbrev sizes_of : Fields → List ℕ
+abbrev pub sizes_of : Fields → List ℕ
 sizes_of f = bytes_of 1 f.modules ++ (bytes_of 1 f.top_step ++ bytes_of 2 f.slots)
 
 -- The two prices.
-abbrev prices_of : Fields → List ℕ
+abbrev pub prices_of : Fields → List ℕ
 prices_of f = bytes_of 4 f.power_up ++ bytes_of 4 f.power_down
 
 -- The mark and the version, the sizes and the prices.

@@ -1,12 +1,14 @@
 // The encoder of show cards (document 01, 'The show card'): the length of a card and its head from plain fields, and the numbers of its table and
-// of its loads. A function that writes from a place on, the head from 0, returns the place after what it wrote.
+// of its loads, each written by a writer.
 #![tactic(auto)]
 
-ghost use Rattle.std.specs.Prelude.{◌≡◌, ◌++◌};
+ghost use Rattle.std.specs.Prelude.{◌≡◌};
 ghost use Rattle.basics.specs.Bytes.{bytes_of};
-ghost use Rattle.basics.specs.Writing.{Room, Written};
+ghost use Rattle.buffers.specs.Writers.{Fits, Wrote};
 ghost use Rattle.model.specs.Instance.{load_place, front_bytes};
-ghost use Rattle.encoder.specs.Heads.{head_of};
+ghost use Rattle.encoder.specs.Heads.{sizes_of, prices_of, head_of};
+
+use buffers::Writer;
 
 // The fields of a show other than its table and its loads.
 #[derive(Clone, Copy)]
@@ -26,55 +28,55 @@ pub fn card_length(fields: Fields) -> usize
 }
 
 // Writes the mark and the version.
-fn put_front(out: &mut [u8], at: usize) -> usize
-    requires { Room front_bytes at out.old }
-    ensures { Written front_bytes at out.old out.new result }
+fn put_front(writer: &mut Writer)
+    requires { Fits front_bytes writer.old }
+    ensures { Wrote front_bytes writer.old writer.new }
 {
-    let version = buffers::put_bytes(out, at, b"DLS");
-    buffers::put_number::<2>(out, version, 1)
+    writer.put_bytes(b"DLS");
+    writer.put_number::<2>(1);
 }
 
 // Writes m, Q and T.
-fn put_sizes(out: &mut [u8], at: usize, modules: u32, top: u32, slots: u32) -> usize
-    requires { Room (bytes_of 1 modules ++ (bytes_of 1 top ++ bytes_of 2 slots)) at out.old }
-    ensures { Written (bytes_of 1 modules ++ (bytes_of 1 top ++ bytes_of 2 slots)) at out.old out.new result }
+fn put_sizes(writer: &mut Writer, fields: Fields)
+    requires { Fits (sizes_of fields) writer.old }
+    ensures { Wrote (sizes_of fields) writer.old writer.new }
 {
-    let second = buffers::put_number::<1>(out, at, modules);
-    let third = buffers::put_number::<1>(out, second, top);
-    buffers::put_number::<2>(out, third, slots)
+    writer.put_number::<1>(fields.modules);
+    writer.put_number::<1>(fields.top_step);
+    writer.put_number::<2>(fields.slots);
 }
 
 // Writes the two prices.
-fn put_prices(out: &mut [u8], at: usize, up: u32, down: u32) -> usize
-    requires { Room (bytes_of 4 up ++ bytes_of 4 down) at out.old }
-    ensures { Written (bytes_of 4 up ++ bytes_of 4 down) at out.old out.new result }
+fn put_prices(writer: &mut Writer, fields: Fields)
+    requires { Fits (prices_of fields) writer.old }
+    ensures { Wrote (prices_of fields) writer.old writer.new }
 {
-    let second = buffers::put_number::<4>(out, at, up);
-    buffers::put_number::<4>(out, second, down)
+    writer.put_number::<4>(fields.power_up);
+    writer.put_number::<4>(fields.power_down);
 }
 
 // Writes the head of a card: the mark, the version, m, Q, T and the two prices.
-pub fn put_head(out: &mut [u8], fields: Fields) -> usize
-    requires { Room (head_of fields) 0 out.old }
-    ensures { Written (head_of fields) 0 out.old out.new result }
+pub fn put_head(writer: &mut Writer, fields: Fields)
+    requires { Fits (head_of fields) writer.old }
+    ensures { Wrote (head_of fields) writer.old writer.new }
 {
-    let sizes = put_front(out, 0);
-    let prices = put_sizes(out, sizes, fields.modules, fields.top_step, fields.slots);
-    put_prices(out, prices, fields.power_up, fields.power_down)
+    put_front(writer);
+    put_sizes(writer, fields);
+    put_prices(writer, fields);
 }
 
 // Writes an entry of the table.
-pub fn put_entry(out: &mut [u8], at: usize, entry: u32) -> usize
-    requires { Room (bytes_of 4 entry) at out.old }
-    ensures { Written (bytes_of 4 entry) at out.old out.new result }
+pub fn put_entry(writer: &mut Writer, entry: u32)
+    requires { Fits (bytes_of 4 entry) writer.old }
+    ensures { Wrote (bytes_of 4 entry) writer.old writer.new }
 {
-    buffers::put_number::<4>(out, at, entry)
+    writer.put_number::<4>(entry);
 }
 
 // Writes a load.
-pub fn put_load(out: &mut [u8], at: usize, load: u32) -> usize
-    requires { Room (bytes_of 2 load) at out.old }
-    ensures { Written (bytes_of 2 load) at out.old out.new result }
+pub fn put_load(writer: &mut Writer, load: u32)
+    requires { Fits (bytes_of 2 load) writer.old }
+    ensures { Wrote (bytes_of 2 load) writer.old writer.new }
 {
-    buffers::put_number::<2>(out, at, load)
+    writer.put_number::<2>(load);
 }

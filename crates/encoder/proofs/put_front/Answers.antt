@@ -1,6 +1,6 @@
 use Rattle.std.proofs.Common.{rules}
 use Rattle.basics.specs.Bytes.{bytes_of}
-use Rattle.basics.specs.Writing.{written_more}
+use Rattle.buffers.specs.Writers.{wrote_more}
 use Rattle.encoder.proofs.put_front.Goals as goal
 
 -- There is room for the version, whatever it is.
@@ -10,4 +10,4 @@ put_number-requires-clause-room c = search rules
 
 pub returns : goal.returns
 unfolding bytes_of
-returns c = search written_more
+returns c = search wrote_more
