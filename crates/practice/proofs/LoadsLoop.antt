@@ -1,20 +1,20 @@
 -- The loop that draws and writes the loads of a practice show.
-use Rattle.std.specs.Prelude.{ℕ, suc, ◌+◌, ◌*◌, ◌%◌, ◌≤◌, ◌<◌, ◌≡◌, refl, List}
+use Rattle.std.specs.Prelude.{ℕ, suc, ◌+◌, ◌*◌, ◌%◌, ◌≤◌, ◌<◌, ◌≡◌, refl}
 use Rattle.basics.specs.Core.{ap, ◌∙◌, add-zero, mul-le-mul, arith}
 use Rattle.basics.specs.Bytes.{bytes_of}
-use Rattle.basics.specs.Writing.{Room, Written, RowsWritten, rows_none, rows_room, rows_more}
+use Rattle.buffers.specs.declared.Writer.{Writer}
+use Rattle.buffers.specs.Writers.{Fits, Wrote, RowsWrote, wrote_none, row_fits, wrote_row}
 use Rattle.model.specs.Instance.{load_bytes}
 use Rattle.model.specs.Practice.{draw, drawn, practice_show}
 use Rattle.laws.specs.PracticeAccepted.{practice_sizes}
 use Rattle.practice.specs.declared.FirstDraws.{FirstDraws}
-use Rattle.practice.specs.declared.AfterTable.{AfterTable}
 use Rattle.practice.specs.Drawing.{OfStart, LoadsRoom}
 
 -- Loads so far: those of the first t slots are written.
-pub record LoadsSoFar (first : FirstDraws) (bound p : ℕ) (old : List ℕ) (t : ℕ) (new : List ℕ) (place state : ℕ) : Type 0 where
+pub record LoadsSoFar (first : FirstDraws) (bound : ℕ) (old : Writer) (t : ℕ) (new : Writer) (state : ℕ) : Type 0 where
   pub is : OfStart first
   pub bound_is : bound ≡ first.fields.modules * first.fields.top_step + 1
-  pub written : RowsWritten (λ j. bytes_of 2 ((practice_show first.start).load j)) (practice_show first.start).slots p old t new place
+  pub written : RowsWrote (λ j. bytes_of 2 ((practice_show first.start).load j)) (practice_show first.start).slots old t new
   pub state_is : state ≡ drawn first.start (6 + first.fields.top_step + t)
 
 -- m × Q is a small number.
@@ -25,19 +25,19 @@ full_range {first} is =
 
 -- Before the first turn nothing is written.
 pub loads_start :
-    {first : FirstDraws} {after : AfterTable} {old : List ℕ} → LoadsRoom first after old →
-    LoadsSoFar first (first.fields.modules * first.fields.top_step + 1) after.place old 0 old after.place after.state
+    {first : FirstDraws} {state : ℕ} {w : Writer} → LoadsRoom first state w →
+    LoadsSoFar first (first.fields.modules * first.fields.top_step + 1) w 0 w state
 loads_start {first} room =
     record {
       is = room.behind.is;
       bound_is = refl;
-      written = rows_none _ _ room.behind.room;
+      written = wrote_none _ _ room.behind.room;
       state_is = rw (add-zero (6 + first.fields.top_step)) room.state_is;
     }
 
 -- Drawn is the next state.
 module _
-    {first : FirstDraws} {bound p t : ℕ} {old new : List ℕ} {place state s : ℕ} (so : LoadsSoFar first bound p old t new place state)
+    {first : FirstDraws} {bound t : ℕ} {old new : Writer} {state s : ℕ} (so : LoadsSoFar first bound old t new state)
     (drew : s ≡ draw state) where
   next_state : s ≡ drawn first.start (7 + first.fields.top_step + t)
   unfolding drawn
@@ -50,17 +50,17 @@ module _
   load_is = rw (next_state, so.bound_is, so.is.fields_are.modules_is, so.is.fields_are.top_is)
 
   -- There is room for the load that is drawn.
-  pub load_room : Room (load_bytes (practice_show first.start)) p old → t < first.fields.slots → Room (bytes_of 2 (s % bound)) place new
-  load_room room b = rw load_is (rows_room room so.written (omega (arith, so.is.fields_are.slots_is)))
+  pub load_room : Fits (load_bytes (practice_show first.start)) old → t < first.fields.slots → Fits (bytes_of 2 (s % bound)) new
+  load_room room b = rw load_is (row_fits room so.written (omega (arith, so.is.fields_are.slots_is)))
 
   -- One more load is written.
   pub loads_turn :
-      {newer : List ℕ} {after : ℕ} → t < first.fields.slots → Written (bytes_of 2 (s % bound)) place new newer after →
-      LoadsSoFar first bound p old (t + 1) newer after s
+      {newer : Writer} → t < first.fields.slots → Wrote (bytes_of 2 (s % bound)) new newer →
+      LoadsSoFar first bound old (t + 1) newer s
   loads_turn b wrote =
       record {
         is = so.is;
         bound_is = so.bound_is;
-        written = rows_more so.written (omega (arith, so.is.fields_are.slots_is)) (rw load_is at wrote);
+        written = wrote_row so.written (omega (arith, so.is.fields_are.slots_is)) (rw load_is at wrote);
         state_is = let at : 6 + first.fields.top_step + (t + 1) ≡ 7 + first.fields.top_step + t = omega arith in rw at next_state;
       }

@@ -1,8 +1,9 @@
 -- The loop that draws and writes the table of a practice show.
-use Rattle.std.specs.Prelude.{ℕ, zero, suc, ◌+◌, ◌%◌, ◌≤◌, ◌<◌, ◌≡◌, refl, List}
+use Rattle.std.specs.Prelude.{ℕ, zero, suc, ◌+◌, ◌%◌, ◌≤◌, ◌<◌, ◌≡◌, refl}
 use Rattle.basics.specs.Core.{ap, ◌∙◌, add-one, arith}
 use Rattle.basics.specs.Bytes.{bytes_of}
-use Rattle.basics.specs.Writing.{Room, Written, RowsWritten, rows_none, rows_room, rows_more, rows_all}
+use Rattle.buffers.specs.declared.Writer.{Writer}
+use Rattle.buffers.specs.Writers.{Fits, Wrote, RowsWrote, wrote_none, row_fits, wrote_row, wrote_rows}
 use Rattle.model.specs.Instance.{table_bytes}
 use Rattle.model.specs.Practice.{draw, drawn, practice_difference, practice_entry, practice_show}
 use Rattle.laws.specs.PracticeAccepted.{practice_sizes, difference_most, entry_most}
@@ -24,9 +25,9 @@ module _ (start : ℕ) where
       rw (e, f, place)
 
 -- A table so far: the first k entries are written, and entry k is drawn.
-pub record TableSoFar (first : FirstDraws) (p : ℕ) (old : List ℕ) (k : ℕ) (new : List ℕ) (place state difference entry : ℕ) : Type 0 where
+pub record TableSoFar (first : FirstDraws) (old : Writer) (k : ℕ) (new : Writer) (state difference entry : ℕ) : Type 0 where
   pub is : OfStart first
-  pub written : RowsWritten (λ j. bytes_of 4 ((practice_show first.start).table j)) ((practice_show first.start).top_step + 1) p old k new place
+  pub written : RowsWrote (λ j. bytes_of 4 ((practice_show first.start).table j)) ((practice_show first.start).top_step + 1) old k new
   pub below : k ≤ first.fields.top_step
   pub state_is : state ≡ drawn first.start (6 + k)
   pub difference_is : difference ≡ difference_to first.start k
@@ -34,12 +35,12 @@ pub record TableSoFar (first : FirstDraws) (p : ℕ) (old : List ℕ) (k : ℕ) 
 
 -- Before the first turn nothing is written, and F(0) is drawn.
 pub table_starts :
-    {first : FirstDraws} {p : ℕ} {old : List ℕ} → DrawnRoom table_bytes first p old → TableSoFar first p old 0 old p first.state 0 first.first_entry
+    {first : FirstDraws} {w : Writer} → DrawnRoom table_bytes first w → TableSoFar first w 0 w first.state 0 first.first_entry
 unfolding practice_show difference_to
 table_starts {first} room =
     record {
       is = room.is;
-      written = rows_none _ _ room.room;
+      written = wrote_none _ _ room.room;
       below = omega arith;
       state_is = room.is.state_is;
       difference_is = refl;
@@ -47,13 +48,13 @@ table_starts {first} room =
     }
 
 module _
-    {first : FirstDraws} {p k : ℕ} {old new : List ℕ} {place state difference entry : ℕ} (so : TableSoFar first p old k new place state difference entry) where
+    {first : FirstDraws} {k : ℕ} {old new : Writer} {state difference entry : ℕ} (so : TableSoFar first old k new state difference entry) where
   top : first.fields.top_step ≤ 200
   top = let (_, _, _, most, _) = practice_sizes first.start in omega (arith, so.is.fields_are.top_is)
 
   -- There is room for the entry that is drawn.
-  pub entry_room : DrawnRoom table_bytes first p old → Room (bytes_of 4 entry) place new
-  entry_room room = rw so.entry_is (rows_room room.room so.written (omega (arith, so.is.fields_are.top_is)))
+  pub entry_room : DrawnRoom table_bytes first old → Fits (bytes_of 4 entry) new
+  entry_room room = rw so.entry_is (row_fits room.room so.written (omega (arith, so.is.fields_are.top_is)))
 
   -- The difference that led to the entry is small.
   pub difference_small : SmallDifference difference
@@ -83,13 +84,13 @@ module _
 
     -- One more entry is written, and the next one drawn.
     pub table_turns :
-        {newer : List ℕ} {after : ℕ} → k < first.fields.top_step → Written (bytes_of 4 entry) place new newer after →
-        TableSoFar first p old (k + 1) newer after s d (entry + d)
+        {newer : Writer} → k < first.fields.top_step → Wrote (bytes_of 4 entry) new newer →
+        TableSoFar first old (k + 1) newer s d (entry + d)
     unfolding difference_to practice_show
     table_turns b wrote =
         record {
           is = so.is;
-          written = rows_more so.written (omega (arith, so.is.fields_are.top_is)) (rw so.entry_is at wrote);
+          written = wrote_row so.written (omega (arith, so.is.fields_are.top_is)) (rw so.entry_is at wrote);
           below = omega arith;
           state_is = let at : 6 + (k + 1) ≡ 7 + k = omega arith in rw at next_state;
           difference_is = rw (add-one k) next_drawn;
@@ -98,7 +99,7 @@ module _
 
   -- With the last entry the table is written.
   pub table_ends :
-      {newer : List ℕ} {after : ℕ} → first.fields.top_step ≤ k → Written (bytes_of 4 entry) place new newer after →
-      Written (table_bytes (practice_show first.start)) p old newer after
+      {newer : Writer} → first.fields.top_step ≤ k → Wrote (bytes_of 4 entry) new newer →
+      Wrote (table_bytes (practice_show first.start)) old newer
   table_ends b wrote =
-      rows_all (rows_more so.written (omega (arith, so.is.fields_are.top_is)) (rw so.entry_is at wrote)) (omega (arith, so.is.fields_are.top_is))
+      wrote_rows (wrote_row so.written (omega (arith, so.is.fields_are.top_is)) (rw so.entry_is at wrote)) (omega (arith, so.is.fields_are.top_is))

@@ -1,11 +1,11 @@
 -- What the functions that draw and write a practice card ask for and give.
 use Rattle.std.specs.Prelude.{ℕ, zero, suc, ◌+◌, ◌%◌, ◌≤◌, ◌≡◌, List}
-use Rattle.basics.specs.Writing.{Room}
+use Rattle.buffers.specs.declared.Writer.{Writer}
+use Rattle.buffers.specs.Writers.{Fits}
 use Rattle.model.specs.Instance.{Instance, load_bytes}
 use Rattle.model.specs.Practice.{drawn, practice_entry, practice_show}
 use Rattle.encoder.specs.Heads.{FieldsOf}
 use Rattle.practice.specs.declared.FirstDraws.{FirstDraws}
-use Rattle.practice.specs.declared.AfterTable.{AfterTable}
 
 -- The first draws are those of their start: the fields are the practice show's, and the state is draw 6.
 pub record OfStart (first : FirstDraws) : Type 0 where
@@ -23,12 +23,12 @@ unfoldable pub next_difference : (k d s : ℕ) → ℕ
 next_difference zero d s = s % 11
 next_difference (suc k) d s = d + s % 4
 
--- Room from a place on for some bytes of the practice show whose first draws are given.
-pub record DrawnRoom (bytes : Instance → List ℕ) (first : FirstDraws) (p : ℕ) (out : List ℕ) : Type 0 where
+-- Room for some bytes of the practice show whose first draws are given.
+pub record DrawnRoom (bytes : Instance → List ℕ) (first : FirstDraws) (w : Writer) : Type 0 where
   pub is : OfStart first
-  pub room : Room (bytes (practice_show first.start)) p out
+  pub room : Fits (bytes (practice_show first.start)) w
 
 -- Room for the loads behind the table, after whose draws the generator is in the state given.
-pub record LoadsRoom (first : FirstDraws) (after : AfterTable) (out : List ℕ) : Type 0 where
-  pub behind : DrawnRoom load_bytes first after.place out
-  pub state_is : after.state ≡ drawn first.start (6 + first.fields.top_step)
+pub record LoadsRoom (first : FirstDraws) (state : ℕ) (w : Writer) : Type 0 where
+  pub behind : DrawnRoom load_bytes first w
+  pub state_is : state ≡ drawn first.start (6 + first.fields.top_step)

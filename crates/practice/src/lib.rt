@@ -2,12 +2,13 @@
 #![tactic(auto)]
 
 ghost use Rattle.std.specs.Prelude.{◌≡◌, ◌+◌};
-ghost use Rattle.basics.specs.Writing.{Written};
+ghost use Rattle.buffers.specs.Writers.{Wrote};
 ghost use Rattle.model.specs.Instance.{table_bytes, load_bytes, card_bytes};
 ghost use Rattle.model.specs.Practice.{draw, drawn, practice_show};
 ghost use Rattle.model.specs.Calls.{answer, practice_card, card_at_exit};
 ghost use Rattle.practice.specs.Drawing.{OfStart, SmallDifference, next_difference, DrawnRoom, LoadsRoom};
 
+use buffers::Writer;
 use encoder::Fields;
 use model::{Answer, Refusal};
 
@@ -17,13 +18,6 @@ struct FirstDraws {
     start: u32,
     fields: Fields,
     first_entry: u32,
-    state: u32,
-}
-
-// The place after the table, and the state of the generator after its draws.
-#[derive(Clone, Copy)]
-struct AfterTable {
-    place: usize,
     state: u32,
 }
 
@@ -77,55 +71,51 @@ fn next_difference(k: u32, difference: u32, state: u32) -> u32
     difference + state % 4
 }
 
-// Draws and writes the table.
-fn put_table(out: &mut [u8], at: usize, first: FirstDraws) -> AfterTable
-    requires { DrawnRoom table_bytes first at out.old }
-    ensures written { Written (table_bytes (practice_show first.start)) at out.old out.new result.place }
-    ensures state_value { result.state ≡ drawn first.start (6 + first.fields.top_step) }
+// Draws and writes the table, and gives the state of the generator after its draws.
+fn put_table(writer: &mut Writer, first: FirstDraws) -> u32
+    requires { DrawnRoom table_bytes first writer.old }
+    ensures written { Wrote (table_bytes (practice_show first.start)) writer.old writer.new }
+    ensures state_value { result ≡ drawn first.start (6 + first.fields.top_step) }
 {
-    let mut place = at;
     let mut state = first.state;
     let mut difference = 0;
     let mut entry = first.first_entry;
     for k in 0..first.fields.top_step {
-        place = encoder::put_entry(out, place, entry);
+        encoder::put_entry(writer, entry);
         state = xorshift(state);
         difference = next_difference(k, difference, state);
         entry += difference;
     }
-    place = encoder::put_entry(out, place, entry);
-    AfterTable { place, state }
+    encoder::put_entry(writer, entry);
+    state
 }
 
 // Draws and writes the loads.
 #[tactic(auto, using(crate::proofs::LoadsLoop::full_range))]
-fn put_loads(out: &mut [u8], first: FirstDraws, after: AfterTable) -> usize
-    requires { LoadsRoom first after out.old }
-    ensures { Written (load_bytes (practice_show first.start)) after.place out.old out.new result }
+fn put_loads(writer: &mut Writer, first: FirstDraws, mut state: u32)
+    requires { LoadsRoom first state writer.old }
+    ensures { Wrote (load_bytes (practice_show first.start)) writer.old writer.new }
 {
     let bound = first.fields.modules * first.fields.top_step + 1;
-    let mut place = after.place;
-    let mut state = after.state;
     for _ in 0..first.fields.slots {
         state = xorshift(state);
-        place = encoder::put_load(out, place, state % bound);
+        encoder::put_load(writer, state % bound);
     }
-    place
 }
 
 // Writes the card.
 #[tactic(auto, unfolding(model::specs::Instance::card_bytes))]
-fn put_card(out: &mut [u8], first: FirstDraws) -> usize
-    requires { DrawnRoom card_bytes first 0 out.old }
-    ensures { Written (card_bytes (practice_show first.start)) 0 out.old out.new result }
+fn put_card(writer: &mut Writer, first: FirstDraws)
+    requires { DrawnRoom card_bytes first writer.old }
+    ensures { Wrote (card_bytes (practice_show first.start)) writer.old writer.new }
 {
-    let table = encoder::put_head(out, first.fields);
-    let after = put_table(out, table, first);
-    put_loads(out, first, after)
+    encoder::put_head(writer, first.fields);
+    let state = put_table(writer, first);
+    put_loads(writer, first, state);
 }
 
 // The practice card of a start: refusals 14 and 10, in this order, else cost 0.
-#[tactic(auto, unfolding(model::specs::Calls::answer, model::specs::Calls::spec_of, model::specs::Calls::card_at_exit, model::specs::Calls::buffers_at_exit, model::specs::Specs::first_of, model::specs::Specs::any_short, model::specs::Specs::at_exit), using(crate::proofs::PracticeAnswers::size_is, crate::proofs::PracticeAnswers::card_room, basics::specs::Writing::written_start))]
+#[tactic(auto, using(crate::proofs::PracticeAnswers::answers))]
 pub fn practice_card(start: u32, card: &mut [u8]) -> Answer
     ensures value { result ≡ answer (practice_card start card.old) }
     ensures card_after { card.new ≡ card_at_exit (practice_card start card.old) }
@@ -138,6 +128,6 @@ pub fn practice_card(start: u32, card: &mut [u8]) -> Answer
     if card.len() < size {
         return Err(Refusal::BufferTooShort);
     }
-    put_card(card, first);
+    put_card(&mut Writer::new(card), first);
     Ok(0)
 }

@@ -5,8 +5,8 @@ use Rattle.practice.proofs.put_table.Goals as goal
 pub loop-k-init : goal.loop-k-init
 loop-k-init c = search table_starts
 
-pub put_entry-place-requires : goal.put_entry-place-requires
-put_entry-place-requires c = search entry_room
+pub put_entry-requires : goal.put_entry-requires
+put_entry-requires c = search entry_room
 
 pub next_difference-difference-requires : goal.next_difference-difference-requires
 next_difference-difference-requires c = search difference_small
@@ -17,8 +17,8 @@ overflow_add-entry c = search (next_small, arith)
 pub loop-k-preserved : goal.loop-k-preserved
 loop-k-preserved c = search table_turns
 
-pub put_entry-place-requires-2 : goal.put_entry-place-requires-2
-put_entry-place-requires-2 c = search entry_room
+pub put_entry-requires-2 : goal.put_entry-requires-2
+put_entry-requires-2 c = search entry_room
 
 pub returns-clause-written : goal.returns-clause-written
 returns-clause-written c = search table_ends
