@@ -1,5 +1,5 @@
-use Rattle.basics.specs.Writing.{written_more}
+use Rattle.buffers.specs.Writers.{wrote_more}
 use Rattle.listing.proofs.put_line.Goals as goal
 
 pub returns : goal.returns
-returns c = search written_more
+returns c = search wrote_more

@@ -1,7 +1,7 @@
-use Rattle.basics.specs.Writing.{written_more}
+use Rattle.buffers.specs.Writers.{wrote_more}
 use Rattle.model.specs.Listing.{plan_line}
 use Rattle.listing.proofs.put_plan.Goals as goal
 
 pub returns : goal.returns
 unfolding plan_line
-returns c = search written_more
+returns c = search wrote_more
