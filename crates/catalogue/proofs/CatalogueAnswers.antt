@@ -1,11 +1,16 @@
--- What the first entries of the constant are: the bytes that the catalogue call writes, and the table of every card that has them.
-use Rattle.std.specs.Prelude.{ℕ, ◌+◌, ◌≤◌, ◌≡◌, true, List, length, take}
-use Rattle.basics.specs.Core.{ap, ◌∙◌, sym, arith, take_at, length-take-le}
+-- What the first entries of the constant are: the bytes that the catalogue call writes, and the table of every card that has them; and what the
+-- call answers and leaves in its area.
+use Rattle.std.specs.Prelude.{ℕ, ◌+◌, ◌≤◌, ◌<◌, ◌≡◌, true, false, List, length, take, Ok, Err}
+use Rattle.basics.specs.Core.{ap, ◌∙◌, sym, arith, take_at, length-take-le, le-ltb, lt-ltb}
 use Rattle.basics.specs.Lists.{written_over}
 use Rattle.basics.specs.Rows.{element_bytes, length_numbers, taken_bytes}
 use Rattle.basics.specs.Writing.{Room}
 use Rattle.model.specs.Instance.{table_size, rack_number}
 use Rattle.model.specs.Catalogue.{catalogue_top, catalogue_entry, entry_of, TestedTable, catalogue_bytes}
+use Rattle.model.specs.declared.Refusal.{Refusal}
+use Rattle.model.specs.declared.Refusal.TheVariants.{RackSize, BufferTooShort}
+use Rattle.model.specs.Specs.{first_of, any_short, at_exit}
+use Rattle.model.specs.Calls.{catalogue_table, spec_of, answer, buffers_at_exit, table_at_exit}
 use Rattle.model.specs.Promises.{WritesTable}
 use Rattle.laws.specs.Acceptance.{rack_range}
 use Rattle.laws.specs.CardTables.{head_top, table_behind}
@@ -43,3 +48,31 @@ module _ (top : ℕ) {whole : List ℕ} (ranged : rack_number top ≡ true) (tes
             let behind = table_behind head (catalogue_bytes top) loads sized (rw e size) in
             rw front (catalogue_card tested _ (omega (arith, same, most)) (behind ∙ ap catalogue_bytes (sym same)));
       }
+
+module _ (top : ℕ) (table : List ℕ) where
+  -- A top step outside 1 to 200 is refused.
+  pub top_refused : rack_number top ≡ false → answer (catalogue_table top table) ≡ Err RackSize
+  unfolding answer spec_of first_of
+  top_refused e = rw e
+
+  -- With any other top step, an area that is too short is.
+  pub short_refused : rack_number top ≡ true → length table < table_size top → answer (catalogue_table top table) ≡ Err BufferTooShort
+  unfolding answer spec_of first_of any_short
+  short_refused e h = rw (e, lt-ltb _ _ h)
+
+  -- One that is long enough is answered by cost 0.
+  pub table_given : rack_number top ≡ true → table_size top ≤ length table → answer (catalogue_table top table) ≡ Ok 0
+  unfolding answer spec_of first_of any_short
+  table_given e h = rw (e, le-ltb _ _ h)
+
+  -- A refusal leaves the area as it was.
+  pub left : {x : Refusal} → answer (catalogue_table top table) ≡ Err x → table_at_exit (catalogue_table top table) ≡ table
+  unfolding table_at_exit buffers_at_exit spec_of at_exit
+  left e = rw e
+
+  -- A success has the table's bytes written over its front.
+  pub holds : answer (catalogue_table top table) ≡ Ok 0 → table_at_exit (catalogue_table top table) ≡ written_over (catalogue_bytes top) table
+  unfolding table_at_exit buffers_at_exit spec_of at_exit
+  holds e = rw e
+
+pub ruleset answers = (bytes_are, writes_table, top_refused, short_refused, table_given, left, holds)

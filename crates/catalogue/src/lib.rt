@@ -10,13 +10,13 @@ ghost use Rattle.model.specs.Calls.{answer, catalogue_table, table_at_exit};
 ghost use Rattle.model.specs.Promises.{WritesTable};
 ghost use Rattle.catalogue.specs.Entries.{EntriesRoom};
 
+use buffers::Writer;
 use model::{Answer, Refusal};
 
 mod table;
 
 // The table F(0) to F(200). That it follows the rule, is convex and never falls are three tests of the constant, each computed once over the
 // whole of it.
-#[tactic(auto, unfolding(basics::specs::Tests::every, model::specs::Catalogue::follows_rule, model::specs::Catalogue::catalogue_entry, model::specs::Instance::convex, model::specs::Instance::convex_at, model::specs::Instance::never_falls))]
 fn whole_table() -> [u16; 201]
     ensures { TestedTable result }
 {
@@ -29,11 +29,11 @@ fn put_entries(out: &mut [u8], entries: usize, table: [u16; 201])
     requires { EntriesRoom entries table out.old }
     ensures { out.new ≡ written_over (element_bytes 4 (take entries table)) out.old }
 {
-    buffers::put_numbers(out, 0, &table[..entries]);
+    Writer::new(out).put_numbers(&table[..entries]);
 }
 
 // F(0) to F(top) as a card's fields: refusals 3 and 10, else cost 0.
-#[tactic(auto, unfolding(model::specs::Calls::answer, model::specs::Calls::spec_of, model::specs::Calls::table_at_exit, model::specs::Calls::buffers_at_exit, model::specs::Specs::first_of, model::specs::Specs::any_short, model::specs::Specs::at_exit), using(crate::proofs::CatalogueAnswers::bytes_are, crate::proofs::CatalogueAnswers::writes_table))]
+#[tactic(auto, using(crate::proofs::CatalogueAnswers::answers))]
 pub fn catalogue_table(top: u64, table: &mut [u8]) -> Answer
     ensures value { result ≡ answer (catalogue_table top table.old) }
     ensures table_after { table.new ≡ table_at_exit (catalogue_table top table.old) }
