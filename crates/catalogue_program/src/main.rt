@@ -2,12 +2,12 @@
 // beside src, is what the constant in crates/catalogue is made from.
 #![tactic(auto)]
 
-ghost use Rattle.std.specs.Prelude.{◌≡◌, ◌≤◌, length};
-ghost use Rattle.basics.specs.Lists.{written_over};
-ghost use Rattle.basics.specs.Writing.{Room, Written};
+ghost use Rattle.std.specs.Prelude.{◌≡◌, ◌≤◌};
+ghost use Rattle.buffers.specs.Writers.{Fits, Wrote};
 ghost use Rattle.model.specs.Catalogue.{catalogue_entry, catalogue_top};
 ghost use Rattle.model.specs.Listing.{entry_line, catalogue_lines};
 
+use buffers::Writer;
 use std::io;
 
 // F(k), by the rule.
@@ -20,32 +20,31 @@ fn entry(k: u64) -> u64
 }
 
 // Writes the line of F(k).
-fn put_entry(out: &mut [u8], at: usize, k: u64) -> usize
+fn put_entry(writer: &mut Writer, k: u64)
     requires k_le_catalogue_top { k ≤ catalogue_top }
-    requires room { Room (entry_line k) at out.old }
-    ensures { Written (entry_line k) at out.old out.new result }
+    requires room { Fits (entry_line k) writer.old }
+    ensures { Wrote (entry_line k) writer.old writer.new }
 {
-    let end = listing::put_number(out, at, entry(k));
-    buffers::put(out, end, b'\n')
+    listing::put_number(writer, entry(k));
+    writer.put(b'\n');
 }
 
-// Writes all lines at the front of the area, and returns their length.
-fn write_lines(out: &mut [u8]) -> usize
-    requires { Room catalogue_lines 0 out.old }
-    ensures size { result ≡ length catalogue_lines }
-    ensures bytes { out.new ≡ written_over catalogue_lines out.old }
+// Writes all lines.
+fn write_lines(writer: &mut Writer)
+    requires { Fits catalogue_lines writer.old }
+    ensures { Wrote catalogue_lines writer.old writer.new }
 {
-    let mut place = 0;
     for k in 0..201 {
-        place = put_entry(out, place, k);
+        put_entry(writer, k);
     }
-    place
 }
 
 // All lines fit 4,096 bytes.
 #[tactic(auto, using(crate::proofs::Lines::lines_size))]
 fn main(rt: HostRuntime) -> io::Result<()> {
     let mut text = [0u8; 4096];
-    let size = write_lines(&mut text);
+    let mut writer = Writer::new(&mut text);
+    write_lines(&mut writer);
+    let size = writer.at;
     rt.write_all(&text[..size])
 }
