@@ -1,1 +1,2 @@
 pub mod LowBytes
+pub mod Joined
