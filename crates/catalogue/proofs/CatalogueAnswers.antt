@@ -1,7 +1,7 @@
 -- What the first entries of the constant are: the bytes that the catalogue call writes, and the table of every card that has them; and what the
 -- call answers and leaves in its area.
-use Rattle.std.specs.Prelude.{ℕ, ◌+◌, ◌≤◌, ◌<◌, ◌≡◌, true, false, List, length, take, Ok, Err}
-use Rattle.basics.specs.Core.{ap, ◌∙◌, sym, arith, take_at, length-take-le, le-ltb, lt-ltb}
+use Rattle.std.specs.Prelude.{ℕ, ◌+◌, ◌≤◌, ◌≡◌, refl, true, false, cond, not, ltb, ◌||◌, List, length, take, Ok, Err}
+use Rattle.basics.specs.Core.{ap, ◌∙◌, sym, arith, take_at, length-take-le}
 use Rattle.basics.specs.Lists.{written_over}
 use Rattle.basics.specs.Rows.{element_bytes, length_numbers, taken_bytes}
 use Rattle.basics.specs.Writing.{Room}
@@ -50,20 +50,12 @@ module _ (top : ℕ) {whole : List ℕ} (ranged : rack_number top ≡ true) (tes
       }
 
 module _ (top : ℕ) (table : List ℕ) where
-  -- A top step outside 1 to 200 is refused.
-  pub top_refused : rack_number top ≡ false → answer (catalogue_table top table) ≡ Err RackSize
-  unfolding answer spec_of first_of
-  top_refused e = rw e
-
-  -- With any other top step, an area that is too short is.
-  pub short_refused : rack_number top ≡ true → length table < table_size top → answer (catalogue_table top table) ≡ Err BufferTooShort
+  -- A top step outside 1 to 200 is refused, and then an area that is too short.
+  pub answer_is :
+      answer (catalogue_table top table) ≡
+      cond (not (rack_number top)) (Err RackSize) (cond (ltb (length table) (table_size top) || false) (Err BufferTooShort) (Ok 0))
   unfolding answer spec_of first_of any_short
-  short_refused e h = rw (e, lt-ltb _ _ h)
-
-  -- One that is long enough is answered by cost 0.
-  pub table_given : rack_number top ≡ true → table_size top ≤ length table → answer (catalogue_table top table) ≡ Ok 0
-  unfolding answer spec_of first_of any_short
-  table_given e h = rw (e, le-ltb _ _ h)
+  answer_is = refl
 
   -- A refusal leaves the area as it was.
   pub left : {x : Refusal} → answer (catalogue_table top table) ≡ Err x → table_at_exit (catalogue_table top table) ≡ table
@@ -75,4 +67,4 @@ module _ (top : ℕ) (table : List ℕ) where
   unfolding table_at_exit buffers_at_exit spec_of at_exit
   holds e = rw e
 
-pub ruleset answers = (bytes_are, writes_table, top_refused, short_refused, table_given, left, holds)
+pub ruleset answers = (bytes_are, writes_table, answer_is, left, holds)
