@@ -28,7 +28,8 @@ pub fn powers_up_to(n: u64) -> usize
     (u64::BITS - n.leading_zeros()) as usize
 }
 
-// The part is filled with the first powers of two.
+// The part is filled with the first powers of two. This and `fill_places` differ in a function alone; one fill by a closure would need quantified
+// clauses for a loop of three lines.
 #[tactic(auto, using(basics::specs::Filling::upto_all), unfolding(crate::specs::AllowedCounts::first_powers))]
 fn fill_powers(part: &mut [u64])
     requires { length part.old ≤ 8 }

@@ -65,7 +65,7 @@ pub fn put_head(writer: &mut Writer, fields: Fields)
     put_prices(writer, fields);
 }
 
-// Writes an entry of the table.
+// Writes an entry of the table. The width of an entry stands here, and that of a load below.
 pub fn put_entry(writer: &mut Writer, entry: u32)
     requires { Fits (bytes_of 4 entry) writer.old }
     ensures { Wrote (bytes_of 4 entry) writer.old writer.new }

@@ -16,7 +16,8 @@ use model::{Answer, Points, Reply, Seat, Sitting};
 use planners::{Coarse, Exact};
 use sitting::Request;
 
-// What every call but the explanation and the acts of a sitting returns: a refusal's number and cost 0, or number 0 and the cost.
+// What every call but the explanation and the acts of a sitting returns: a refusal's number and cost 0, or number 0 and the cost. C has no Result
+// and no Option, so in this record and in those of model a number says which, with the values beside it.
 #[repr(C)]
 #[derive(Clone, Copy)]
 pub struct LampAnswer {
@@ -95,7 +96,7 @@ pub extern "C" fn lamp_explain(card: &[u8], sheet: &[u8], work: &mut [u8]) -> Po
     explanation::explain(card, sheet, work)
 }
 
-// The plan of least cost over all sheets: refusals 1 to 8, 10.
+// The plan of least cost over all sheets: refusals 1 to 8, 10. An export has no type parameter, so each planner has its own.
 #[unsafe(no_mangle)]
 pub extern "C" fn lamp_plan_exact(card: &[u8], plan: &mut [u8], work: &mut [u8]) -> LampAnswer
     ensures outcome { Gives (plan_show exact card.now plan.old work.old) result.number result.cost }

@@ -1,4 +1,5 @@
 // The program's text: each function writes a part of it by a writer.
+// Digits and lines are written by hand, since the clauses say every byte of a lent area, and there is no heap for a `String`.
 #![tactic(auto)]
 
 ghost use Rattle.std.specs.Prelude.{◌≡◌, ◌<◌, length};
@@ -44,7 +45,8 @@ fn put_step(writer: &mut Writer, step: u8)
     put_count(writer, step);
 }
 
-// Writes the counts of a plan, a blank before each.
+// Writes the counts of a plan, a blank before each. This and `put_steps` differ in what they write of a byte; one function over a closure would
+// take a text as a ghost parameter, for two loops of three lines.
 fn put_counts(writer: &mut Writer, plan: &[u8])
     requires { Fits (count_texts plan.now) writer.old }
     ensures { Wrote (count_texts plan.now) writer.old writer.new }

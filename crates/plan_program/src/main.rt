@@ -60,7 +60,8 @@ fn print_card(card: &[u8], out: &mut [u8]) -> usize
     }
 }
 
-// Reads until 2,870 bytes are there, one more than the longest card has, or the input ends; a failed read counts as the end.
+// Reads until 2,870 bytes are there, one more than the longest card has, or the input ends; a failed read counts as the end. The loop counts bytes
+// that are read and no steps; `read_to_end` needs a heap, and `read_exact` fails where the card is shorter.
 fn main(rt: HostRuntime) -> io::Result<()> {
     let mut card = [0u8; 2870];
     let mut input = rt.stdin();

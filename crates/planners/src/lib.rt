@@ -94,7 +94,8 @@ pub fn plan_over(card: &Card, counts: &[u64], asked: usize, plan: &mut [u8], wor
 }
 
 // A planner's plan, of least cost over the counts that are allowed it, at the front of the plan buffer, and its cost; the work bytes that the
-// planner asks for are cleared.
+// planner asks for are cleared. C lends the two areas apart, and one struct of two `&mut` would put two clauses more on each function. The counts
+// stand in fixed memory, and are sliced where they are handed on.
 pub fn plan_by<P: PlannerKind>(kind: &P, card: &Card, plan: &mut [u8], work: &mut [u8]) -> u64
     requires keeps { KeepsRules (P.planner kind.now) (show_of card.now) }
     requires buffers { BuffersFor (P.planner kind.now) card.now plan.old work.old }

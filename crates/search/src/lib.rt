@@ -16,7 +16,8 @@ mod allowed;
 pub use allowed::Allowed;
 
 // What a slot says of a level: how much dearer the slots up to it make the place above the level than the place below it; and the side of the
-// level on which the least plan is in the slot, 2 above, 0 below, 1 where it is in the next slot.
+// level on which the least plan is in the slot, 2 above, 0 below, 1 where it is in the next slot. The side is a number, as in the definition
+// `forward`: it lies in the lent work area beside the plan and is added as votes.
 #[derive(Clone, Copy)]
 struct Verdict {
     lead: u64,

@@ -83,7 +83,7 @@ fn step_of(b: u8) -> u16
     u16::from(b)
 }
 
-// The steps of a row's active modules, summed: at most 200 × 255.
+// The steps of a row's active modules, summed: at most 200 × 255. A row is a part of a sheet, and its bound is asked where it is summed.
 fn slot_light(row: &[u8]) -> u64
     requires { RowShort row.now }
     ensures { result ≡ row_light row.now }

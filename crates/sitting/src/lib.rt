@@ -30,7 +30,7 @@ pub struct Outcome {
     pub reply: Reply,
 }
 
-// What an opening does: how many records are emptied, and the reply.
+// What an opening does: how many records are emptied, which may be none, and the reply.
 #[derive(Clone, Copy)]
 pub struct OpenOutcome {
     pub emptied: usize,
