@@ -66,9 +66,8 @@ pub struct Coarse;
 impl PlannerKind for Coarse {
     ghost planner = { λ _. coarse };
 
-    #[tactic(auto, unfolding(model::specs::Specs::first_of))]
-    fn check_list(&self, _card: &Card) -> Answer {
-        Ok(0)
+    fn check_list(&self, card: &Card) -> Answer {
+        Exact.check_list(card)
     }
 
     fn fill_counts(&self, card: &Card, counts: &mut [u64]) -> usize {
