@@ -1,5 +1,5 @@
 // The calls of document 01 but the planners', each answering every input: the refusals in their order, then what the crates below work
-// out. On an accepted card the work is done by a function that takes the card's header.
+// out. On an accepted card the work is done by a function that takes the `Card`.
 #![tactic(auto)]
 
 ghost use Rattle.std.specs.Prelude.{◌≡◌};
