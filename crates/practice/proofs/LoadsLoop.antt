@@ -7,21 +7,20 @@ use Rattle.buffers.specs.Writers.{Fits, Wrote, RowsWrote, wrote_none, row_fits, 
 use Rattle.model.specs.Instance.{load_bytes}
 use Rattle.model.specs.Practice.{draw, drawn, practice_show}
 use Rattle.laws.specs.PracticeAccepted.{practice_sizes}
-use Rattle.practice.specs.declared.FirstDraws.{FirstDraws}
-use Rattle.practice.specs.Drawing.{OfStart, LoadsRoom}
+use Rattle.practice.specs.declared.draws.FirstDraws.{FirstDraws}
+use Rattle.practice.specs.Drawing.{LoadsRoom}
 
 -- Loads so far: those of the first t slots are written.
 pub record LoadsSoFar (first : FirstDraws) (bound : ℕ) (old : Writer) (t : ℕ) (new : Writer) (state : ℕ) : Type 0 where
-  pub is : OfStart first
   pub bound_is : bound ≡ first.fields.modules * first.fields.top_step + 1
   pub written : RowsWrote (λ j. bytes_of 2 ((practice_show first.start).load j)) (practice_show first.start).slots old t new
   pub state_is : state ≡ drawn first.start (6 + first.fields.top_step + t)
 
 -- m × Q is a small number.
-pub full_range : {first : FirstDraws} → OfStart first → first.fields.modules * first.fields.top_step ≤ 40000
-full_range {first} is =
+pub full_range : (first : FirstDraws) → first.fields.modules * first.fields.top_step ≤ 40000
+full_range first =
     let (_, most, _, top, _) = practice_sizes first.start in
-    rw (is.fields_are.modules_is, is.fields_are.top_is) (mul-le-mul most top)
+    rw (first.fields_are.modules_is, first.fields_are.top_is) (mul-le-mul most top)
 
 -- Before the first turn nothing is written.
 pub loads_start :
@@ -29,7 +28,6 @@ pub loads_start :
     LoadsSoFar first (first.fields.modules * first.fields.top_step + 1) w 0 w state
 loads_start {first} room =
     record {
-      is = room.behind.is;
       bound_is = refl;
       written = wrote_none _ _ room.behind.room;
       state_is = rw (add-zero (6 + first.fields.top_step)) room.state_is;
@@ -47,11 +45,11 @@ module _
 
   load_is : s % bound ≡ (practice_show first.start).load t
   unfolding practice_show
-  load_is = rw (next_state, so.bound_is, so.is.fields_are.modules_is, so.is.fields_are.top_is)
+  load_is = rw (next_state, so.bound_is, first.fields_are.modules_is, first.fields_are.top_is)
 
   -- There is room for the load that is drawn.
   pub load_room : Fits (load_bytes (practice_show first.start)) old → t < first.fields.slots → Fits (bytes_of 2 (s % bound)) new
-  load_room room b = rw load_is (row_fits room so.written (omega (arith, so.is.fields_are.slots_is)))
+  load_room room b = rw load_is (row_fits room so.written (omega (arith, first.fields_are.slots_is)))
 
   -- One more load is written.
   pub loads_turn :
@@ -59,8 +57,7 @@ module _
       LoadsSoFar first bound old (t + 1) newer s
   loads_turn b wrote =
       record {
-        is = so.is;
         bound_is = so.bound_is;
-        written = wrote_row so.written (omega (arith, so.is.fields_are.slots_is)) (rw load_is at wrote);
+        written = wrote_row so.written (omega (arith, first.fields_are.slots_is)) (rw load_is at wrote);
         state_is = let at : 6 + first.fields.top_step + (t + 1) ≡ 7 + first.fields.top_step + t = omega arith in rw at next_state;
       }

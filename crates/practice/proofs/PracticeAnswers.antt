@@ -12,17 +12,17 @@ use Rattle.model.specs.Instance.{card_bytes, card_length, load_place}
 use Rattle.model.specs.Practice.{practice_show}
 use Rattle.model.specs.Specs.{first_of, any_short, at_exit}
 use Rattle.model.specs.Calls.{practice_card, spec_of, answer, buffers_at_exit, card_at_exit}
-use Rattle.practice.specs.declared.FirstDraws.{FirstDraws}
-use Rattle.practice.specs.Drawing.{OfStart, DrawnRoom}
+use Rattle.practice.specs.declared.draws.FirstDraws.{FirstDraws}
+use Rattle.practice.specs.Drawing.{DrawnRoom}
 
 -- The length that is worked out from the fields is the card's.
-pub size_is : (first : FirstDraws) → OfStart first → load_place first.fields.top_step first.fields.slots ≡ card_length (practice_show first.start)
+pub size_is : (first : FirstDraws) → load_place first.fields.top_step first.fields.slots ≡ card_length (practice_show first.start)
 unfolding card_length
-size_is first is = rw (is.fields_are.top_is, is.fields_are.slots_is)
+size_is first = rw (first.fields_are.top_is, first.fields_are.slots_is)
 
 -- An area of at least that length has room for the card.
-pub card_room : {first : FirstDraws} {w : Writer} → OfStart first → w.at ≡ 0 → card_length (practice_show first.start) ≤ length w.out.now → DrawnRoom card_bytes first w
-card_room {first} is front long = record { is = is; room = record { room = omega (arith, card_bytes_length (practice_show first.start)) } }
+pub card_room : {first : FirstDraws} {w : Writer} → w.at ≡ 0 → card_length (practice_show first.start) ≤ length w.out.now → DrawnRoom card_bytes first w
+card_room {first} front long = record { room = record { room = omega (arith, card_bytes_length (practice_show first.start)) } }
 
 module _ (start : ℕ) (card : List ℕ) where
   -- Start 0 is refused.

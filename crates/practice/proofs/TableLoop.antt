@@ -7,8 +7,8 @@ use Rattle.buffers.specs.Writers.{Fits, Wrote, RowsWrote, wrote_none, row_fits, 
 use Rattle.model.specs.Instance.{table_bytes}
 use Rattle.model.specs.Practice.{draw, drawn, practice_difference, practice_entry, practice_show}
 use Rattle.laws.specs.PracticeAccepted.{practice_sizes, difference_most, entry_most}
-use Rattle.practice.specs.declared.FirstDraws.{FirstDraws}
-use Rattle.practice.specs.Drawing.{OfStart, DrawnRoom, SmallDifference, next_difference}
+use Rattle.practice.specs.declared.draws.FirstDraws.{FirstDraws}
+use Rattle.practice.specs.Drawing.{DrawnRoom, SmallDifference, next_difference}
 
 module _ (start : ℕ) where
   -- The difference that led to F(k), 0 for F(0).
@@ -26,7 +26,6 @@ module _ (start : ℕ) where
 
 -- A table so far: the first k entries are written, and entry k is drawn.
 pub record TableSoFar (first : FirstDraws) (old : Writer) (k : ℕ) (new : Writer) (state difference entry : ℕ) : Type 0 where
-  pub is : OfStart first
   pub written : RowsWrote (λ j. bytes_of 4 ((practice_show first.start).table j)) ((practice_show first.start).top_step + 1) old k new
   pub below : k ≤ first.fields.top_step
   pub state_is : state ≡ drawn first.start (6 + k)
@@ -39,22 +38,21 @@ pub table_starts :
 unfolding practice_show difference_to
 table_starts {first} room =
     record {
-      is = room.is;
       written = wrote_none _ _ room.room;
       below = omega arith;
-      state_is = room.is.state_is;
+      state_is = first.state_is;
       difference_is = refl;
-      entry_is = room.is.first_is;
+      entry_is = first.first_is;
     }
 
 module _
     {first : FirstDraws} {k : ℕ} {old new : Writer} {state difference entry : ℕ} (so : TableSoFar first old k new state difference entry) where
   top : first.fields.top_step ≤ 200
-  top = let (_, _, _, most, _) = practice_sizes first.start in omega (arith, so.is.fields_are.top_is)
+  top = let (_, _, _, most, _) = practice_sizes first.start in omega (arith, first.fields_are.top_is)
 
   -- There is room for the entry that is drawn.
   pub entry_room : DrawnRoom table_bytes first old → Fits (bytes_of 4 entry) new
-  entry_room room = rw so.entry_is (row_fits room.room so.written (omega (arith, so.is.fields_are.top_is)))
+  entry_room room = rw so.entry_is (row_fits room.room so.written (omega (arith, first.fields_are.top_is)))
 
   -- The difference that led to the entry is small.
   pub difference_small : SmallDifference difference
@@ -89,8 +87,7 @@ module _
     unfolding difference_to practice_show
     table_turns b wrote =
         record {
-          is = so.is;
-          written = wrote_row so.written (omega (arith, so.is.fields_are.top_is)) (rw so.entry_is at wrote);
+          written = wrote_row so.written (omega (arith, first.fields_are.top_is)) (rw so.entry_is at wrote);
           below = omega arith;
           state_is = let at : 6 + (k + 1) ≡ 7 + k = omega arith in rw at next_state;
           difference_is = rw (add-one k) next_drawn;
@@ -102,4 +99,4 @@ module _
       {newer : Writer} → first.fields.top_step ≤ k → Wrote (bytes_of 4 entry) new newer →
       Wrote (table_bytes (practice_show first.start)) old newer
   table_ends b wrote =
-      wrote_rows (wrote_row so.written (omega (arith, so.is.fields_are.top_is)) (rw so.entry_is at wrote)) (omega (arith, so.is.fields_are.top_is))
+      wrote_rows (wrote_row so.written (omega (arith, first.fields_are.top_is)) (rw so.entry_is at wrote)) (omega (arith, first.fields_are.top_is))

@@ -3,15 +3,8 @@ use Rattle.std.specs.Prelude.{ℕ, zero, suc, ◌+◌, ◌%◌, ◌≤◌, ◌�
 use Rattle.buffers.specs.declared.Writer.{Writer}
 use Rattle.buffers.specs.Writers.{Fits}
 use Rattle.model.specs.Instance.{Instance, load_bytes}
-use Rattle.model.specs.Practice.{drawn, practice_entry, practice_show}
-use Rattle.encoder.specs.Heads.{FieldsOf}
-use Rattle.practice.specs.declared.FirstDraws.{FirstDraws}
-
--- The first draws are those of their start: the fields are the practice show's, and the state is draw 6.
-pub record OfStart (first : FirstDraws) : Type 0 where
-  pub fields_are : FieldsOf (practice_show first.start) first.fields
-  pub first_is : first.first_entry ≡ practice_entry first.start 0
-  pub state_is : first.state ≡ drawn first.start 6
+use Rattle.model.specs.Practice.{drawn, practice_show}
+use Rattle.practice.specs.declared.draws.FirstDraws.{FirstDraws}
 
 -- A difference so small that the next one fits 32 bits.
 pub record SmallDifference (d : ℕ) : Type 0 where
@@ -25,7 +18,6 @@ next_difference (suc k) d s = d + s % 4
 
 -- Room for some bytes of the practice show whose first draws are given.
 pub record DrawnRoom (bytes : Instance → List ℕ) (first : FirstDraws) (w : Writer) : Type 0 where
-  pub is : OfStart first
   pub room : Fits (bytes (practice_show first.start)) w
 
 -- Room for the loads behind the table, after whose draws the generator is in the state given.

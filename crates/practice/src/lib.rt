@@ -6,20 +6,14 @@ ghost use Rattle.buffers.specs.Writers.{Wrote};
 ghost use Rattle.model.specs.Instance.{table_bytes, load_bytes, card_bytes};
 ghost use Rattle.model.specs.Practice.{draw, drawn, practice_show};
 ghost use Rattle.model.specs.Calls.{answer, practice_card, card_at_exit};
-ghost use Rattle.practice.specs.Drawing.{OfStart, SmallDifference, next_difference, DrawnRoom, LoadsRoom};
+ghost use Rattle.practice.specs.Drawing.{SmallDifference, next_difference, DrawnRoom, LoadsRoom};
+
+mod draws;
 
 use buffers::Writer;
+use draws::FirstDraws;
 use encoder::Fields;
 use model::{Answer, Refusal};
-
-// What the first six draws of a start give, with the start and the state of the generator after them.
-#[derive(Clone, Copy)]
-struct FirstDraws {
-    start: u32,
-    fields: Fields,
-    first_entry: u32,
-    state: u32,
-}
 
 // One draw: the new state of the generator.
 #[tactic(auto, unfolding(model::specs::Practice::draw, model::specs::Practice::xor_left, model::specs::Practice::xor_right))]
@@ -34,7 +28,6 @@ fn xorshift(s: u32) -> u32
 // The first six draws.
 #[tactic(auto, unfolding(model::specs::Practice::drawn, model::specs::Practice::practice_entry, model::specs::Practice::practice_show))]
 fn draw_first(start: u32) -> FirstDraws
-    ensures of_start { OfStart result }
     ensures start_value { result.start ≡ start }
 {
     let modules = xorshift(start);
