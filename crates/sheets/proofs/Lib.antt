@@ -2,6 +2,7 @@ pub mod ListSums
 pub mod Row
 pub mod SheetBytes
 pub mod RowPlaces
+pub mod RowCuts
 pub mod Filled
 pub mod States
 pub mod Split

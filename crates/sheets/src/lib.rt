@@ -98,11 +98,9 @@ pub fn sheet_light(card: &Card, sheet: &[u8]) -> bool
     ensures { result ≡ sheet_light (show_of card.now) sheet.now }
 {
     let modules = card.header.modules as usize;
-    for t in 0..card.header.slots {
-        let start = t as usize * modules;
-        let end = start + modules;
-        let light = slot_light(&sheet[start..end]);
-        if light < card.load(t) {
+    for (t, row) in sheet.chunks_exact(modules).enumerate() {
+        let light = slot_light(row);
+        if light < card.load(t as u64) {
             return false;
         }
     }
