@@ -64,10 +64,8 @@ fn write_counts(card: &Card, sheet: &[u8], counts: &mut [u8])
     ensures { counts.new ≡ counts_of (show_of card.now) sheet.now }
 {
     let modules = card.header.modules as usize;
-    for t in 0..counts.len() {
-        let start = t * modules;
-        let end = start + modules;
-        counts[t] = row_active(&sheet[start..end]);
+    for (t, row) in sheet.chunks_exact(modules).enumerate() {
+        counts[t] = row_active(row);
     }
 }
 

@@ -45,7 +45,7 @@ returns-then-light-load c =
     let cut = row_cut c.requires c.loop-t.invariant.0 step.0.0 step.0.1 step.1 in
     let light = c.slot_light-light.ensures ∙ ap row_light cut.row_is in
     passed_not (rw (← step.1) at c.loop-t.invariant.1) (in_header c.args.card.now cut.below)
-    (light_failed c.requires cut.below light c.load.ensures.is c.if-light-load.true)
+    (search (light_failed c.requires cut.below light c.load.ensures.is))
 
 pub loop-t-preserved : goal.loop-t-preserved
 loop-t-preserved c =
