@@ -33,4 +33,6 @@ module _
   -- After the last turn all counts are written.
   pub counts_written : card.header.slots ≤ t → counts ≡ counts_of (show_of card) sheet
   unfolding counts_of
-  counts_written done = upto_all inv (omega (arith, inv.size, room.slotwise, card.header_is.slots_is)) ∙ ap (λ (n : ℕ). tabulate n (λ u. active_at (show_of card) sheet (suc u))) room.slotwise
+  counts_written done =
+      upto_all inv (omega (arith, inv.size, room.slotwise, card.header_is.slots_is)) ∙
+      ap (λ (n : ℕ). tabulate n (λ u. active_at (show_of card) sheet (suc u))) room.slotwise
