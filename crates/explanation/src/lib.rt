@@ -77,7 +77,8 @@ fn beyond_rise(starts: u8, was: u8, n: u8) -> u64
     u64::from(starts - n.saturating_sub(was))
 }
 
-// How many modules go on beyond the rises of the counts, from each slot to the next. Into the first slot none does.
+// How many modules go on beyond the rises of the counts, from each slot to the next. Into the first slot none does. Each row is met with
+// the next one, so both are cut by their bounds.
 fn exchanged_modules(card: &Card, sheet: &[u8], counts: &[u8]) -> u64
     requires { CountsKnown card.now sheet.now counts.now }
     ensures { result ≡ exchanged (show_of card.now) sheet.now }

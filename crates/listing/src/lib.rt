@@ -110,7 +110,7 @@ fn put_slot(writer: &mut Writer, t: usize, row: &[u8])
     writer.put(b'\n');
 }
 
-// Writes the lines of a sheet in rows of m bytes.
+// Writes the lines of a sheet in rows of m bytes. The rows may have no bytes, for which `chunks_exact` has no rows at all.
 fn put_sheet(writer: &mut Writer, m: usize, slots: usize, sheet: &[u8])
     requires in_rows { InRows m slots sheet.now }
     requires room { Fits (sheet_lines m slots sheet.now) writer.old }
