@@ -1,4 +1,4 @@
--- An accepted card is as long as its header says, so it has each entry of its table and each load.
+-- An accepted card is as long as its header says, so it has each load.
 use Rattle.std.specs.Prelude.{ℕ, ◌≤◌, ◌<◌, List}
 use Rattle.basics.specs.Core.{arith}
 use Rattle.model.specs.Calls.{Accepted}
@@ -12,9 +12,6 @@ pub sized : {s : List ℕ} {h : Header} → Accepted s → HeaderOf s h → Size
 sized {s} accepted header_is = record { header = header_is; size = omega (arith, card_size s accepted, header_is.top_is, header_is.slots_is) }
 
 module _ (card : Card) where
-  pub in_table : {k : ℕ} → k ≤ (show_of card).top_step → k ≤ card.header.top_step
-  in_table below = omega (arith, card.header_is.top_is)
-
   module _ {t : ℕ} where
     pub in_header : t < card.header.slots → t < (show_of card).slots
     in_header below = omega (arith, card.header_is.slots_is)

@@ -3,13 +3,12 @@ use Rattle.std.specs.Prelude.{ℕ, ◌≡◌, refl, Bool, true, false, cond, Lis
 use Rattle.basics.specs.Core.{sym, ap, ◌∙◌, ne_eqb}
 use Rattle.model.specs.Answers.{Answer}
 use Rattle.std.specs.Prelude.{Ok, Err}
-use Rattle.model.specs.declared.Refusal.{Refusal}
 use Rattle.model.specs.declared.Refusal.TheVariants.{NotPermitted}
 use Rattle.model.specs.declared.Seat.{Seat}
 use Rattle.model.specs.declared.Sitting.{Sitting}
 use Rattle.model.specs.declared.Reply.{Reply}
 use Rattle.model.specs.declared.Points.{Points}
-use Rattle.model.specs.Answers.{refusal_number, number_of, cost_of}
+use Rattle.model.specs.Answers.{number_of, cost_of}
 use Rattle.model.specs.Instance.{instance_of}
 use Rattle.model.specs.Sheets.{serves, sheet_cost}
 use Rattle.model.specs.Plans.{sheet_of}
@@ -36,10 +35,6 @@ use Rattle.theory.specs.Outcomes.{mark_number, made_marked, planner_on, planner_
 -- What is given of an answer is given of an equal one.
 pub gives_as : {a b : Answer} {number cost : ℕ} → a ≡ b → NumbersOf a number cost → NumbersOf b number cost
 gives_as e g = rw e at g
-
--- The numbers of a refusal.
-pub refused_numbers : {a : Answer} {x : Refusal} {number : ℕ} → a ≡ Err x → number ≡ refusal_number x → NumbersOf a number 0
-refused_numbers e n = record { number_is = n ∙ sym (ap number_of e); cost_is = sym (ap cost_of e) }
 
 -- Marking.
 module _ (s x : List ℕ) {a : Answer} (is : a ≡ answer (mark_sheet s x)) {number cost : ℕ} (given : NumbersOf a number cost) where
