@@ -2,7 +2,9 @@
 // beside src, is what the constant in crates/catalogue is made from.
 #![tactic(auto)]
 
-ghost use Rattle.std.specs.Prelude.{◌≡◌, ◌≤◌};
+ghost use Rattle.std.specs.Prelude.{◌≡◌, ◌≤◌, length};
+ghost use Rattle.basics.specs.Lists.{written_over};
+ghost use Rattle.basics.specs.Writing.{Room};
 ghost use Rattle.buffers.specs.Writers.{Fits, Wrote};
 ghost use Rattle.model.specs.Catalogue.{catalogue_entry, catalogue_top};
 ghost use Rattle.model.specs.Listing.{entry_line, catalogue_lines};
@@ -30,7 +32,7 @@ fn put_entry(writer: &mut Writer, k: u64)
 }
 
 // Writes all lines.
-fn write_lines(writer: &mut Writer)
+fn put_lines(writer: &mut Writer)
     requires { Fits catalogue_lines writer.old }
     ensures { Wrote catalogue_lines writer.old writer.new }
 {
@@ -39,12 +41,21 @@ fn write_lines(writer: &mut Writer)
     }
 }
 
+// Writes all lines at the front of the area, and returns their length.
+fn write_lines(out: &mut [u8]) -> usize
+    requires { Room catalogue_lines 0 out.old }
+    ensures size { result ≡ length catalogue_lines }
+    ensures bytes { out.new ≡ written_over catalogue_lines out.old }
+{
+    let mut writer = Writer::new(out);
+    put_lines(&mut writer);
+    writer.at
+}
+
 // All lines fit 4,096 bytes.
 #[tactic(auto, using(crate::proofs::Lines::lines_size))]
 fn main(rt: HostRuntime) -> io::Result<()> {
     let mut text = [0u8; 4096];
-    let mut writer = Writer::new(&mut text);
-    write_lines(&mut writer);
-    let size = writer.at;
+    let size = write_lines(&mut text);
     rt.write_all(&text[..size])
 }

@@ -1,7 +1,7 @@
 use Rattle.basics.specs.Core.{arith}
 use Rattle.buffers.specs.Writers.{wrote_none, row_fits, wrote_row, wrote_rows}
 use Rattle.model.specs.Listing.{catalogue_lines}
-use Rattle.catalogue_program.proofs.write_lines.Goals as goal
+use Rattle.catalogue_program.proofs.put_lines.Goals as goal
 
 pub loop-k-init : goal.loop-k-init
 unfolding catalogue_lines
