@@ -8,7 +8,7 @@ use Rattle.model.specs.declared.Seat.{Seat}
 use Rattle.model.specs.SittingState.{seat_limit, seats_of, is_of, empty_seat}
 use Rattle.seats.specs.declared.Found.{Found}
 use Rattle.seats.specs.Found.{found}
-use Rattle.seats.specs.FoundLaws.{before_place, at_place}
+use Rattle.seats.specs.FoundLaws.{before_place, at_place, first_found, none_found}
 
 -- What is found for candidate c once one more record is seen, which is at place k.
 abbrev pub look_of : Option Found → (k : ℕ) → Seat → (c : ℕ) → Option Found
@@ -41,7 +41,7 @@ module _ (c : ℕ) (xs : List Seat) where
       (true_or_false (occurs (is_of c) (seats_of xs)))
 
   -- A seat is a record of the list.
-  seat_in : (j : ℕ) → j < seats → get_or xs j empty_seat ≡ get_or (seats_of xs) j empty_seat
+  pub seat_in : (j : ℕ) → j < seats → get_or xs j empty_seat ≡ get_or (seats_of xs) j empty_seat
   seat_in j h = sym (get_or-take seat_limit xs j empty_seat (omega (arith, length-take seat_limit xs, min-le_left seat_limit (length xs))))
 
   -- What is found after one seat more.
@@ -68,19 +68,19 @@ module _ (c : ℕ) (xs : List Seat) where
 
   -- What is found after the last seat that is seen.
   pub view_end : view_at turns ≡ found c xs
-  unfolding found
   view_end =
       ⊎_elim
       (λ (e : occurs (is_of c) (seats_of xs) ≡ true).
       let inside : place < seats = place_inside (is_of c) (seats_of xs) e in
-      let own : is_of c (get_or xs place empty_seat) ≡ true = ap (is_of c) (seat_in place inside) ∙ at_place (is_of c) empty_seat (seats_of xs) e in
+      let at : is_of c (get_or (seats_of xs) place empty_seat) ≡ true = at_place (is_of c) empty_seat (seats_of xs) e in
+      let own : is_of c (get_or xs place empty_seat) ≡ true = ap (is_of c) (seat_in place inside) ∙ at in
       let last : turns ≡ suc place = omega arith in
       ap view_at last ∙ next_view place (passed_is place (le_refl place)) ∙
-      rw (own, e) (ap (λ (s : Seat). Some (record { at = place; seat = s })) (seat_in place inside)))
+      rw own (ap (λ (s : Seat). Some (record { at = place; seat = s })) (seat_in place inside)) ∙ first_found c xs place (le_refl place) inside at)
       (λ (e : occurs (is_of c) (seats_of xs) ≡ false).
       let none : place ≡ seats = place_beyond (is_of c) (seats_of xs) e in
       let last : turns ≡ place = omega arith in
-      ap view_at last ∙ passed_is place (le_refl place) ∙ rw e refl)
+      ap view_at last ∙ passed_is place (le_refl place) ∙ none_found c xs place (le_refl place) (omega arith))
       (true_or_false (occurs (is_of c) (seats_of xs)))
 
   module _ (j : ℕ) (h : j < turns) where

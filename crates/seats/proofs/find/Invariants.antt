@@ -1,8 +1,7 @@
-use Rattle.std.specs.Prelude.{◌≤◌}
-use Rattle.basics.specs.FirstPlace.{first_place}
-use Rattle.model.specs.SittingState.{seats_of, is_of}
+use Rattle.std.specs.Prelude.{◌≤◌, ◌≡◌, None}
+use Rattle.seats.specs.Scanning.{turns, view_at}
 use Rattle.seats.proofs.find.Given as goal
 
--- No record before is the candidate's.
+-- The records before are seen, and nothing is found.
 abbrev pub invariant-loop-at : goal.invariant-loop-at
-invariant-loop-at l = l.at ≤ first_place (is_of l.candidate) (seats_of l.seats)
+invariant-loop-at l = (l.at ≤ turns l.candidate l.seats) × (view_at l.candidate l.seats l.at ≡ None)
