@@ -4,6 +4,7 @@
 
 ghost use Rattle.std.specs.Prelude.{◌≡◌, ◌<◌, length};
 ghost use Rattle.basics.specs.Lists.{written_over};
+ghost use Rattle.basics.specs.Writing.{Room, Written};
 ghost use Rattle.buffers.specs.Writers.{Fits, Wrote};
 ghost use Rattle.model.specs.Listing.{decimal, plan_line, slot_line, listing, refused_line};
 ghost use Rattle.listing.specs.Texts.{numbered_line, count_text, count_texts, module_text, module_texts, slot_number, sheet_lines};
@@ -11,17 +12,28 @@ ghost use Rattle.listing.specs.Texts.{InRows, Printable, LineRoom};
 
 use buffers::Writer;
 
+// Writes a number in decimal from a place on, and returns the place after it. The place is handed on by value: where a writer is lent to a function that
+// calls itself, its place stands in memory, and each byte that is written anywhere waits for it there.
+#[tactic(auto, using(crate::proofs::Digits::decimal_one, basics::specs::Writing::written_one))]
+fn put_digits(out: &mut [u8], at: usize, n: u64) -> usize
+    requires { Room (decimal n) at out.old }
+    ensures { Written (decimal n) at out.old out.new result }
+{
+    if n < 10 {
+        out[at] = b'0' + n as u8;
+        return at + 1;
+    }
+    let last = put_digits(out, at, n / 10);
+    out[last] = b'0' + (n % 10) as u8;
+    last + 1
+}
+
 // Writes a number in decimal.
-#[tactic(auto, using(crate::proofs::Digits::decimal_one))]
 pub fn put_number(writer: &mut Writer, n: u64)
     requires { Fits (decimal n) writer.old }
     ensures { Wrote (decimal n) writer.old writer.new }
 {
-    if n < 10 {
-        return writer.put(b'0' + n as u8);
-    }
-    put_number(writer, n / 10);
-    writer.put(b'0' + (n % 10) as u8);
+    writer.at = put_digits(writer.out, writer.at, n);
 }
 
 // Writes a blank and a count.
@@ -33,14 +45,15 @@ fn put_count(writer: &mut Writer, count: u8)
     put_number(writer, u64::from(count));
 }
 
-// Writes a blank and a module's step, or `-` for off.
+// Writes a blank and a module's step, or `-` for off: two bytes one by one, since `put_bytes` first tests whether two parts overlap.
 #[tactic(auto, unfolding(model::specs::Listing::step_text))]
 fn put_step(writer: &mut Writer, step: u8)
     requires { Fits (module_text step) writer.old }
     ensures { Wrote (module_text step) writer.old writer.new }
 {
     if step == 255 {
-        return writer.put_bytes(b" -");
+        writer.put(b' ');
+        return writer.put(b'-');
     }
     put_count(writer, step);
 }
