@@ -1,6 +1,7 @@
 -- A writer: a lent area and the place up to which it is written.
 use Rattle.std.specs.Prelude.{ℕ, ◌+◌, ◌≤◌, ◌<◌, ◌≡◌, refl, List, ◌++◌, length}
 use Rattle.basics.specs.Core.{◌∙◌}
+use Rattle.basics.specs.Bytes.{bytes_of}
 use Rattle.basics.specs.Lists.{rows, written_over}
 use Rattle.basics.specs.Writing.{Room, Written, RowsWritten, written_more, written_start, rows_none, rows_room, rows_more, rows_all}
 use Rattle.buffers.specs.declared.Writer.{Writer}
@@ -8,6 +9,11 @@ use Rattle.buffers.specs.declared.Writer.{Writer}
 -- The text fits behind what is written.
 abbrev pub Fits : (text : List ℕ) → Writer → Type 0
 Fits text w = Room text w.at w.out.now
+
+-- The w lowest of a number's four bytes fit behind what is written.
+pub record NumberFits (w n : ℕ) (writer : Writer) : Type 0 where
+  pub width : w ≤ 4
+  pub room : Fits (bytes_of w n) writer
 
 -- The text is written behind it, and the writer still holds the same area.
 pub record Wrote (text : List ℕ) (old new : Writer) : Type 0 where

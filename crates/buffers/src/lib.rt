@@ -4,7 +4,7 @@
 ghost use Rattle.std.specs.Prelude.{◌≡◌, ◌≤◌, [], ◌∷◌, length, replicate};
 ghost use Rattle.basics.specs.Bytes.{bytes_of};
 ghost use Rattle.basics.specs.Rows.{element_bytes};
-ghost use Rattle.buffers.specs.Writers.{Fits, Wrote};
+ghost use Rattle.buffers.specs.Writers.{Fits, NumberFits, Wrote};
 
 // Every byte of the part is set to the byte given.
 pub fn fill(part: &mut [u8], byte: u8)
@@ -52,8 +52,7 @@ impl<'a> Writer<'a> {
     // Writes the W lowest of a number's four bytes, the lowest first.
     #[tactic(auto, using(crate::proofs::LowBytes::low_first, basics::specs::Bytes::length_bytes))]
     pub fn put_number<const W: usize>(&mut self, n: u32)
-        requires width { W ≤ 4 }
-        requires room { Fits (bytes_of W n) self.old }
+        requires { NumberFits W n self.old }
         ensures { Wrote (bytes_of W n) self.old self.new }
     {
         self.put_bytes(&n.to_le_bytes()[..W]);

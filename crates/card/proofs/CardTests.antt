@@ -1,10 +1,10 @@
 -- What the tests of a card look at, and the refusal that each way through the checks gives.
-use Rattle.std.specs.Prelude.{ℕ, ◌*◌, ◌⊎◌, ◌≤◌, ◌<◌, ◌≡◌, refl, Bool, true, false, ◌&&◌, List, length, leb}
-use Rattle.basics.specs.Core.{sym, ◌∙◌, inl, inr, ⊎_elim, lt-ltb, le-ltb, ltb-false, le-leb, lt-leb}
-use Rattle.basics.specs.Core.{eq-eqb, ne_eqb, eqb-true, not-false, mul-le-mul}
+use Rattle.std.specs.Prelude.{ℕ, zero, suc, ◌+◌, ◌*◌, ◌≤◌, ◌<◌, ◌≡◌, refl, Bool, true, false, ◌&&◌, List, length, leb}
+use Rattle.basics.specs.Core.{sym, ap, ◌∙◌, inl, inr, ⊎_elim, lt-ltb, le-ltb, ltb-false, le-leb, lt-leb}
+use Rattle.basics.specs.Core.{eq-eqb, ne_eqb, eqb-true, not-false, mul-le-mul, add-one, add-suc, add-zero, zero-add, and-true, arith}
+use Rattle.std.proofs.Math.Bool.{and_assoc}
 use Rattle.basics.specs.Lists.{same_list}
-use Rattle.basics.specs.Numbers.{le_or_lt}
-use Rattle.basics.specs.Tests.{or_left, every_fails, passed_more, passed_all}
+use Rattle.basics.specs.Tests.{every, every_fails, every_not, every_same, or_left}
 use Rattle.model.specs.declared.Refusal.TheVariants.{NotACard, Version, RackSize, SlotCount, CardLength, PriceRange, NotConvex, LoadRange}
 use Rattle.model.specs.Answers.{Answer}
 use Rattle.std.specs.Prelude.{Ok, Err}
@@ -14,7 +14,7 @@ use Rattle.model.specs.Specs.{front_tests, size_tests, body_tests, first_of}
 use Rattle.laws.specs.FirstRefusal.{none_applies}
 use Rattle.card.specs.declared.Header.{Header}
 use Rattle.card.specs.Fields.{HeaderOf, Sized}
-use Rattle.card.specs.Checking.{rack_fits, first_among}
+use Rattle.card.specs.Checking.{rack_fits, loads_fit, first_among}
 
 -- Each lemma below is one way through the code: the tests passed and the one that failed.
 module _ (s : List ℕ) where
@@ -106,14 +106,56 @@ module _ (s : List ℕ) where
             unfolding first_among first_of
             body_passed e = rw (prices, rw given.top_is at convex-ok, e)
 
--- A load of the show keeps its bound, or the loads do not.
-pub load_kept : (i : Instance) (t : ℕ) → t < i.slots → (i.load t ≤ i.modules * i.top_step) ⊎ (false ≡ loads_in_range i)
-unfolding loads_in_range
-load_kept i t there =
-    ⊎_elim
-    (λ (kept : i.load t ≤ i.modules * i.top_step). inl kept)
-    (λ (past : i.modules * i.top_step < i.load t). inr (sym (every_fails i.slots _ t there (lt-leb _ _ past))))
-    (le_or_lt (i.load t) (i.modules * i.top_step))
+-- Some loads from a slot on keep a bound: none of them, one more, and some and then others.
+module _ (i : Instance) (most t : ℕ) where
+  pub none_compared : true ≡ loads_fit i most t 0
+  unfolding loads_fit every
+  none_compared = refl
 
--- What the loop over the loads rests on.
-pub ruleset loads_tested = (passed_more, passed_all, load_kept, mul-le-mul)
+  pub one_compared :
+      (k : ℕ) {load : ℕ} {before : Bool} → before ≡ loads_fit i most t k → load ≡ i.load (t + k) → (before && leb load most) ≡ loads_fit i most t (k + 1)
+  unfolding loads_fit every
+  one_compared k e is = rw (add-one k, e, is)
+
+fit_join : (i : Instance) (most a b : ℕ) → loads_fit i most 0 (a + b) ≡ (loads_fit i most 0 a && loads_fit i most a b)
+unfolding loads_fit every
+fit_join i most a zero = rw (add-zero a) (sym (and-true _))
+fit_join i most a (suc b) =
+    let next = leb (i.load (a + b)) most in
+    rw (add-suc a b, zero-add (a + b), fit_join i most a b) (and_assoc (loads_fit i most 0 a) (loads_fit i most a b) next)
+
+-- What the loop over some loads rests on.
+pub ruleset loads_compared = (none_compared, one_compared)
+
+-- The loads of a show by blocks: the bound is the show's, and all loads before a block keep it.
+module _ (i : Instance) {most : ℕ} (bound : most ≡ i.modules * i.top_step) where
+  pub no_block : loads_fit i most 0 (64 * 0) ≡ true
+  unfolding loads_fit every
+  no_block = refl
+
+  pub next_block : (b : ℕ) → loads_fit i most 0 (64 * b) ≡ true → loads_fit i most (64 * b) 64 ≡ true → loads_fit i most 0 (64 * (b + 1)) ≡ true
+  next_block b before this =
+      let more : 64 * (b + 1) ≡ 64 * b + 64 = omega arith in
+      rw (more, fit_join i most (64 * b) 64, before, this)
+
+  pub block_fails : (t n : ℕ) → t + n ≤ i.slots → loads_fit i most t n ≡ false → false ≡ loads_in_range i
+  unfolding loads_fit loads_in_range
+  block_fails t n inside fails =
+      let fails-at = rw bound at fails in
+      let (k, below, past) = every_not n (λ k. leb (i.load (t + k)) (i.modules * i.top_step)) fails-at in
+      sym (every_fails i.slots _ (t + k) (omega arith) past)
+
+  -- All loads are those of the show.
+  all_fit : loads_in_range i ≡ loads_fit i most 0 i.slots
+  unfolding loads_fit loads_in_range
+  all_fit = every_same i.slots _ _ (λ k h. rw (bound, zero-add k))
+
+  pub last_block :
+      (b rest : ℕ) {last : Bool} → loads_fit i most 0 (64 * b) ≡ true → last ≡ loads_fit i most (64 * b) rest → i.slots ≡ 64 * b + rest →
+      last ≡ loads_in_range i
+  last_block b rest before is all =
+      let joined = all_fit ∙ ap (loads_fit i most 0) all ∙ fit_join i most (64 * b) rest in
+      is ∙ sym (joined ∙ ap (λ (x : Bool). x && loads_fit i most (64 * b) rest) before)
+
+-- What the loop over the blocks rests on besides.
+pub ruleset blocks_compared = (mul-le-mul)

@@ -36,10 +36,18 @@ pub record PlaceNear (h : Header) (t : ℕ) : Type 0 where
   pub top_bound : h.top_step < 256
   pub slot_bound : t < 65536
 
+-- The card has the entry F(k).
+pub record EntryThere (h : Header) (k : ℕ) : Type 0 where
+  pub in_table : k ≤ h.top_step
+
 -- The value is the table's entry F(k), which is below 2 to the 32 on any card.
 pub record TableEntry (s : List ℕ) (k value : ℕ) : Type 0 where
   pub is : value ≡ (instance_of s).table k
   pub bound : value < 256 ^ 4
+
+-- The card has the load of slot t.
+pub record LoadThere (h : Header) (t : ℕ) : Type 0 where
+  pub in_show : t < h.slots
 
 -- The value is the load of slot t, which is below 2 to the 16 on any card.
 pub record SlotLoad (s : List ℕ) (t value : ℕ) : Type 0 where

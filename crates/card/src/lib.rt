@@ -9,8 +9,8 @@ ghost use Rattle.model.specs.MoreLight.{active_step};
 ghost use Rattle.model.specs.Specs.{front_tests, size_tests, body_tests};
 ghost use Rattle.model.specs.Calls.{check_card, answer, Accepted};
 ghost use Rattle.laws.specs.LeastSteps.{lowest_step as lowest_of};
-ghost use Rattle.card.specs.Fields.{Within, ReadAt, HeaderOf, Sized, PlaceNear, TableEntry, SlotLoad};
-ghost use Rattle.card.specs.Checking.{rack_fits, first_among};
+ghost use Rattle.card.specs.Fields.{Within, ReadAt, HeaderOf, Sized, PlaceNear, EntryThere, TableEntry, LoadThere, SlotLoad};
+ghost use Rattle.card.specs.Checking.{rack_fits, loads_fit, first_among};
 
 use model::{Answer, Refusal};
 
@@ -174,7 +174,7 @@ fn check_size(bytes: &[u8], h: Header) -> Answer
 impl WholeCard<'_> {
     // The table's entry F(k).
     pub fn entry(&self, k: u64) -> u64
-        requires { k ≤ self.now.header.top_step }
+        requires { EntryThere self.now.header k }
         ensures { TableEntry self.now.bytes.now k result }
     {
         let place = Cursor {
@@ -185,7 +185,7 @@ impl WholeCard<'_> {
 
     // The load of slot t.
     pub fn load(&self, t: u64) -> u64
-        requires { t < self.now.header.slots }
+        requires { LoadThere self.now.header t }
         ensures { SlotLoad self.now.bytes.now t result }
     {
         let place = Cursor {
@@ -243,18 +243,33 @@ impl WholeCard<'_> {
         top_step
     }
 
-    #[tactic(auto, using(crate::proofs::CardTests::loads_tested), unfolding(model::specs::Instance::loads_in_range))]
+    // The loads of some slots, from the first on, are at most a bound. Each is compared, also behind one that is too large, so that several are
+    // compared at once.
+    #[tactic(auto, using(crate::proofs::CardTests::loads_compared))]
+    fn loads_fit(&self, most: u64, first: u64, count: u64) -> bool
+        requires { first + count ≤ self.now.header.slots }
+        ensures { result ≡ loads_fit (instance_of self.now.bytes.now) most first count }
+    {
+        let mut fit = true;
+        for k in 0..count {
+            fit &= self.load(first + k) <= most;
+        }
+        fit
+    }
+
+    // The loads are compared block by block, up to the first block with a load that is too large.
+    #[tactic(auto, using(crate::proofs::CardTests::blocks_compared))]
     fn loads_in_range(&self) -> bool
         ensures { result ≡ loads_in_range (instance_of self.now.bytes.now) }
     {
         let most = self.header.modules * self.header.top_step;
-        let slots = self.header.slots;
-        for t in 0..slots {
-            if most < self.load(t) {
+        let blocks = self.header.slots / 64;
+        for block in 0..blocks {
+            if !self.loads_fit(most, 64 * block, 64) {
                 return false;
             }
         }
-        true
+        self.loads_fit(most, 64 * blocks, self.header.slots % 64)
     }
 
     // Refusals 6 to 8.
@@ -312,7 +327,7 @@ impl<'a> Card<'a> {
 
     // The table's entry F(k).
     pub fn entry(&self, k: u64) -> u64
-        requires { k ≤ self.now.header.top_step }
+        requires { EntryThere self.now.header k }
         ensures { TableEntry self.now.bytes.now k result }
     {
         self.whole().entry(k)
@@ -320,7 +335,7 @@ impl<'a> Card<'a> {
 
     // The load of slot t.
     pub fn load(&self, t: u64) -> u64
-        requires { t < self.now.header.slots }
+        requires { LoadThere self.now.header t }
         ensures { SlotLoad self.now.bytes.now t result }
     {
         self.whole().load(t)

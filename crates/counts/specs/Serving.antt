@@ -1,5 +1,5 @@
 -- What serving a load with a count asks for.
-use Rattle.std.specs.Prelude.{ℕ, ◌*◌, ◌≤◌, List}
+use Rattle.std.specs.Prelude.{ℕ, ◌*◌, ◌≤◌}
 use Rattle.card.specs.declared.Card.{Card}
 use Rattle.card.specs.Shows.{show_of}
 

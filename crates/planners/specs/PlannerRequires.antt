@@ -2,6 +2,7 @@
 use Rattle.std.specs.Prelude.{ℕ, ◌≤◌, Bool, ◌||◌, List, length, ltb}
 use Rattle.model.specs.Instance.{Instance}
 use Rattle.model.specs.Planners.{Planner, work_bytes}
+use Rattle.model.specs.Promises.{KeepsRules}
 use Rattle.thresholds.specs.Places.{Ascending}
 use Rattle.card.specs.declared.Card.{Card}
 use Rattle.card.specs.Shows.{show_of}
@@ -15,7 +16,21 @@ pub record Buffers (card : Card) (asked : ℕ) (plan work : List ℕ) : Type 0 w
 abbrev pub BuffersFor : Planner → Card → (plan work : List ℕ) → Type 0
 BuffersFor k card = Buffers card (work_bytes k (show_of card))
 
--- The same, with a list of allowed counts, and at least a work byte for each slot asked for.
+-- The planner's list of counts and its ratio, if it has them, keep the rules on the card.
+pub record RulesKept (k : Planner) (card : Card) : Type 0 where
+  pub keeps : KeepsRules k (show_of card)
+
+-- The two buffers, for a planner whose list keeps the rules.
+pub record PlannerReady (k : Planner) (card : Card) (plan work : List ℕ) : Type 0 where
+  pub keeps : KeepsRules k (show_of card)
+  pub buffers : BuffersFor k card plan work
+
+-- Room for the counts of the largest rack, for a planner whose list keeps the rules.
+pub record CountsRoom (k : Planner) (card : Card) (counts : List ℕ) : Type 0 where
+  pub keeps : KeepsRules k (show_of card)
+  pub room : 201 ≤ length counts
+
+-- The two buffers, with a list of allowed counts, and at least a work byte for each slot asked for.
 pub record CountsReady (card : Card) (counts : List ℕ) (asked : ℕ) (plan work : List ℕ) : Type 0 where
   pub buffers : Buffers card asked plan work
   pub allowed : Ascending counts (show_of card).modules

@@ -2,15 +2,14 @@
 // input. What the planners differ in stands in a trait, with the exact and the coarse one here and one over a list of counts in count_lists.
 #![tactic(auto)]
 
-ghost use Rattle.std.specs.Prelude.{◌≡◌, ◌≤◌, Ok, length, replicate};
+ghost use Rattle.std.specs.Prelude.{◌≡◌, Ok, length, replicate};
 ghost use Rattle.basics.specs.Lists.{written_over};
 ghost use Rattle.model.specs.Plans.{least_plan, least_cost};
 ghost use Rattle.model.specs.Planners.{Planner, exact, coarse, allowed_counts, work_bytes, planned_by, planned_cost};
 ghost use Rattle.model.specs.Specs.{first_of, list_tests};
 ghost use Rattle.model.specs.Calls.{plan_show, answer, plan_at_exit, work_at_exit};
-ghost use Rattle.model.specs.Promises.{KeepsRules};
 ghost use Rattle.card.specs.Shows.{show_of};
-ghost use Rattle.planners.specs.PlannerRequires.{BuffersFor, CountsReady, either_short, short_for};
+ghost use Rattle.planners.specs.PlannerRequires.{RulesKept, PlannerReady, CountsRoom, CountsReady, either_short, short_for};
 
 use card::Card;
 use model::{Answer, Refusal};
@@ -27,14 +26,13 @@ pub trait PlannerKind {
 
     // Its allowed counts for the card's rack. Returns how many they are.
     fn fill_counts(&self, card: &Card, counts: &mut [u64]) -> usize
-        requires keeps { KeepsRules (planner self.now) (show_of card.now) }
-        requires room { 201 ≤ length counts.old }
+        requires { CountsRoom (planner self.now) card.now counts.old }
         ensures value { result ≡ length (allowed_counts (planner self.now) (show_of card.now).modules) }
         ensures counts_after { counts.new ≡ written_over (allowed_counts (planner self.now) (show_of card.now).modules) counts.old };
 
     // The work bytes that it asks for.
     fn work_bytes(&self, card: &Card) -> usize
-        requires { KeepsRules (planner self.now) (show_of card.now) }
+        requires { RulesKept (planner self.now) card.now }
         ensures { result ≡ work_bytes (planner self.now) (show_of card.now) };
 }
 
@@ -96,8 +94,7 @@ pub fn plan_over(card: &Card, counts: &[u64], asked: usize, plan: &mut [u8], wor
 // planner asks for are cleared. C lends the two areas apart, and one struct of two `&mut` would put two clauses more on each function. The counts
 // stand in fixed memory, and are sliced where they are handed on.
 pub fn plan_by<P: PlannerKind>(kind: &P, card: &Card, plan: &mut [u8], work: &mut [u8]) -> u64
-    requires keeps { KeepsRules (P.planner kind.now) (show_of card.now) }
-    requires buffers { BuffersFor (P.planner kind.now) card.now plan.old work.old }
+    requires { PlannerReady (P.planner kind.now) card.now plan.old work.old }
     ensures value { result ≡ planned_cost (P.planner kind.now) (show_of card.now) }
     ensures plan_after { plan.new ≡ written_over (planned_by (P.planner kind.now) (show_of card.now)) plan.old }
     ensures work_after { work.new ≡ written_over (replicate (work_bytes (P.planner kind.now) (show_of card.now)) 0) work.old }
@@ -117,7 +114,7 @@ pub fn either_short(card: &Card, asked: usize, plan: usize, work: usize) -> bool
 
 // Whether one of two buffers of these lengths is too short for a planner.
 pub fn short_for<P: PlannerKind>(kind: &P, card: &Card, plan: usize, work: usize) -> bool
-    requires { KeepsRules (P.planner kind.now) (show_of card.now) }
+    requires { RulesKept (P.planner kind.now) card.now }
     ensures { result ≡ short_for (P.planner kind.now) (show_of card.now) plan work }
 {
     either_short(card, kind.work_bytes(card), plan, work)

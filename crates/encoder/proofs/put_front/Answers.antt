@@ -4,9 +4,9 @@ use Rattle.buffers.specs.Writers.{wrote_more}
 use Rattle.encoder.proofs.put_front.Goals as goal
 
 -- There is room for the version, whatever it is.
-pub put_number-requires-clause-room : goal.put_number-requires-clause-room
+pub put_number-requires : goal.put_number-requires
 unfolding bytes_of
-put_number-requires-clause-room c = search rules
+put_number-requires c = search rules
 
 pub returns : goal.returns
 unfolding bytes_of

@@ -11,7 +11,7 @@ returns-in_err-check_list g c =
     rw (p.1, p.2, is) (record { value = value; plan_after = plan_after; work_after = work_after })
 
 pub short_for-requires : goal.short_for-requires
-short_for-requires g c = list_kept _ _ (sym c.check_list.ensures ∙ c.in_ok-check_list.was)
+short_for-requires g c = record { keeps = list_kept _ _ (sym c.check_list.ensures ∙ c.in_ok-check_list.was) }
 
 pub returns-then-short_for : goal.returns-then-short_for
 returns-then-short_for g c =

@@ -10,7 +10,7 @@ loop-t-init c = forward_starts c.requires c.level_price-lead.ensures
 pub load-requires : goal.load-requires
 load-requires c =
     let p = c.requires in
-    in_show c.args.allowed.now.card.now (omega arith)
+    record { in_show = in_show c.args.allowed.now.card.now (omega arith) }
 
 pub judge-verdict-requires : goal.judge-verdict-requires
 judge-verdict-requires c =

@@ -36,7 +36,7 @@ slot_light-light-requires c =
 
 pub load-requires : goal.load-requires
 load-requires c =
-    let step = c.in-Some.ensures.steps in (row_cut c.requires c.loop-t.invariant.0 step.0.0 step.0.1 step.1).below
+    let step = c.in-Some.ensures.steps in record { in_show = (row_cut c.requires c.loop-t.invariant.0 step.0.0 step.0.1 step.1).below }
 
 pub returns-then-light-load : goal.returns-then-light-load
 unfolding sheet_light
