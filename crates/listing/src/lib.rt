@@ -46,7 +46,7 @@ fn put_count(writer: &mut Writer, count: u8)
 }
 
 // Writes a blank and a module's step, or `-` for off: two bytes one by one, since `put_bytes` first tests whether two parts overlap.
-#[tactic(auto, unfolding(model::specs::Listing::step_text))]
+#[tactic(auto, using(crate::proofs::StepTexts::step_written), unfolding(model::specs::Listing::step_text))]
 fn put_step(writer: &mut Writer, step: u8)
     requires { Fits (module_text step) writer.old }
     ensures { Wrote (module_text step) writer.old writer.new }
