@@ -1,10 +1,11 @@
 -- What the tests of a card look at, and the refusal that each way through the checks gives.
-use Rattle.std.specs.Prelude.{ℕ, zero, suc, ◌+◌, ◌*◌, ◌≤◌, ◌<◌, ◌≡◌, refl, Bool, true, false, ◌&&◌, List, length, leb}
+use Rattle.std.specs.Prelude.{ℕ, zero, suc, ◌+◌, ◌*◌, ◌⊎◌, ◌≤◌, ◌<◌, ◌≡◌, refl, Bool, true, false, ◌&&◌, List, length, leb}
 use Rattle.basics.specs.Core.{sym, ap, ◌∙◌, inl, inr, ⊎_elim, lt-ltb, le-ltb, ltb-false, le-leb, lt-leb}
 use Rattle.basics.specs.Core.{eq-eqb, ne_eqb, eqb-true, not-false, mul-le-mul, add-one, add-suc, add-zero, zero-add, and-true, arith}
 use Rattle.std.proofs.Math.Bool.{and_assoc}
 use Rattle.basics.specs.Lists.{same_list}
-use Rattle.basics.specs.Tests.{every, every_fails, every_not, every_same, or_left}
+use Rattle.basics.specs.Numbers.{le_or_lt}
+use Rattle.basics.specs.Tests.{every, every_fails, every_not, every_same, or_left, passed_more, passed_all}
 use Rattle.model.specs.declared.Refusal.TheVariants.{NotACard, Version, RackSize, SlotCount, CardLength, PriceRange, NotConvex, LoadRange}
 use Rattle.model.specs.Answers.{Answer}
 use Rattle.std.specs.Prelude.{Ok, Err}
@@ -126,6 +127,18 @@ fit_join i most a (suc b) =
 
 -- What the loop over some loads rests on.
 pub ruleset loads_compared = (none_compared, one_compared)
+
+-- A load of the show keeps its bound, or the loads do not.
+pub load_kept : (i : Instance) (t : ℕ) → t < i.slots → (i.load t ≤ i.modules * i.top_step) ⊎ (false ≡ loads_in_range i)
+unfolding loads_in_range
+load_kept i t there =
+    ⊎_elim
+    (λ (kept : i.load t ≤ i.modules * i.top_step). inl kept)
+    (λ (past : i.modules * i.top_step < i.load t). inr (sym (every_fails i.slots _ t there (lt-leb _ _ past))))
+    (le_or_lt (i.load t) (i.modules * i.top_step))
+
+-- What a loop over all loads rests on.
+pub ruleset loads_tested = (passed_more, passed_all, load_kept, mul-le-mul)
 
 -- The loads of a show by blocks: the bound is the show's, and all loads before a block keep it.
 module _ (i : Instance) {most : ℕ} (bound : most ≡ i.modules * i.top_step) where
