@@ -132,10 +132,7 @@ pub ruleset loads_compared = (none_compared, one_compared)
 pub load_kept : (i : Instance) (t : ℕ) → t < i.slots → (i.load t ≤ i.modules * i.top_step) ⊎ (false ≡ loads_in_range i)
 unfolding loads_in_range
 load_kept i t there =
-    ⊎_elim
-    (λ (kept : i.load t ≤ i.modules * i.top_step). inl kept)
-    (λ (past : i.modules * i.top_step < i.load t). inr (sym (every_fails i.slots _ t there (lt-leb _ _ past))))
-    (le_or_lt (i.load t) (i.modules * i.top_step))
+    ⊎_elim inl (λ past. inr (sym (every_fails i.slots _ t there (lt-leb _ _ past)))) (le_or_lt (i.load t) (i.modules * i.top_step))
 
 -- What a loop over all loads rests on.
 pub ruleset loads_tested = (passed_more, passed_all, load_kept, mul-le-mul)
